@@ -1,0 +1,1 @@
+// The grammar file, version 1.
