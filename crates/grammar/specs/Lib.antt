@@ -1,3 +1,4 @@
--- What the buyer must believe of grammars: rules, and the sentences that they give.
+-- What the buyer must believe of grammars: rules, the sentences that they give, and which grammars are accepted.
 pub mod Rules
 pub mod Sentences
+pub mod Accepted
