@@ -1,3 +1,4 @@
 -- Laws that several crates cite.
+pub mod Lists
 pub mod Records
 pub mod Tests
