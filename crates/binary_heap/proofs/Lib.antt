@@ -3,4 +3,6 @@ pub mod Move
 pub mod Sifts
 pub mod Sifting
 pub mod Alike
+pub mod Hole
 pub mod Words
+pub mod Laws

@@ -1,4 +1,5 @@
 -- Laws that several crates cite.
+pub mod Counts
 pub mod Lists
 pub mod Records
 pub mod Tests
