@@ -1,8 +1,11 @@
--- Laws on the queue.
-pub mod Move
-pub mod Sifts
-pub mod Sifting
-pub mod Alike
-pub mod Hole
+-- Laws on the queue: those of push and pop, then what they rest on.
+pub mod PushLaws
+pub mod PopLaws
+pub mod Top
 pub mod Words
-pub mod Laws
+pub mod Entries
+pub mod Hole
+pub mod Alike
+pub mod Sifting
+pub mod Sifts
+pub mod Move

@@ -1,11 +1,13 @@
 -- Permutations by counts.
-use mathlib.Core.Path.{_≡_, refl, sym, ap, ap₂, _∙_, subst}
+use mathlib.Core.Path.{_≡_, refl, sym, ap, _∙_, subst}
 use mathlib.Core.Bool.{Bool, true, false}
 use mathlib.Core.List.{List, [], _∷_, _++_}
 use Prim.Native.Nat.{ℕ, zero, suc, _+_, _≤_, _<_, zero-le, suc-le-suc}
+use native.Mathlib.Decide.{decLt}
 use native.Mathlib.Nat.{le-of-suc-le-suc, not-suc-le-zero}
 use native.Mathlib.Omega.{arith}
-use lib.ListN.{length, getD, set, length-set}
+use lib.ListN.{length, getD, take, set, length-append, length-set, length-take, List·getD-append}
+use lib.Seq.{getD-append-seam, getD-take}
 use lib.Dec.{eqb}
 use borrow.Author.Tests.{eq-eqb, eqb-true}
 use Rattle.laws.specs.Counts.{once, count, SameElements}
@@ -54,8 +56,8 @@ module _ {A : Type 0} where
       let further : 0 < count test l → Passes test l d = found test l d in
       either-way (test a) (λ e. record { place = 0; within = suc-le-suc zero-le; passes = e })
       (λ e.
-        let r = further (omega (arith, ap once e)) in
-        record { place = suc (r .place); within = suc-le-suc (r .within); passes = r .passes })
+      let r = further (omega (arith, ap once e)) in
+      record { place = suc (r .place); within = suc-le-suc (r .within); passes = r .passes })
 
   pub same-refl : (l : List A) → SameElements l l
   same-refl l = record { counts = λ test. refl }
@@ -75,14 +77,15 @@ module _ {A : Type 0} where
       → SameElements (set (set l pos (getD l next d)) next a) (set l pos a)
   step-same l pos next a d hp hn = record {
     counts = λ test.
-      let stepped : List A = set l pos (getD l next d) in
-      let there : getD stepped next d ≡ getD l next d = set-either (λ v. v ≡ getD l next d) l pos (getD l next d) next d refl refl in
-      omega
-      (arith,
-        count-set test l pos a d hp,
-        count-set test l pos (getD l next d) d hp,
-        count-set test stepped next a d (subst (λ (n : ℕ). next < n) (sym (length-set l pos (getD l next d))) hn),
-        ap (λ (v : A). once (test v)) there);
+        let stepped : List A = set l pos (getD l next d) in
+        let there : getD stepped next d ≡ getD l next d = set-either (λ v. v ≡ getD l next d) l pos (getD l next d) next d refl refl in
+        omega (
+          arith,
+          count-set test l pos a d hp,
+          count-set test l pos (getD l next d) d hp,
+          count-set test stepped next a d (subst (λ (n : ℕ). next < n) (sym (length-set l pos (getD l next d))) hn),
+          ap (λ (v : A). once (test v)) there,
+        );
   }
 
 -- No test passes more elements of `l` than of `m`: each element of `l` is one of `m`.
@@ -97,11 +100,35 @@ pub record Every (P : ℕ → Type 0) (l : List ℕ) : Type 0 where
 pub among-every : (P : ℕ → Type 0) (l m : List ℕ) → Among l m → Every P m → Every P l
 among-every P l m a e = record {
   each = λ k h.
-    let there : Passes (eqb (getD l k 0)) m 0 =
-        found (eqb (getD l k 0)) m 0
-        (omega (arith, counted (eqb (getD l k 0)) l k 0 h (eq-eqb (getD l k 0) (getD l k 0) refl), a .counts (eqb (getD l k 0)))) in
-    subst P (sym (eqb-true (getD l k 0) (getD m (there .place) 0) (there .passes))) (e .each (there .place) (there .within));
+      let there : Passes (eqb (getD l k 0)) m 0 =
+      found (eqb (getD l k 0)) m 0
+      (omega (arith, counted (eqb (getD l k 0)) l k 0 h (eq-eqb (getD l k 0) (getD l k 0) refl), a .counts (eqb (getD l k 0)))) in
+      subst P (sym (eqb-true (getD l k 0) (getD m (there .place) 0) (there .passes))) (e .each (there .place) (there .within));
 }
 
 pub same-among : {A : Type 0} (l m : List A) → SameElements l m → Among l m
 same-among l m s = record { counts = λ test. omega (arith, s .counts test) }
+
+-- Each element of a list has what each had, and the one behind them.
+pub every-more : (P : ℕ → Type 0) (l : List ℕ) (a : ℕ) → Every P l → P a → Every P (l ++ (a ∷ []))
+every-more P l a e new = record {
+  each = λ k h.
+      elim (decLt k (length l)) [
+        | yes b ↦ subst P (sym (List·getD-append l (a ∷ []) 0 k b)) (e .each k b)
+        | no b ↦
+            (let is : length l ≡ k = omega (arith, length-append l (a ∷ [])) in
+            subst (λ (i : ℕ). P (getD (l ++ (a ∷ [])) i 0)) is (subst P (sym (getD-append-seam l a [] 0)) new))
+      ];
+}
+
+-- Each element of the front of a list has what each has.
+pub every-take : (P : ℕ → Type 0) (n : ℕ) (l : List ℕ) → Every P l → Every P (take n l)
+every-take P n l e = record {
+  each = λ k h.
+      let short : (k < n) × (k < length l) = omega (arith, length-take n l) in
+      subst P (sym (getD-take n l k 0 (short .0))) (e .each k (short .1));
+}
+
+-- A store of what has it keeps it.
+pub every-set : (P : ℕ → Type 0) (l : List ℕ) (i a : ℕ) → Every P l → P a → Every P (set l i a)
+every-set P l i a e new = record { each = λ k h. set-either P l i a k 0 new (e .each k (omega (arith, length-set l i a))) }
