@@ -1,0 +1,3 @@
+-- Laws on items.
+pub mod Order
+pub mod Words

@@ -1,0 +1,31 @@
+-- The order of items by origin, then rule, is the order of one number, and so is total.
+use mathlib.Core.Path.{_≡_, _∙_, sym, ap}
+use Prim.Native.Nat.{ℕ, _+_, _*_, _≤_, _<_}
+use native.Mathlib.Omega.{arith}
+use lib.Dec.{ltb}
+use Rattle.laws.proofs.Tests.{same-test}
+use Rattle.item.specs.Item.{Item, keyOf}
+
+-- An item whose words are u32 words.
+pub record Words (i : Item) : Type 0 where
+  pub origin-fits : i .origin < 4294967296
+  pub rule-fits : i .rule < 4294967296
+
+-- Of two items of one origin the greater has the greater rule.
+pub by-rule : (i j : Item) → i .origin ≡ j .origin → ltb (i .rule) (j .rule) ≡ ltb (keyOf i) (keyOf j)
+by-rule i j same = same-test (i .rule) (j .rule) (keyOf i) (keyOf j) (λ h. omega arith) (λ h. omega arith)
+
+-- Of two items of different origins the greater has the greater origin.
+pub by-origin : (i j : Item) → i .rule < 4294967296 → j .rule < 4294967296 → (i .origin ≡ j .origin → ⊥)
+    → ltb (i .origin) (j .origin) ≡ ltb (keyOf i) (keyOf j)
+by-origin i j fi fj differ = same-test (i .origin) (j .origin) (keyOf i) (keyOf j) (λ h. omega arith) (λ h. omega arith)
+
+-- Items of u32 words with one key are one item.
+pub same-key : (i j : Item) → Words i → Words j → keyOf i ≡ keyOf j → i ≡ j
+same-key i j wi wj e = λ k. record { origin = origins k; rule = rules k }
+  where
+    origins : i .origin ≡ j .origin
+    origins = omega arith
+
+    rules : i .rule ≡ j .rule
+    rules = omega arith

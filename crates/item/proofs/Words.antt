@@ -1,0 +1,79 @@
+-- Items in words: what is read where items were stored.
+use mathlib.Core.Path.{_≡_, refl, sym, ap, _∙_}
+use mathlib.Core.List.{List, [], _∷_, _++_}
+use Prim.Native.Nat.{ℕ, suc, _+_, _*_, _≤_, _<_}
+use native.Mathlib.Nat.{add-zero}
+use native.Mathlib.Numerals.{add-one}
+use native.Mathlib.Omega.{arith}
+use lib.ListN.{length, getD, set, length-set}
+use lib.Seq.{length-sets, getD-set-same, getD-set-other}
+use Rattle.laws.proofs.Records as records
+use Rattle.item.specs.Item.{Item, wordsOf, itemWords, flat, itemAt, originAt, ruleAt, stored, keyOf, keyAt, HasPlace}
+
+-- Two words an item.
+pub flat-length : (its : List Item) → length (flat its) ≡ itemWords * length its
+flat-length its = records.flat-length wordsOf itemWords (λ i. refl) its
+
+pub flat-append : (its jts : List Item) → flat (its ++ jts) ≡ flat its ++ flat jts
+flat-append its jts = records.flat-append wordsOf itemWords (λ i. refl) its jts
+
+-- The item at a place of the words is the one at that place of the list.
+pub item-of-flat : (its : List Item) (rest : List ℕ) (p : ℕ) (d : Item) → p < length its → itemAt (flat its ++ rest) p ≡ getD its p d
+item-of-flat its rest p d h = λ k. record { origin = origins k; rule = rules k }
+  where
+    origins : originAt (flat its ++ rest) p ≡ getD its p d .origin
+    origins =
+        ap (λ (n : ℕ). getD (flat its ++ rest) n 0) (sym (add-zero (itemWords * p)))
+        ∙ records.flat-at wordsOf itemWords (λ i. refl) its rest p 0 d h (omega arith)
+
+    rules : ruleAt (flat its ++ rest) p ≡ getD its p d .rule
+    rules = records.flat-at wordsOf itemWords (λ i. refl) its rest p 1 d h (omega arith)
+
+-- An item stored behind the others is one item more.
+pub stored-behind : (its : List Item) (i : Item) (a b : ℕ) (rest : List ℕ)
+    → stored (flat its ++ (a ∷ b ∷ rest)) (length its) i ≡ flat (its ++ (i ∷ [])) ++ rest
+stored-behind its i a b rest = records.flat-stored wordsOf itemWords (λ i. refl) its i (a ∷ b ∷ []) rest refl
+
+-- A store leaves the number of words.
+pub stored-length : (words : List ℕ) (p : ℕ) (i : Item) → length (stored words p i) ≡ length words
+stored-length words p i = length-sets words (itemWords * p) (wordsOf i)
+
+-- A store leaves every word that is not the item's.
+pub stored-other : (words : List ℕ) (p : ℕ) (i : Item) (k : ℕ) → (k ≡ itemWords * p → ⊥) → (k ≡ itemWords * p + 1 → ⊥)
+    → getD (stored words p i) k 0 ≡ getD words k 0
+stored-other words p i k first second =
+    getD-set-other (set words (itemWords * p) (i .origin)) (suc (itemWords * p)) k (i .rule) 0 (λ e. second (e ∙ sym (add-one (itemWords * p))))
+    ∙ getD-set-other words (itemWords * p) k (i .origin) 0 first
+
+-- A store leaves the items at other places, and so their keys.
+pub stored-item-other : (words : List ℕ) (p : ℕ) (i : Item) (q : ℕ) → (q ≡ p → ⊥) → itemAt (stored words p i) q ≡ itemAt words q
+stored-item-other words p i q differ = λ k. record { origin = origins k; rule = rules k }
+  where
+    origins : originAt (stored words p i) q ≡ originAt words q
+    origins = stored-other words p i (itemWords * q) (λ e. differ (omega arith)) (λ e. omega arith)
+
+    rules : ruleAt (stored words p i) q ≡ ruleAt words q
+    rules = stored-other words p i (itemWords * q + 1) (λ e. omega arith) (λ e. differ (omega arith))
+
+-- Keys of places below n do not change when an item is stored at n or behind it.
+pub stored-key-below : (words : List ℕ) (n p : ℕ) (i : Item) (q : ℕ) → n ≤ p → q < n → keyAt (stored words p i) q ≡ keyAt words q
+stored-key-below words n p i q hp hq = ap keyOf (stored-item-other words p i q (λ e. omega arith))
+
+-- The item that was stored is the item there.
+pub stored-item : (words : List ℕ) (p : ℕ) (i : Item) → HasPlace words p → itemAt (stored words p i) p ≡ i
+stored-item words p i h = λ k. record { origin = origins k; rule = rules k }
+  where
+    origins : originAt (stored words p i) p ≡ i .origin
+    origins =
+        getD-set-other (set words (itemWords * p) (i .origin)) (suc (itemWords * p)) (itemWords * p) (i .rule) 0 (λ e. omega arith)
+        ∙ getD-set-same words (itemWords * p) (i .origin) 0 (omega arith)
+
+    rules : ruleAt (stored words p i) p ≡ i .rule
+    rules =
+        ap (λ (n : ℕ). getD (stored words p i) n 0) (add-one (itemWords * p))
+        ∙ getD-set-same (set words (itemWords * p) (i .origin)) (suc (itemWords * p)) (i .rule) 0
+        (omega (arith, length-set words (itemWords * p) (i .origin)))
+
+-- A place that the words have they have after a store too.
+pub stored-place : (words : List ℕ) (p : ℕ) (i : Item) (q : ℕ) → HasPlace words q → HasPlace (stored words p i) q
+stored-place words p i q h = omega (arith, stored-length words p i)

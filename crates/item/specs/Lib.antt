@@ -1,0 +1,2 @@
+-- What the buyer must believe of items.
+pub mod Item

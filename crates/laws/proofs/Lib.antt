@@ -1,0 +1,3 @@
+-- Laws that several crates cite.
+pub mod Records
+pub mod Tests

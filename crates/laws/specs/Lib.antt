@@ -1,0 +1,2 @@
+-- Definitions that contracts of several crates cite.
+pub mod Records
