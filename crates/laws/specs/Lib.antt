@@ -1,0 +1,2 @@
+-- What contracts of more than one crate speak of.
+pub mod Bits
