@@ -1,3 +1,5 @@
 -- Laws that several crates cite.
+pub mod Bits
+pub mod Filled
 pub mod Records
 pub mod Tests

@@ -1,2 +1,3 @@
 -- Definitions that contracts of several crates cite.
+pub mod Bits
 pub mod Records
