@@ -3,3 +3,4 @@ pub mod Bits
 pub mod Filled
 pub mod Records
 pub mod Tests
+pub mod Turns

@@ -1,3 +1,4 @@
 -- Definitions that contracts of several crates cite.
 pub mod Bits
 pub mod Records
+pub mod Turns
