@@ -1,6 +1,8 @@
 -- The order of items by origin, then rule, is the order of one number, and so is total.
-use mathlib.Core.Path.{_≡_, _∙_, sym, ap}
+use mathlib.Core.Path.{_≡_, sym}
 use Prim.Native.Nat.{ℕ, _+_, _*_, _≤_, _<_}
+use mathlib.Core.Logic.{_⊎_, inl, inr}
+use native.Mathlib.Decide.{decLt}
 use native.Mathlib.Omega.{arith}
 use lib.Dec.{ltb}
 use Rattle.laws.proofs.Tests.{same-test}
@@ -29,3 +31,30 @@ same-key i j wi wj e = λ k. record { origin = origins k; rule = rules k }
 
     rules : i .rule ≡ j .rule
     rules = omega arith
+
+-- The order by origin, then rule.
+pub data Less (i j : Item) : Type 0 where
+  lower-origin : i .origin < j .origin → Less i j
+  same-origin : i .origin ≡ j .origin → i .rule < j .rule → Less i j
+
+-- It is the order of keys.
+pub less-key : (i j : Item) → Words i → Words j → Less i j → keyOf i < keyOf j
+less-key i j wi wj (lower-origin h) = omega arith
+less-key i j wi wj (same-origin e h) = omega arith
+
+pub key-less : (i j : Item) → Words i → Words j → keyOf i < keyOf j → Less i j
+key-less i j wi wj h =
+    elim (decLt (i .origin) (j .origin)) [ yes l ↦ lower-origin l | no l ↦ same-origin (omega arith) (omega arith) ]
+
+-- The order is total: of two different items one is less.
+pub total : (i j : Item) → Words i → Words j → (i ≡ j → ⊥) → Less i j ⊎ Less j i
+total i j wi wj differ =
+    let other : keyOf i ≡ keyOf j → ⊥ = λ e. differ (same-key i j wi wj e) in
+    elim (decLt (keyOf i) (keyOf j)) [
+      | yes l ↦ inl (key-less i j wi wj l)
+      | no l ↦ inr (key-less j i wj wi (omega arith))
+    ]
+
+-- A key that is not greater has an origin that is not greater.
+pub key-origin : (i j : Item) → Words i → Words j → keyOf i ≤ keyOf j → i .origin ≤ j .origin
+key-origin i j wi wj h = omega arith

@@ -1,6 +1,7 @@
 -- Laws that several crates cite.
 pub mod Bits
 pub mod Filled
+pub mod Lists
 pub mod Records
 pub mod Tests
 pub mod Turns

@@ -1,0 +1,14 @@
+-- Laws on lists that the kit lacks.
+use mathlib.Core.Path.{_≡_, refl, sym, ap, _∙_, subst}
+use mathlib.Core.List.{List, [], _∷_, _++_}
+use Prim.Native.Nat.{ℕ, zero, suc, _≤_, _<_}
+use lib.ListN.{length, getD, set}
+
+module _ {A : Type 0} where
+  -- After a store each place has what was stored or what it had.
+  pub set-either : (P : A → Type 0) (l : List A) (i : ℕ) (a : A) (k : ℕ) (d : A) → P a → P (getD l k d) → P (getD (set l i a) k d)
+  set-either P [] i a k d new old = old
+  set-either P (x ∷ l) zero a zero d new old = new
+  set-either P (x ∷ l) zero a (suc k) d new old = old
+  set-either P (x ∷ l) (suc i) a zero d new old = old
+  set-either P (x ∷ l) (suc i) a (suc k) d new old = set-either P l i a k d new old
