@@ -1,4 +1,6 @@
--- What the buyer must believe of grammars: rules, the sentences that they give, and which grammars are accepted.
+-- What the buyer must believe of grammars: rules, the sentences that they give, which grammars are accepted, and the file.
 pub mod Rules
 pub mod Sentences
 pub mod Accepted
+pub mod File
+pub mod Decoded

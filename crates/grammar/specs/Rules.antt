@@ -25,9 +25,13 @@ pub record Grammar : Type 0 where
 abbrev pub ruleCount : Grammar → ℕ
 ruleCount g = length (g .rules)
 
+-- What stands for a rule where there is none.
+abbrev pub noRule : Rule
+noRule = record { left = 0; first = 0; second = 0 }
+
 -- The rule with a given number.
 abbrev pub ruleAt : Grammar → ℕ → Rule
-ruleAt g r = getD (g .rules) r (record { left = 0; first = 0; second = 0 })
+ruleAt g r = getD (g .rules) r noRule
 
 -- Rule `r` is `a ::= b c`.
 pub record Says (g : Grammar) (r a b c : ℕ) : Type 0 where

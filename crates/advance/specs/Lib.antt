@@ -1,0 +1,3 @@
+-- Steps 4 to 6: the new items become a set.
+pub mod NewItems
+pub mod Advance

@@ -1,0 +1,2 @@
+-- How wide a row is.
+pub mod Width

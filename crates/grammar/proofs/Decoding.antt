@@ -1,0 +1,142 @@
+-- Rules in bytes and in words, rule by rule.
+use mathlib.Core.Path.{_≡_, refl, sym, ap, subst, _∙_}
+use mathlib.Core.List.{List}
+use Prim.Native.Nat.{ℕ, zero, suc, _+_, _*_, _≤_, _<_}
+use native.Mathlib.Omega.{arith}
+use native.Mathlib.Decide.{ℕ-discrete}
+use lib.ListN.{length, getD, set, replicate, length-set, length-replicate}
+use lib.Seq.{ext-getD, getD-set-same, getD-set-other}
+use Rattle.grammar.specs.Rules.{Rule, ruleCount, ruleAt}
+use Rattle.grammar.specs.Accepted.{maxRules}
+use Rattle.grammar.specs.File.{u16At, headerBytes, ruleBytes, ruleCountOf, symbolsOf, tokensOf, ruleIn, rulesFrom, grammarOf}
+use Rattle.grammar.specs.Decoded.{ruleWords, leftIn, firstIn, secondIn, rulesBehind, rulesIn, grammarIn}
+
+-- What stands for a rule past the last one.
+abbrev noRule : Rule
+noRule = record { left = 0; first = 0; second = 0 }
+
+-- Three numbers as a rule.
+abbrev pub rule : ℕ → ℕ → ℕ → Rule
+rule a b c = record { left = a; first = b; second = c }
+
+rule-eq : {a b c a′ b′ c′ : ℕ} → a ≡ a′ → b ≡ b′ → c ≡ c′ → rule a b c ≡ rule a′ b′ c′
+rule-eq p q r = cc
+
+-- There are as many rules as the count says.
+behind-count : (words : List ℕ) (r count : ℕ) → length (rulesBehind words r count) ≡ count
+unfolding rulesBehind
+behind-count words r zero = refl
+behind-count words r (suc n) = ap suc (behind-count words (r + 1) n)
+
+behind-at : (words : List ℕ) (from count r : ℕ) → r < count → getD (rulesBehind words from count) r noRule ≡ rule (leftIn words (from + r)) (firstIn words (from + r)) (secondIn words (from + r))
+unfolding rulesBehind
+behind-at words from zero r l = absurd (omega arith)
+behind-at words from (suc n) zero l = ap (λ (k : ℕ). rule (leftIn words k) (firstIn words k) (secondIn words k)) (omega arith)
+behind-at words from (suc n) (suc r) l =
+    behind-at words (from + 1) n r (omega arith)
+    ∙ ap (λ (k : ℕ). rule (leftIn words k) (firstIn words k) (secondIn words k)) (omega arith)
+
+from-count : (file : List ℕ) (at count : ℕ) → length (rulesFrom file at count) ≡ count
+unfolding rulesFrom
+from-count file at zero = refl
+from-count file at (suc n) = ap suc (from-count file (at + ruleBytes) n)
+
+from-at : (file : List ℕ) (at count r : ℕ) → r < count → getD (rulesFrom file at count) r noRule ≡ ruleIn file (at + ruleBytes * r)
+unfolding rulesFrom
+from-at file at zero r l = absurd (omega arith)
+from-at file at (suc n) zero l = ap (ruleIn file) (omega arith)
+from-at file at (suc n) (suc r) l = from-at file (at + ruleBytes) n r (omega arith) ∙ ap (ruleIn file) (omega arith)
+
+-- The rules of a grammar in words are those words.
+pub in-count : (words : List ℕ) (n t count : ℕ) → ruleCount (grammarIn words n t count) ≡ count
+in-count words n t count = behind-count words 0 count
+
+pub in-rule : (words : List ℕ) (n t count r : ℕ) → r < count → ruleAt (grammarIn words n t count) r ≡ rule (leftIn words r) (firstIn words r) (secondIn words r)
+in-rule words n t count r l = behind-at words 0 count r l ∙ ap (λ (k : ℕ). rule (leftIn words k) (firstIn words k) (secondIn words k)) (omega arith)
+
+-- The rules of a file stand behind its header.
+pub of-count : (file : List ℕ) → ruleCount (grammarOf file) ≡ ruleCountOf file
+of-count file = from-count file headerBytes (ruleCountOf file)
+
+pub of-rule : (file : List ℕ) (r : ℕ) → r < ruleCountOf file → ruleAt (grammarOf file) r ≡ ruleIn file (headerBytes + ruleBytes * r)
+of-rule file r l = from-at file headerBytes (ruleCountOf file) r l
+
+-- The rule `r` of the words is that of the file.
+pub record SameRule (file words : List ℕ) (r : ℕ) : Type 0 where
+  pub left : leftIn words r ≡ u16At file (headerBytes + ruleBytes * r)
+  pub first : firstIn words r ≡ u16At file (headerBytes + ruleBytes * r + 2)
+  pub second : secondIn words r ≡ u16At file (headerBytes + ruleBytes * r + 4)
+
+-- Words that hold each rule of a file give the file's grammar.
+pub same-grammar : (file words : List ℕ) → ((r : ℕ) → r < ruleCountOf file → SameRule file words r)
+    → grammarIn words (symbolsOf file) (tokensOf file) (ruleCountOf file) ≡ grammarOf file
+same-grammar file words same =
+    ap (λ (l : List Rule). record { symbols = symbolsOf file; tokens = tokensOf file; rules = l })
+    (ext-getD noRule (rulesIn words (ruleCountOf file)) (rulesFrom file headerBytes (ruleCountOf file))
+    (behind-count words 0 (ruleCountOf file) ∙ sym (from-count file headerBytes (ruleCountOf file)))
+    (λ r l. one r (omega (arith, behind-count words 0 (ruleCountOf file)))))
+  where
+    one : (r : ℕ) → r < ruleCountOf file → getD (rulesIn words (ruleCountOf file)) r noRule ≡ getD (rulesFrom file headerBytes (ruleCountOf file)) r noRule
+    one r l =
+        in-rule words (symbolsOf file) (tokensOf file) (ruleCountOf file) r l
+        ∙ rule-eq (same r l .left) (same r l .first) (same r l .second)
+        ∙ sym (of-rule file r l)
+
+-- The first `i` rules of the file stand in the words.
+pub record Decoding (file words : List ℕ) (i : ℕ) : Type 0 where
+  pub few : i ≤ ruleCountOf file
+  pub long : length words ≡ ruleWords * maxRules
+  pub same : (r : ℕ) → r < i → SameRule file words r
+
+-- One more rule, a word after the other.
+module _ (file words : List ℕ) (i a b c : ℕ) where
+  abbrev stored : List ℕ
+  stored = set (set (set words (ruleWords * i) a) (ruleWords * i + 1) b) (ruleWords * i + 2) c
+
+  -- A word of another rule is kept.
+  stored-other : (k : ℕ) → (k ≡ ruleWords * i → ⊥) → (k ≡ ruleWords * i + 1 → ⊥) → (k ≡ ruleWords * i + 2 → ⊥) → getD stored k 0 ≡ getD words k 0
+  stored-other k x y z =
+      getD-set-other (set (set words (ruleWords * i) a) (ruleWords * i + 1) b) (ruleWords * i + 2) k c 0 z
+      ∙ getD-set-other (set words (ruleWords * i) a) (ruleWords * i + 1) k b 0 y
+      ∙ getD-set-other words (ruleWords * i) k a 0 x
+
+  pub more-decoded : Decoding file words i → i < ruleCountOf file → ruleCountOf file ≤ maxRules
+      → a ≡ u16At file (headerBytes + ruleBytes * i) → b ≡ u16At file (headerBytes + ruleBytes * i + 2) → c ≡ u16At file (headerBytes + ruleBytes * i + 4)
+      → Decoding file stored (i + 1)
+  more-decoded h l m ea eb ec = record {
+    few = omega arith;
+    long = long-stored;
+    same = λ r lr. elim (ℕ-discrete r i) [ yes e ↦ subst (λ (q : ℕ). SameRule file stored q) (sym e) new | no n ↦ old r (lower r lr n) ];
+  }
+    where
+      long-stored : length stored ≡ ruleWords * maxRules
+      long-stored = simp length-set (h .long)
+
+      lower : (r : ℕ) → r < i + 1 → (r ≡ i → ⊥) → r < i
+      lower r lr n = omega arith
+
+      old : (r : ℕ) → r < i → SameRule file stored r
+      old r lr = record {
+        left = stored-other (ruleWords * r) (omega arith) (omega arith) (omega arith) ∙ h .same r lr .left;
+        first = stored-other (ruleWords * r + 1) (omega arith) (omega arith) (omega arith) ∙ h .same r lr .first;
+        second = stored-other (ruleWords * r + 2) (omega arith) (omega arith) (omega arith) ∙ h .same r lr .second;
+      }
+
+      new : SameRule file stored i
+      new = record {
+        left = getD-set-other (set (set words (ruleWords * i) a) (ruleWords * i + 1) b) (ruleWords * i + 2) (ruleWords * i) c 0 (omega arith)
+            ∙ getD-set-other (set words (ruleWords * i) a) (ruleWords * i + 1) (ruleWords * i) b 0 (omega arith)
+            ∙ getD-set-same words (ruleWords * i) a 0 (omega (arith, h .long)) ∙ ea;
+        first = getD-set-other (set (set words (ruleWords * i) a) (ruleWords * i + 1) b) (ruleWords * i + 2) (ruleWords * i + 1) c 0 (omega arith)
+            ∙ getD-set-same (set words (ruleWords * i) a) (ruleWords * i + 1) b 0 (simp length-set (omega (arith, h .long))) ∙ eb;
+        second = getD-set-same (set (set words (ruleWords * i) a) (ruleWords * i + 1) b) (ruleWords * i + 2) c 0 (simp length-set (omega (arith, h .long))) ∙ ec;
+      }
+
+-- With all rules decoded the words give the file's grammar.
+pub all-decoded : (file words : List ℕ) (i : ℕ) → Decoding file words i → ruleCountOf file ≤ i
+    → grammarIn words (symbolsOf file) (tokensOf file) (ruleCountOf file) ≡ grammarOf file
+all-decoded file words i h l = same-grammar file words (λ r lr. h .same r (omega arith))
+
+-- Before the first rule all words are 0.
+pub none-decoded : (file : List ℕ) → Decoding file (replicate (ruleWords * maxRules) 0) 0
+none-decoded file = record { few = omega arith; long = length-replicate {A = ℕ} (ruleWords * maxRules) 0; same = λ r l. absurd (omega arith) }

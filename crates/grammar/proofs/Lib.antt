@@ -1,0 +1,2 @@
+-- Laws of grammars.
+pub mod Decoding

@@ -1,0 +1,33 @@
+-- Rules in words: three words a rule, left side, first and second.
+use mathlib.Core.Path.{_≡_}
+use mathlib.Core.List.{List, [], _∷_}
+use Prim.Native.Nat.{ℕ, zero, suc, _+_, _*_}
+use lib.ListN.{getD}
+use Rattle.grammar.specs.Rules.{Rule, Grammar}
+
+-- The words of a rule.
+abbrev pub ruleWords : ℕ
+ruleWords = 3
+
+-- Left side, first and second of rule `r`.
+abbrev pub leftIn : List ℕ → ℕ → ℕ
+leftIn words r = getD words (ruleWords * r) 0
+
+abbrev pub firstIn : List ℕ → ℕ → ℕ
+firstIn words r = getD words (ruleWords * r + 1) 0
+
+abbrev pub secondIn : List ℕ → ℕ → ℕ
+secondIn words r = getD words (ruleWords * r + 2) 0
+
+-- `count` rules, from rule `r` on.
+unfoldable pub rulesBehind : List ℕ → ℕ → ℕ → List Rule
+rulesBehind words r zero = []
+rulesBehind words r (suc count) = record { left = leftIn words r; first = firstIn words r; second = secondIn words r } ∷ rulesBehind words (r + 1) count
+
+-- The first `count` rules.
+abbrev pub rulesIn : List ℕ → ℕ → List Rule
+rulesIn words count = rulesBehind words 0 count
+
+-- The grammar with these numbers of symbols and tokens and the first `count` rules.
+abbrev pub grammarIn : List ℕ → ℕ → ℕ → ℕ → Grammar
+grammarIn words symbols tokens count = record { symbols = symbols; tokens = tokens; rules = rulesIn words count }

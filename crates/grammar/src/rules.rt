@@ -1,0 +1,68 @@
+// Rules decoded into words: left side, first and second of rule r at 3r, 3r + 1 and 3r + 2.
+ghost use mathlib.Core.Path.{_≡_};
+ghost use Prim.Native.Nat.{_+_, _*_, _≤_, _<_};
+ghost use lib.ListN.{length};
+ghost use Rattle.grammar.specs.Accepted.{maxRules};
+ghost use Rattle.grammar.specs.File.{headerBytes, ruleBytes, symbolsOf, tokensOf, ruleCountOf, grammarOf};
+ghost use Rattle.grammar.specs.Decoded.{leftIn, firstIn, secondIn, grammarIn};
+use crate::file::HEADER;
+use crate::file::RULE;
+use crate::file::rule_count;
+use crate::file::u16_at;
+
+// The most rules, and the words that hold them.
+pub const RULES: usize = 512;
+
+pub const WORDS: usize = 1536;
+
+// What stands for the second symbol of a rule that has one symbol.
+pub const NONE: usize = 65535;
+
+// The decoded rules.
+pub type Rules = [u16; WORDS];
+
+fn wide(word: u16) -> usize
+    ensures { λ r. ⌜ (r ≡ word) × (r < 65536) ⌝ }
+{
+    word as usize
+}
+
+// The left side of rule `r`.
+pub fn left(rules: &Rules, r: usize) -> usize
+    requires { ⌜ r < maxRules ⌝ }
+    ensures { λ s. ⌜ (s ≡ leftIn (now (rules .entry)) r) × (s < 65536) ⌝ }
+{
+    wide(rules[3 * r])
+}
+
+// The first symbol of rule `r`.
+pub fn first(rules: &Rules, r: usize) -> usize
+    requires { ⌜ r < maxRules ⌝ }
+    ensures { λ s. ⌜ (s ≡ firstIn (now (rules .entry)) r) × (s < 65536) ⌝ }
+{
+    wide(rules[3 * r + 1])
+}
+
+// The second symbol of rule `r`, or `NONE`.
+pub fn second(rules: &Rules, r: usize) -> usize
+    requires { ⌜ r < maxRules ⌝ }
+    ensures { λ s. ⌜ (s ≡ secondIn (now (rules .entry)) r) × (s < 65536) ⌝ }
+{
+    wide(rules[3 * r + 2])
+}
+
+// The rules of a file that is whole and has few enough.
+pub fn decode(file: &[u8]) -> Rules
+    requires { ⌜ (headerBytes + ruleBytes * ruleCountOf (now file) ≤ length (now file)) × (ruleCountOf (now file) ≤ maxRules) ⌝ }
+    ensures { λ r. ⌜ grammarIn r (symbolsOf (now (file .entry))) (tokensOf (now (file .entry))) (ruleCountOf (now (file .entry))) ≡ grammarOf (now (file .entry)) ⌝ }
+{
+    let mut rules = [0; WORDS];
+    let count = rule_count(file);
+    for r in 0..count {
+        let at = HEADER + RULE * r;
+        rules[3 * r] = u16_at(file, at) as u16;
+        rules[3 * r + 1] = u16_at(file, at + 2) as u16;
+        rules[3 * r + 2] = u16_at(file, at + 4) as u16;
+    }
+    rules
+}

@@ -1,0 +1,69 @@
+-- The words that a host lends to a parse, and how many of them count.
+use mathlib.Core.List.{List, _++_}
+use Prim.Native.Nat.{ℕ, _+_, _-_, _*_, _/_, min}
+use lib.ListN.{length, getD, take, drop}
+use Rattle.item.specs.Item.{itemWords}
+use Rattle.bits.specs.Width.{rowWords}
+
+-- Items are two words each, origin and rule; a start is a word; a predicted row is two words; a queue entry is a word.
+pub record Words : Type 0 where
+  pub items : List ℕ
+  pub starts : List ℕ
+  pub rows : List ℕ
+  pub queue : List ℕ
+
+-- The most items, sets and queue entries.
+abbrev pub maxItems : ℕ
+maxItems = 4096
+
+abbrev pub maxSets : ℕ
+maxSets = 1024
+
+abbrev pub maxQueued : ℕ
+maxQueued = 1024
+
+-- I: half the item words.
+abbrev pub itemRoom : Words → ℕ
+itemRoom w = min maxItems (length (w .items) / itemWords)
+
+-- E: the starts less one, half the row words.
+abbrev pub setRoom : Words → ℕ
+setRoom w = min maxSets (min (length (w .starts) - 1) (length (w .rows) / rowWords))
+
+-- Q: the queue's words.
+abbrev pub queueRoom : Words → ℕ
+queueRoom w = min maxQueued (length (w .queue))
+
+-- The words within the capacities. Only they belong to the parse.
+abbrev pub within : Words → Words
+within w =
+    record {
+      items = take (itemWords * itemRoom w) (w .items);
+      starts = take (setRoom w + 1) (w .starts);
+      rows = take (rowWords * setRoom w) (w .rows);
+      queue = take (queueRoom w) (w .queue);
+    }
+
+-- The words past the capacities, which no call touches.
+abbrev pub beyond : Words → Words
+beyond w =
+    record {
+      items = drop (itemWords * itemRoom w) (w .items);
+      starts = drop (setRoom w + 1) (w .starts);
+      rows = drop (rowWords * setRoom w) (w .rows);
+      queue = drop (queueRoom w) (w .queue);
+    }
+
+-- Words, and other words behind them.
+abbrev pub behind : Words → Words → Words
+behind v b =
+    record {
+      items = v .items ++ b .items;
+      starts = v .starts ++ b .starts;
+      rows = v .rows ++ b .rows;
+      queue = v .queue ++ b .queue;
+    }
+
+-- Of words within their capacities: the place behind the last item of set `k - 1`, where those of set `k` start.
+abbrev pub startOf : Words → ℕ → ℕ
+startOf v k = getD (v .starts) k 0
