@@ -1,0 +1,4 @@
+-- Laws on completion passes.
+pub mod Pushes
+pub mod Soundness
+pub mod Waiting

@@ -1,0 +1,103 @@
+-- The counts of a pass stay within the words, and the entries of its queue stay places of items.
+use mathlib.Core.Path.{_≡_, refl, sym, ap, _∙_, subst}
+use mathlib.Core.Bool.{Bool, true, false}
+use mathlib.Core.List.{List, _++_}
+use Prim.Native.Nat.{ℕ, _+_, _*_, _/_, _≤_, _<_}
+use native.Mathlib.Decide.{decLt, ℕ-discrete}
+use native.Mathlib.Omega.{arith}
+use lib.ListN.{length, getD, take, drop, length-append, length-take, length-drop, List·getD-append}
+use lib.Seq.{length-take-le, getD-take}
+use borrow.Author.Tests.{lt-ltb}
+use Rattle.laws.proofs.Counts.{Every}
+use Rattle.item.specs.Item.{itemWords, HasPlace, keyAt, stored}
+use Rattle.item.proofs.Words.{stored-length}
+use Rattle.binary_heap.specs.Heap.{pushed}
+use Rattle.binary_heap.specs.Words.{Places, pushWords}
+use Rattle.binary_heap.proofs.PushLaws.{pushed-length, pushed-every}
+use Rattle.completion.specs.declared.Progress.{Progress}
+use Rattle.completion.specs.Pass.{Pass, passOf, refused, andThen, store, enqueue}
+use Rattle.completion.specs.Ready.{Sound}
+use Rattle.completion.proofs.Pushes.{store-done, store-refused, enqueue-done, enqueue-refused, goes-on, stays}
+
+-- The words have every place below the number of items.
+pub has-place : (s : Pass) → Sound s → (p : ℕ) → p < s .at .items → HasPlace (s .items) p
+has-place s sound p there = omega (arith, sound .items-fit)
+
+-- The entries of a sound pass are places of items.
+pub sound-places : (s : Pass) → Sound s → Places (s .items) (s .queue) (s .at .queued)
+sound-places s sound =
+    record { within = sound .queued-fit; places = λ i there. has-place s sound (getD (s .queue) i 0) (sound .entries i there) }
+
+-- A refusal keeps a pass sound.
+pub refused-sound : (n : ℕ) (s : Pass) → Sound s → Sound (refused n s)
+refused-sound n s sound =
+    record { few-items = sound .few-items; items-fit = sound .items-fit; queued-fit = sound .queued-fit; entries = sound .entries }
+
+-- What goes on from a sound pass that was not refused, if it stays sound.
+pub then-sound : (s : Pass) (next : Pass → Pass) → Sound s → (s .at .stopped ≡ 0 → Sound (next s)) → Sound (andThen s next)
+then-sound s next sound on =
+    elim (ℕ-discrete (s .at .stopped) 0) [
+      | yes e ↦ subst Sound (sym (goes-on s next e)) (on e)
+      | no ne ↦ subst Sound (sym (stays s next ne)) sound
+    ]
+
+-- Storing an item keeps a pass sound.
+pub store-sound : (origin rule : ℕ) (s : Pass) → Sound s → Sound (store origin rule s)
+store-sound origin rule s sound =
+    elim (decLt (s .at .items) (length (s .items) / itemWords)) [
+      | yes place ↦ subst Sound (sym (store-done s origin rule place)) (done place)
+      | no full ↦ subst Sound (sym (store-refused s origin rule (omega arith))) (refused-sound 7 s sound)
+    ]
+  where
+    long : length (stored (s .items) (s .at .items) (record { origin = origin; rule = rule })) ≡ length (s .items)
+    long = stored-length (s .items) (s .at .items) (record { origin = origin; rule = rule })
+
+    done : s .at .items < length (s .items) / itemWords → Sound (passOf (record { stopped = 0; items = s .at .items + 1; queued = s .at .queued }) (stored (s .items) (s .at .items) (record { origin = origin; rule = rule })) (s .queue))
+    done place =
+        record {
+          few-items = omega (arith, long, sound .few-items);
+          items-fit = omega (arith, long);
+          queued-fit = sound .queued-fit;
+          entries = λ i there. omega (arith, sound .entries i there);
+        }
+
+-- The words of a queue that took a push.
+pub push-into : (key : ℕ → ℕ) (q : List ℕ) (n entry : ℕ) → n < length q → pushWords key (length q) q n entry ≡ pushed key (take n q) entry ++ drop (n + 1) q
+unfolding pushWords
+push-into key q n entry free = rw (pushWords, lt-ltb n (length q) free) refl
+
+-- Queueing a place of an item keeps a pass sound.
+pub enqueue-sound : (place : ℕ) (s : Pass) → Sound s → place < s .at .items → Sound (enqueue place s)
+enqueue-sound place s sound there =
+    elim (decLt (s .at .queued) (length (s .queue))) [
+      | yes free ↦ subst Sound (sym (enqueue-done s place free)) (subst (λ (w : List ℕ). Sound (passOf at′ (s .items) w)) (sym (push-into key q n place free)) (done free))
+      | no full ↦ subst Sound (sym (enqueue-refused s place (omega arith))) (refused-sound 8 s sound)
+    ]
+  where
+    key : ℕ → ℕ
+    key = keyAt (s .items)
+
+    q : List ℕ
+    q = s .queue
+
+    n : ℕ
+    n = s .at .queued
+
+    at′ : Progress
+    at′ = record { stopped = 0; items = s .at .items; queued = s .at .queued + 1 }
+
+    done : n < length q → Sound (passOf at′ (s .items) (pushed key (take n q) place ++ drop (n + 1) q))
+    done free =
+        let first-n : length (take n q) ≡ n = length-take-le n q (omega arith) in
+        let long : length (pushed key (take n q) place) ≡ n + 1 = pushed-length key (take n q) place ∙ ap (λ (m : ℕ). m + 1) first-n in
+        let entries : Every (λ v. v < s .at .items) (take n q) =
+        record { each = λ i h. subst (λ (v : ℕ). v < s .at .items) (sym (getD-take n q i 0 (omega (arith, first-n)))) (sound .entries i (omega (arith, first-n))) } in
+        let all : Every (λ v. v < s .at .items) (pushed key (take n q) place) = pushed-every key (take n q) place (λ v. v < s .at .items) entries there in
+        record {
+          few-items = sound .few-items;
+          items-fit = sound .items-fit;
+          queued-fit = omega (arith, length-append (pushed key (take n q) place) (drop (n + 1) q), long);
+          entries = λ i h.
+              subst (λ (v : ℕ). v < s .at .items) (sym (List·getD-append (pushed key (take n q) place) (drop (n + 1) q) 0 i (omega (arith, long))))
+              (all .each i (omega (arith, long)));
+        }

@@ -1,0 +1,132 @@
+-- What completing the rules that begin with a symbol comes to, case by case.
+use mathlib.Core.Path.{_≡_, refl, sym, ap, ap₂, _∙_, subst}
+use mathlib.Core.Bool.{Bool, true, false, _&&_, not}
+use mathlib.Core.List.{List}
+use Prim.Native.Nat.{ℕ, _/_, _≤_, _<_}
+use native.Mathlib.Decide.{decLt}
+use native.Mathlib.Omega.{arith}
+use lib.ListN.{length, getD}
+use lib.Dec.{eqb}
+use borrow.Author.Tests.{eq-eqb, ne-eqb}
+use Rattle.laws.specs.Bits.{holds, rowOf}
+use Rattle.bits.specs.Width.{rowWords}
+use Rattle.item.specs.Item.{itemWords}
+use Rattle.grammar.specs.Rules.{Rule, none, noRule}
+use Rattle.grammar.specs.Decoded.{leftIn, firstIn, secondIn, rulesIn}
+use Rattle.grammar.proofs.Decoding.{in-count, in-rule}
+use Rattle.completion.specs.Pass.{Pass, andThen, store, enqueue}
+use Rattle.completion.specs.Complete.{waits, predicted, completeUnary, completeBinary}
+use Rattle.completion.specs.Ready.{Sound}
+use Rattle.completion.proofs.Pushes.{store-done, store-refused, goes-on, stays}
+use Rattle.completion.proofs.Soundness.{then-sound, store-sound, enqueue-sound}
+
+-- The decoded rules, read as a list.
+module _ (words : List ℕ) (count : ℕ) where
+  pub rules-length : length (rulesIn words count) ≡ count
+  rules-length = in-count words 0 0 count
+
+  module _ (r : ℕ) (there : r < count) where
+    pub rule-left : leftIn words r ≡ getD (rulesIn words count) r noRule .left
+    rule-left = sym (ap (λ (i : Rule). i .left) (in-rule words 0 0 count r there))
+
+    pub rule-first : firstIn words r ≡ getD (rulesIn words count) r noRule .first
+    rule-first = sym (ap (λ (i : Rule). i .first) (in-rule words 0 0 count r there))
+
+    pub rule-second : secondIn words r ≡ getD (rulesIn words count) r noRule .second
+    rule-second = sym (ap (λ (i : Rule). i .second) (in-rule words 0 0 count r there))
+
+module _ (rs : List Rule) (rows : List ℕ) (k x r : ℕ) where
+  -- A rule that begins with another symbol does not wait.
+  pub waits-other : (f : ℕ) → f ≡ getD rs r noRule .first → (f ≡ x → ⊥) → false ≡ waits rs rows k x r
+  waits-other f is differs =
+      sym (ap (λ (b : Bool). b && predicted rows k (getD rs r noRule .left)) (ne-eqb (getD rs r noRule .first) x (λ e. differs (is ∙ e))))
+
+  -- A rule that begins with the symbol waits if its left side is predicted.
+  pub waits-same : (f l : ℕ) (b : Bool) → f ≡ getD rs r noRule .first → f ≡ x → l ≡ getD rs r noRule .left → b ≡ predicted rows k l
+      → b ≡ waits rs rows k x r
+  waits-same f l b is same left told =
+      told
+      ∙ ap (λ (y : ℕ). predicted rows k y) left
+      ∙ sym (ap (λ (t : Bool). t && predicted rows k (getD rs r noRule .left)) (eq-eqb (getD rs r noRule .first) x (sym is ∙ same)))
+
+  module _ (s : Pass) (on : s .at .stopped ≡ 0) where
+    -- A rule with two symbols is no unary rule.
+    pub unary-two : (y : ℕ) → y ≡ getD rs r noRule .second → (y ≡ none → ⊥) → completeUnary rs rows k x r s ≡ s
+    unfolding completeUnary
+    unary-two y is two = goes-on s _ on ∙ rw (ne-eqb (getD rs r noRule .second) none (λ e. two (is ∙ e))) refl
+
+    -- A rule that does not wait is passed over.
+    pub unary-passed : false ≡ waits rs rows k x r → completeUnary rs rows k x r s ≡ s
+    unfolding completeUnary
+    unary-passed passed = goes-on s _ on ∙ by-second (eqb (getD rs r noRule .second) none)
+      where
+        by-second : (b : Bool) → elim (b && waits rs rows k x r) [ true ↦ andThen (store k r s) (enqueue (s .at .items)) | false ↦ s ] ≡ s
+        by-second true = rw (← passed) refl
+        by-second false = refl
+
+    -- A rule that waits for the symbol alone is stored and queued.
+    pub unary-waits : (y : ℕ) → y ≡ getD rs r noRule .second → y ≡ none → true ≡ waits rs rows k x r
+        → completeUnary rs rows k x r s ≡ andThen (store k r s) (enqueue (s .at .items))
+    unfolding completeUnary
+    unary-waits y is one waiting = goes-on s _ on ∙ rw (eq-eqb (getD rs r noRule .second) none (sym is ∙ one), ← waiting) refl
+
+    -- A rule with one symbol is no binary rule.
+    pub binary-one : (y : ℕ) → y ≡ getD rs r noRule .second → y ≡ none → completeBinary rs rows k x r s ≡ s
+    unfolding completeBinary
+    binary-one y is one = goes-on s _ on ∙ rw (eq-eqb (getD rs r noRule .second) none (sym is ∙ one)) refl
+
+    -- A rule that does not wait is passed over.
+    pub binary-passed : false ≡ waits rs rows k x r → completeBinary rs rows k x r s ≡ s
+    unfolding completeBinary
+    binary-passed passed = goes-on s _ on ∙ by-second (not (eqb (getD rs r noRule .second) none))
+      where
+        by-second : (b : Bool) → elim (b && waits rs rows k x r) [ true ↦ store k r s | false ↦ s ] ≡ s
+        by-second true = rw (← passed) refl
+        by-second false = refl
+
+    -- A rule that waits for the symbol and another behind it is stored.
+    pub binary-waits : (y : ℕ) → y ≡ getD rs r noRule .second → (y ≡ none → ⊥) → true ≡ waits rs rows k x r
+        → completeBinary rs rows k x r s ≡ store k r s
+    unfolding completeBinary
+    binary-waits y is two waiting = goes-on s _ on ∙ rw (ne-eqb (getD rs r noRule .second) none (λ e. two (is ∙ e)), ← waiting) refl
+
+  -- A pass that was refused stays as it is.
+  pub unary-stopped : (s : Pass) → (s .at .stopped ≡ 0 → ⊥) → completeUnary rs rows k x r s ≡ s
+  unfolding completeUnary
+  unary-stopped s stopped = stays s _ stopped
+
+  pub binary-stopped : (s : Pass) → (s .at .stopped ≡ 0 → ⊥) → completeBinary rs rows k x r s ≡ s
+  unfolding completeBinary
+  binary-stopped s stopped = stays s _ stopped
+
+-- Items are more by one where storing was not refused.
+pub store-place : (origin rule : ℕ) (s : Pass) → store origin rule s .at .stopped ≡ 0 → s .at .items < store origin rule s .at .items
+store-place origin rule s on =
+    elim (decLt (s .at .items) (length (s .items) / itemWords)) [
+      | yes place ↦ subst (λ (u : Pass). s .at .items < u .at .items) (sym (store-done s origin rule place)) (omega arith)
+      | no full ↦
+          let stopped : _≡_ {A = ℕ} 7 0 = subst (λ (u : Pass). u .at .stopped ≡ 0) (store-refused s origin rule (omega arith)) on in
+          absurd (omega arith)
+    ]
+
+module _ (rs : List Rule) (rows : List ℕ) (k x r : ℕ) (s : Pass) (sound : Sound s) where
+  -- Completing a rule keeps a pass sound.
+  pub unary-sound : Sound (completeUnary rs rows k x r s)
+  unfolding completeUnary
+  unary-sound =
+      then-sound s _ sound (λ on. by-fit (eqb (getD rs r noRule .second) none && waits rs rows k x r))
+    where
+      stored-sound : Sound (store k r s)
+      stored-sound = store-sound k r s sound
+
+      by-fit : (b : Bool) → Sound (elim b [ true ↦ andThen (store k r s) (enqueue (s .at .items)) | false ↦ s ])
+      by-fit true = then-sound (store k r s) _ stored-sound (λ on. enqueue-sound (s .at .items) (store k r s) stored-sound (store-place k r s on))
+      by-fit false = sound
+
+  pub binary-sound : Sound (completeBinary rs rows k x r s)
+  unfolding completeBinary
+  binary-sound = then-sound s _ sound (λ on. by-fit (not (eqb (getD rs r noRule .second) none) && waits rs rows k x r))
+    where
+      by-fit : (b : Bool) → Sound (elim b [ true ↦ store k r s | false ↦ s ])
+      by-fit true = store-sound k r s sound
+      by-fit false = sound

@@ -1,0 +1,48 @@
+use mathlib.Core.Path.{_≡_, sym, ap, _∙_}
+use mathlib.Core.List.{List}
+use Prim.Native.Nat.{ℕ, _+_}
+use borrow.Author.Needs.{needs}
+use Rattle.completion.specs.Pass.{passOf}
+use Rattle.completion.proofs.Pushes.{store-done, store-refused}
+use Rattle.completion.proofs.pass.store.Statement.{statement}
+use Rattle.completion.proofs.pass.store.Tie as tie
+use Rattle.completion.proofs.pass.store.Reads as reads
+use Rattle.completion.proofs.pass.store.Lts as lts
+use Rattle.item.proofs.write.Reads as write-reads
+
+-- src/pass.rt:21:9
+returns : tie.Need-returns
+returns c = λ q. sym (store-refused (passOf (c .before .before .args .at) (c .before .before .args .items .now) q) (c .before .before .args .origin) (c .before .before .args .rule) (c .if1 .taken))
+
+-- src/pass.rt:27:31
+cast-write : tie.Need-cast-write
+cast-write c = search needs
+
+-- src/pass.rt:27:46
+cast-write-2 : tie.Need-cast-write-2
+cast-write-2 c = search needs
+
+-- src/pass.rt:27:5
+write-requires : tie.Need-write-requires
+write-requires c κs = search needs
+
+-- src/pass.rt:30:16
+add-t7 : tie.Need-add-t7
+add-t7 c = search needs
+
+-- src/pass.rt:14:1
+same-length : tie.Need-same-length
+same-length c = search needs
+
+-- src/pass.rt:14:1
+returns-2 : tie.Need-returns-2
+returns-2 c =
+    let a = c .before .before .before .before .before .before .args in
+    λ q.
+    ap (λ (w : List ℕ). passOf (record { stopped = 0; items = a .at .items + 1; queued = a .at .queued }) w q) (c .before .before .write .ensures)
+    ∙ sym (store-done (passOf (a .at) (a .items .now) q) (a .origin) (a .rule) (c .before .before .before .before .if1 .left))
+
+pub store-spec : {M : Type 1} → statement M
+store-spec =
+    tie.close
+    (tie.spec returns cast-write cast-write-2 write-requires add-t7 same-length returns-2)

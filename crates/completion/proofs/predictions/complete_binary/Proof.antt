@@ -1,0 +1,87 @@
+use borrow.Author.Tests.{not-true, not-false}
+use Rattle.completion.proofs.Waiting.{rules-length, rule-second, binary-stopped, binary-one, binary-passed, binary-waits}
+use Rattle.completion.specs.Pass.{passOf}
+use Rattle.grammar.specs.Decoded.{rulesIn}
+use native.Mathlib.Omega.{arith}
+use lib.ListN.{length}
+use Prim.Native.Nat.{ℕ, _+_, _-_, _≤_, _<_}
+use mathlib.Core.List.{List}
+use mathlib.Core.Path.{_≡_, refl, sym, ap, _∙_, subst}
+use borrow.Author.Needs.{needs}
+use Rattle.completion.proofs.predictions.complete_binary.Statement.{statement}
+use Rattle.completion.proofs.predictions.complete_binary.Tie as tie
+use Rattle.completion.proofs.predictions.complete_binary.Reads as reads
+use Rattle.completion.proofs.predictions.complete_binary.Lts as lts
+use Rattle.completion.proofs.pass.store.Reads as store-reads
+use Rattle.completion.proofs.predictions.waits.Reads as waits-reads
+use Rattle.grammar.proofs.rules.second.Reads as second-reads
+
+-- src/predictions.rt:94:9
+returns : tie.Need-returns
+returns c =
+    let a = c .before .before .before .before .args in
+    let rs = rulesIn (a .rules .now) (a .count) in
+    λ q.
+    let s = passOf (a .at) (a .items .now) q in
+    sym (binary-stopped rs (a .rows .now) (a .k) (a .x) (a .r) s (c .if1 .taken))
+
+-- src/predictions.rt:96:8
+second-requires : tie.Need-second-requires
+second-requires c κs =
+    omega (arith, rules-length (c .before .before .before .before .args .rules .now) (c .before .before .before .before .args .count), c .before .before .before .before .pre .0 .few-rules)
+
+-- src/predictions.rt:97:9
+returns-2 : tie.Need-returns-2
+returns-2 c =
+    let a = c .before .before .before .before .before .before .args in
+    let rs = rulesIn (a .rules .now) (a .count) in
+    λ q.
+    let s = passOf (a .at) (a .items .now) q in
+    sym (binary-one rs (a .rows .now) (a .k) (a .x) (a .r) s (c .before .before .if1 .left) (c .before .second .result)
+    (c .before .second .ensures .0 ∙ rule-second (a .rules .now) (a .count) (a .r) (c .before .before .before .before .before .before .pre .2)) (c .if2 .taken))
+
+-- src/predictions.rt:99:9
+waits-requires : tie.Need-waits-requires
+waits-requires c κs = search needs
+
+-- src/predictions.rt:100:9
+returns-3 : tie.Need-returns-3
+returns-3 c =
+    let a = c .before .before .before .before .before .before .before .before .args in
+    let rs = rulesIn (a .rules .now) (a .count) in
+    λ q.
+    let s = passOf (a .at) (a .items .now) q in
+    sym (binary-passed rs (a .rows .now) (a .k) (a .x) (a .r) s (c .before .before .before .before .if1 .left) (sym (not-true (c .before .waits .result) (c .if3 .taken)) ∙ c .before .waits .ensures))
+
+-- src/predictions.rt:102:5
+store-requires : tie.Need-store-requires
+store-requires c κs =
+    (omega (arith, c .before .before .before .before .before .before .before .before .before .pre .1 .few-sets, c .before .before .before .before .before .before .before .before .before .pre .1 .row), omega (arith, rules-length (c .before .before .before .before .before .before .before .before .before .args .rules .now) (c .before .before .before .before .before .before .before .before .before .args .count), c .before .before .before .before .before .before .before .before .before .pre .0 .few-rules))
+
+-- src/predictions.rt:80:1
+same-length : tie.Need-same-length
+same-length c = search needs
+
+-- src/predictions.rt:80:1
+returns-4 : tie.Need-returns-4
+returns-4 c =
+    let a = c .before .before .before .before .before .before .before .before .before .before .before .before .args in
+    let rs = rulesIn (a .rules .now) (a .count) in
+    λ q.
+    let s = passOf (a .at) (a .items .now) q in
+    c .before .before .store .ensures q
+    ∙ sym (binary-waits rs (a .rows .now) (a .k) (a .x) (a .r) s (c .before .before .before .before .before .before .before .before .if1 .left) (c .before .before .before .before .before .before .before .second .result)
+    (c .before .before .before .before .before .before .before .second .ensures .0 ∙ rule-second (a .rules .now) (a .count) (a .r) (c .before .before .before .before .before .before .before .before .before .before .before .before .pre .2)) (c .before .before .before .before .before .before .if2 .left) (sym (not-false (c .before .before .before .before .before .waits .result) (c .before .before .before .before .if3 .left)) ∙ c .before .before .before .before .before .waits .ensures))
+
+pub complete-binary-spec : {M : Type 1} → statement M
+complete-binary-spec =
+    tie.close
+    (tie.spec
+    returns
+    second-requires
+    returns-2
+    waits-requires
+    returns-3
+    store-requires
+    same-length
+    returns-4)

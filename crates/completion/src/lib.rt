@@ -1,0 +1,57 @@
+// Steps 2 and 3: completing pairs of a set and a symbol.
+pub mod medial;
+pub mod pass;
+pub mod predictions;
+pub mod sums;
+
+ghost use mathlib.Core.Path.{_≡_};
+ghost use Prim.Native.Nat.{_*_, _+_, _<_, _≤_};
+ghost use Rattle.laws.specs.Bits.{wordBits};
+ghost use Rattle.bits.specs.Width.{rowWords};
+ghost use Rattle.grammar.specs.Decoded.{rulesIn};
+ghost use Rattle.completion.specs.Pass.{passOf};
+ghost use Rattle.completion.specs.Ready.{RulesFit, HasRow, Rowed, Sound, Charted};
+ghost use Rattle.completion.specs.Complete.{complete};
+use grammar::rules::Rules;
+
+// How far a completion pass has come: the refusal that a push met, or 0; the items stored so far, those of the sets included; the
+// entries of the queue.
+pub struct Progress {
+    pub stopped: u32,
+    pub items: usize,
+    pub queued: usize,
+}
+
+// Completes set `k` and symbol `x`: nothing if `x` is not predicted there.
+pub fn complete(
+    rules: &Rules,
+    count: usize,
+    items: &mut [u32],
+    starts: &[u32],
+    rows: &[u64],
+    queue: &mut [u32],
+    k: usize,
+    x: usize,
+    at: Progress,
+) -> Progress
+    requires { ⌜ RulesFit (rulesIn (now rules) count) × Rowed (now starts) (now rows) ⌝ }
+    requires { ⌜ HasRow (now rows) k × (x < wordBits * rowWords) ⌝ }
+    requires { ⌜ Sound (passOf at (now items) (now queue)) × Charted (rulesIn (now rules) count) (now starts) (passOf at (now items) (now queue)) ⌝ }
+    ensures { λ r. ⌜ passOf r (now (items .exit)) (now (queue .exit)) ≡ complete (rulesIn (now (rules .entry)) count) (now (starts .entry)) (now (rows .entry)) k x (passOf at (now (items .entry)) (now (queue .entry))) ⌝ }
+{
+    if !bits::has_at(rows, k, x) {
+        return at;
+    }
+    let medial = medial::complete_medial_items(rules, count, items, starts, queue, k, x, at);
+    let unary = predictions::complete_unary_predictions(
+        rules,
+        count,
+        items,
+        rows,
+        queue,
+        k,
+        x,
+        medial,
+    );
+    predictions::complete_binary_predictions(rules, count, items, rows, k, x, unary)
+}

@@ -1,0 +1,120 @@
+// Completing the rules that begin with a symbol and whose left side is predicted.
+ghost use mathlib.Core.Path.{_≡_};
+ghost use mathlib.Core.List.{List};
+ghost use Prim.Native.Nat.{ℕ, _<_};
+ghost use lib.ListN.{length};
+ghost use Rattle.grammar.specs.Decoded.{rulesIn};
+ghost use Rattle.completion.specs.Pass.{passOf};
+ghost use Rattle.completion.specs.Ready.{RulesFit, HasRow, Sound};
+ghost use Rattle.completion.specs.Complete.{waits, completeUnary, completeUnaryPredictions, completeBinary, completeBinaryPredictions};
+use crate::Progress;
+use crate::pass;
+use grammar::rules::NONE;
+use grammar::rules::Rules;
+
+// Whether rule `r` begins with `x`, and its left side is predicted at set `k`.
+fn waits(rules: &Rules, count: usize, rows: &[u64], k: usize, x: usize, r: usize) -> bool
+    requires { ⌜ RulesFit (rulesIn (now rules) count) × HasRow (now rows) k × (r < count) ⌝ }
+    ensures { λ b. ⌜ b ≡ waits (rulesIn (now (rules .entry)) count) (now (rows .entry)) k x r ⌝ }
+{
+    if grammar::rules::first(rules, r) != x {
+        return false;
+    }
+    bits::has_at(rows, k, grammar::rules::left(rules, r))
+}
+
+// Stores and queues rule `r`, if it waits for `x` alone.
+fn complete_unary(
+    rules: &Rules,
+    count: usize,
+    items: &mut [u32],
+    rows: &[u64],
+    queue: &mut [u32],
+    k: usize,
+    x: usize,
+    r: usize,
+    at: Progress,
+) -> Progress
+    requires { ⌜ RulesFit (rulesIn (now rules) count) × HasRow (now rows) k × (r < count) × Sound (passOf at (now items) (now queue)) ⌝ }
+    ensures { λ s. ⌜ passOf s (now (items .exit)) (now (queue .exit)) ≡ completeUnary (rulesIn (now (rules .entry)) count) (now (rows .entry)) k x r (passOf at (now (items .entry)) (now (queue .entry))) ⌝ }
+{
+    if at.stopped != 0 {
+        return at;
+    }
+    if grammar::rules::second(rules, r) != NONE {
+        return at;
+    }
+    if !waits(rules, count, rows, k, x, r) {
+        return at;
+    }
+    let place = at.items;
+    let stored = pass::store(items, k, r, at);
+    pass::enqueue(items, queue, place, stored)
+}
+
+// Stores and queues each rule that waits for `x` alone.
+pub fn complete_unary_predictions(
+    rules: &Rules,
+    count: usize,
+    items: &mut [u32],
+    rows: &[u64],
+    queue: &mut [u32],
+    k: usize,
+    x: usize,
+    at: Progress,
+) -> Progress
+    requires { ⌜ RulesFit (rulesIn (now rules) count) × HasRow (now rows) k × Sound (passOf at (now items) (now queue)) ⌝ }
+    ensures { λ r. ⌜ passOf r (now (items .exit)) (now (queue .exit)) ≡ completeUnaryPredictions (rulesIn (now (rules .entry)) count) (now (rows .entry)) k x (passOf at (now (items .entry)) (now (queue .entry))) ⌝ }
+{
+    let mut now = at;
+    for r in 0..count {
+        now = complete_unary(rules, count, items, rows, queue, k, x, r, now);
+    }
+    now
+}
+
+// Stores rule `r`, if it waits for `x` and another symbol behind it.
+fn complete_binary(
+    rules: &Rules,
+    count: usize,
+    items: &mut [u32],
+    rows: &[u64],
+    k: usize,
+    x: usize,
+    r: usize,
+    at: Progress,
+) -> Progress
+    requires { ⌜ RulesFit (rulesIn (now rules) count) × HasRow (now rows) k × (r < count) ⌝ }
+    ensures { λ s. ⌜ ((q : List ℕ) → passOf s (now (items .exit)) q ≡ completeBinary (rulesIn (now (rules .entry)) count) (now (rows .entry)) k x r (passOf at (now (items .entry)) q)) ⌝ }
+{
+    if at.stopped != 0 {
+        return at;
+    }
+    if grammar::rules::second(rules, r) == NONE {
+        return at;
+    }
+    if !waits(rules, count, rows, k, x, r) {
+        return at;
+    }
+    pass::store(items, k, r, at)
+}
+
+// Stores each rule that waits for `x` and another symbol behind it.
+pub fn complete_binary_predictions(
+    rules: &Rules,
+    count: usize,
+    items: &mut [u32],
+    rows: &[u64],
+    k: usize,
+    x: usize,
+    at: Progress,
+) -> Progress
+    requires { ⌜ RulesFit (rulesIn (now rules) count) × HasRow (now rows) k ⌝ }
+    ensures { λ r. ⌜ ((q : List ℕ) → passOf r (now (items .exit)) q ≡ completeBinaryPredictions (rulesIn (now (rules .entry)) count) (now (rows .entry)) k x (passOf at (now (items .entry)) q)) ⌝ }
+{
+    let mut now = at;
+    for r in 0..count {
+        now = complete_binary(rules, count, items, rows, k, x, r, now);
+    }
+    now
+}

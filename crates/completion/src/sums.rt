@@ -1,0 +1,1 @@
+// Completed items by origin and left side.
