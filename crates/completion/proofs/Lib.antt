@@ -2,3 +2,5 @@
 pub mod Pushes
 pub mod Soundness
 pub mod Waiting
+pub mod Searching
+pub mod Pairs
