@@ -1,6 +1,6 @@
 -- Laws that several crates cite.
-pub mod Counts
 pub mod Bits
+pub mod Counts
 pub mod Filled
 pub mod Lists
 pub mod Records

@@ -1,5 +1,5 @@
 -- Definitions that contracts of several crates cite.
-pub mod Counts
 pub mod Bits
+pub mod Counts
 pub mod Records
 pub mod Turns
