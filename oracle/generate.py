@@ -36,11 +36,12 @@ def random_grammar(rng, tokens, nonterminals, rules, unary):
         if rule not in of_block[left]:
             of_block[left].append(rule)
 
+    start = rng.choice(blocks)
+
     def grammar():
-        wrap = (symbols - 2, rng_start, symbols - 1)
+        wrap = (symbols - 2, start, symbols - 1)
         return model.Grammar(symbols, tokens, (wrap,) + tuple(rule for left in blocks for rule in of_block[left]))
 
-    rng_start = rng.choice(blocks)
     for left in blocks:
         add(left)
     tries = 0
@@ -62,7 +63,8 @@ def random_grammar(rng, tokens, nonterminals, rules, unary):
 def small_grammar(rng):
     """Small, ambiguous, with unary chains."""
     nonterminals = rng.randint(1, 5)
-    return random_grammar(rng, rng.randint(1, 3), nonterminals, rng.randint(2, 3 * nonterminals + 2), rng.choice([0.2, 0.4, 0.6]))
+    rules = rng.randint(2, 3 * nonterminals + 2)
+    return random_grammar(rng, rng.randint(1, 3), nonterminals, rules, rng.choice([0.2, 0.4, 0.6]))
 
 
 def middle_grammar(rng):
@@ -81,7 +83,8 @@ def large_grammar(rng):
 def rooms(chart, items=4096, sets=1024, queue=1024):
     """Lent words that hold a chart, and its state."""
     buffers = model.Buffers.zeroed(items, sets, queue)
-    for words, content in [(buffers.items, streams.flat(chart.items)), (buffers.starts, chart.starts), (buffers.rows, streams.row_words(chart.rows))]:
+    contents = [streams.flat(chart.items), chart.starts, streams.row_words(chart.rows)]
+    for words, content in zip([buffers.items, buffers.starts, buffers.rows], contents):
         words[:len(content)] = content
     return model.State(chart.set_number, len(chart.items)), buffers
 
@@ -115,6 +118,8 @@ def random_tokens(rng, grammar, chart, count, most_items):
         if answer not in (0, 6) or (answer == 0 and first == behind) or state.item_count > most_items:
             break
         tokens.append(token)
+        if not predicted:  # one refusal shows it
+            break
     return tokens
 
 
@@ -149,7 +154,7 @@ def forged_case(rng, make_grammar, count, most_items=250):
 def heap_case(rng):
     """Pushes and pops over items with few keys, so that most are equal to others. Ends with an empty heap."""
     origins, rules = rng.choice([(1, 1), (1, 2), (2, 2), (3, 3)])
-    items = [(rng.randrange(origins), rng.randrange(rules)) for _ in range(rng.randint(2, 24))]
+    items = [(rng.randrange(origins), rng.randrange(rules)) for _ in range(rng.choice([rng.randint(2, 24), 70]))]
     places = list(range(len(items)))
     rng.shuffle(places)
     operations, queued = [], 0
@@ -176,7 +181,8 @@ def random_node(rng, position):
         return model.Sum(rng.choice([0, 1, 2, 30, 31, rng.randrange(32)]), rng.choice([0, 254, 255, rng.randrange(256)]))
     if kind == "leaf":
         return rng.choice([model.NullingLeaf, model.Evaluated])(rng.choice([0, 4094, 4095, rng.randrange(4096)]))
-    factor = lambda: max(0, min(position - near(rng, 0, 31, 255, 8191), 2**32 - 2)) if rng.random() < 0.9 else rng.randrange(2**32 - 1)
+    near_factor = lambda: max(0, position - near(rng, 0, 31, 255, 8191))
+    factor = lambda: near_factor() if rng.random() < 0.9 else rng.randrange(2**32 - 1)
     action = min(near(rng, 0, 255, 65535, 2**29 - 3), 2**29 - 1)
     return model.Product(action, factor(), None if kind == "link" else factor())
 
@@ -216,7 +222,8 @@ def state_record(case, answer):
         if number:
             lines.append([number])
         else:
-            lines.append([number, len(sums)] + [n for origin, left, places in sums for n in [origin, left, len(places), *places]])
+            popped = [n for origin, left, places in sums for n in [origin, left, len(places), *places]]
+            lines.append([number, len(sums), *popped])
             lines.append(streams.chart_numbers(chart))
     return lines
 
@@ -227,22 +234,27 @@ def record_states(name, cases):
 
 def main():
     rng = random.Random(1)
-    record_states("states_small.txt", [reached_case(rng, small_grammar, rng.randint(4, 12), 120) for _ in range(150)])
+    record_states("states_small.txt", [reached_case(rng, small_grammar, rng.randint(4, 14), 140) for _ in range(300)])
     rng = random.Random(2)
-    record_states("states_large.txt", [reached_case(rng, large_grammar, 5, 700) for _ in range(10)] + [reached_case(rng, middle_grammar, 8, 300) for _ in range(20)])
+    record_states("states_large.txt", [reached_case(rng, large_grammar, 6, 800) for _ in range(24)] +
+                  [reached_case(rng, middle_grammar, 9, 300) for _ in range(40)])
     rng = random.Random(3)
-    record_states("states_forged.txt", [forged_case(rng, small_grammar, 4, 150) for _ in range(120)] + [forged_case(rng, middle_grammar, 3, 200) for _ in range(20)])
+    record_states("states_forged.txt", [forged_case(rng, small_grammar, 4, 150) for _ in range(200)] +
+                  [forged_case(rng, middle_grammar, 3, 200) for _ in range(40)] +
+                  [forged_case(rng, large_grammar, 2, 400) for _ in range(10)])
 
     rng = random.Random(4)
-    cases = [heap_case(rng) for _ in range(400)]
+    cases = [heap_case(rng) for _ in range(300)]
     popped = streams.Numbers(streams.ask("recognize", "heap", [n for case in cases for n in streams.heap_numbers(case)]))
     record("heap.txt", [[streams.heap_numbers(case), popped.list(streams.pops(case))] for case in cases])
 
     rng = random.Random(5)
     places = [random_place(rng) for _ in range(2500)]
-    record("nodes.txt", [[[position, *streams.node_numbers(node), len(units), *units]] for (position, node), units in zip(places, streams.ask_write(places))])
+    record("nodes.txt", [[[position, *streams.node_numbers(node), len(units), *units]]
+                         for (position, node), units in zip(places, streams.ask_write(places))])
     stores = [random_store(rng) for _ in range(500)]
-    record("stores.txt", [[[len(units), *units, position], [len(read)] + [n for node, behind in read for n in [*streams.node_numbers(node), behind]]]
+    read_numbers = lambda read: [len(read)] + [n for node, behind in read for n in [*streams.node_numbers(node), behind]]
+    record("stores.txt", [[[len(units), *units, position], read_numbers(read)]
                           for (units, position), read in zip(stores, streams.ask_read(stores))])
 
 
