@@ -22,7 +22,8 @@ Case = namedtuple("Case", "file chart any_shape tokens")
 
 def run_program(program, mode, numbers):
     text = " ".join(map(str, numbers))
-    return subprocess.run([os.path.join(PROGRAMS, program), mode], input=text, capture_output=True, text=True)
+    quiet = dict(os.environ, RUST_BACKTRACE="0")
+    return subprocess.run([os.path.join(PROGRAMS, program), mode], input=text, capture_output=True, text=True, env=quiet)
 
 
 def ask(program, mode, numbers):

@@ -1,6 +1,8 @@
 //! Runs the unchanged recognizer and tells its whole state. The streams of numbers are described in ../README.md.
 //!
 //!     recognize states < cases         states after the start and after each token, and the summands in pop order
+//!     recognize latest < cases         the items of the latest set, as `medial_items` tells them; tokens are passed over
+//!     recognize panics < cases         the line of recognizer.rs (else 1) at which the case's tokens panic, or 0
 //!     recognize heap < cases           places in pop order, for given items and pushes
 //!     recognize show FILE TOKEN ..     the same states in words, for a grammar file and tokens
 
@@ -24,6 +26,8 @@ mod recognizer;
 
 use std::env;
 use std::fs;
+use std::panic::{self, AssertUnwindSafe};
+use std::sync::atomic::{AtomicUsize, Ordering};
 
 use bit_matrix::BitMatrix;
 use cfg::Symbol;
@@ -129,7 +133,7 @@ fn read_parse<'g>(numbers: &mut Numbers, grammar: &'g InternalGrammar) -> Parse<
         };
         parse.indices = numbers.list(starts);
         parse.predicted = read_rows(numbers, rows, grammar.num_syms());
-        parse.current_medial_start = *parse.indices.last().expect("a set start");
+        parse.current_medial_start = parse.indices.last().cloned().unwrap_or(0);
     }
     parse
 }
@@ -175,35 +179,71 @@ fn print_state(parse: &Parse) {
     println!();
 }
 
-fn states() {
+/// Reads each case of standard input and does something with its parse and tokens.
+fn for_each_case<F>(what: F)
+    where F: Fn(Parse, Vec<u32>)
+{
     let mut numbers = Numbers::from_stdin();
     while !numbers.at_end() {
         let length = numbers.next();
         let file: Vec<u8> = numbers.list(length);
         let grammar = InternalGrammar::from_file(&file);
-        let mut parse = read_parse(&mut numbers, &grammar);
+        let parse = read_parse(&mut numbers, &grammar);
         let count = numbers.next();
-        let tokens: Vec<u32> = numbers.list(count);
-        print_state(&parse);
-        for token in tokens {
-            if token == RESET {
-                parse.reset();
-                print_state(&parse);
-            } else if let Some(sums) = take_token(&mut parse, token) {
-                print!("{} {}", ACCEPTED, sums.len());
-                for (origin, left_side, places) in sums {
-                    print!("  {} {} {}", origin, left_side, places.len());
-                    for place in places {
-                        print!(" {}", place);
-                    }
+        what(parse, numbers.list(count));
+    }
+}
+
+fn states(mut parse: Parse, tokens: Vec<u32>) {
+    print_state(&parse);
+    for token in tokens {
+        if token == RESET {
+            parse.reset();
+            print_state(&parse);
+        } else if let Some(sums) = take_token(&mut parse, token) {
+            print!("{} {}", ACCEPTED, sums.len());
+            for (origin, left_side, places) in sums {
+                print!("  {} {} {}", origin, left_side, places.len());
+                for place in places {
+                    print!(" {}", place);
                 }
-                println!();
-                print_state(&parse);
-            } else {
-                println!("{}", EXHAUSTED);
             }
+            println!();
+            print_state(&parse);
+        } else {
+            println!("{}", EXHAUSTED);
         }
     }
+}
+
+fn latest(parse: Parse, _: Vec<u32>) {
+    let items: Vec<_> = parse.medial_items().collect();
+    print!("{}", items.len());
+    for item in items {
+        print!("  {} {}", item.origin, item.dot);
+    }
+    println!();
+}
+
+static PANIC_LINE: AtomicUsize = AtomicUsize::new(0);
+
+fn panics(mut parse: Parse, tokens: Vec<u32>) {
+    PANIC_LINE.store(0, Ordering::SeqCst);
+    let _ = panic::catch_unwind(AssertUnwindSafe(|| {
+        for token in tokens {
+            take_token(&mut parse, token);
+        }
+        parse.medial_items().count()
+    }));
+    println!("{}", PANIC_LINE.load(Ordering::SeqCst));
+}
+
+fn note_panic_lines() {
+    panic::set_hook(Box::new(|panic| {
+        let place = panic.location().expect("a place");
+        let line = if place.file().ends_with("recognizer.rs") { place.line() } else { 1 };
+        PANIC_LINE.store(line as usize, Ordering::SeqCst);
+    }));
 }
 
 const PUSH: u32 = 0;
@@ -264,9 +304,14 @@ fn show(file: &str, tokens: &[String]) {
 fn main() {
     let arguments: Vec<String> = env::args().skip(1).collect();
     match arguments.first().map(|word| &word[..]) {
-        Some("states") => states(),
+        Some("states") => for_each_case(states),
+        Some("latest") => for_each_case(latest),
+        Some("panics") => {
+            note_panic_lines();
+            for_each_case(panics)
+        }
         Some("heap") => heap(),
         Some("show") if arguments.len() > 1 => show(&arguments[1], &arguments[2..]),
-        _ => panic!("usage: recognize states | recognize heap | recognize show FILE TOKEN .."),
+        _ => panic!("usage: recognize states | latest | panics | heap | show FILE TOKEN .."),
     }
 }
