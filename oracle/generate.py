@@ -233,8 +233,9 @@ def record_states(name, cases):
 
 
 def main():
+    by_hand = [Case(model.GRAMMAR_A, None, False, [0, 1, 0, 0, 1, 0, 1, 0, 1, 0]), Case(model.GRAMMAR_B, None, False, [0, 1, 2] * 3 + [1])]
     rng = random.Random(1)
-    record_states("states_small.txt", [reached_case(rng, small_grammar, rng.randint(4, 14), 140) for _ in range(300)])
+    record_states("states_small.txt", by_hand + [reached_case(rng, small_grammar, rng.randint(4, 14), 140) for _ in range(300)])
     rng = random.Random(2)
     record_states("states_large.txt", [reached_case(rng, large_grammar, 6, 800) for _ in range(24)] +
                   [reached_case(rng, middle_grammar, 9, 300) for _ in range(40)])
