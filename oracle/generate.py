@@ -215,21 +215,20 @@ def record(name, records):
                 out.write(" ".join(map(str, line)) + "\n")
 
 
-def state_record(case, answer):
-    before, answers = answer
+def state_record(case, before, answers):
     lines = [streams.case_numbers(case), streams.chart_numbers(before)]
-    for number, sums, chart in answers:
-        if number:
-            lines.append([number])
+    for answer in answers:
+        if answer.number:
+            lines.append([answer.number])
         else:
-            popped = [n for origin, left, places in sums for n in [origin, left, len(places), *places]]
-            lines.append([number, len(sums), *popped])
-            lines.append(streams.chart_numbers(chart))
+            popped = [n for origin, left, places in answer.sums for n in [origin, left, len(places), *places]]
+            lines.append([answer.number, *answer.room, len(answer.sums), *popped])
+            lines.append(streams.chart_numbers(answer.chart))
     return lines
 
 
 def record_states(name, cases):
-    record(name, [state_record(case, answer) for case, answer in zip(cases, streams.ask_states(cases))])
+    record(name, [state_record(case, *told) for case, told in zip(cases, streams.ask_states(cases))])
 
 
 def main():

@@ -16,6 +16,9 @@ PUSH, POP = 0, 1
 
 # A whole state. items: (origin, rule) each; rows: one number each, symbol s being bit s.
 Chart = namedtuple("Chart", "set_number finished items starts rows")
+# The answer to a token. room: the most items and queued entries at a time; sums: (origin, left side, places in pop order).
+# Refused, there is only the number.
+Answer = namedtuple("Answer", "number room sums chart", defaults=[None, [], None])
 # A run of tokens from the start, or from a chart. any_shape: the chart's lists may have any length.
 Case = namedtuple("Case", "file chart any_shape tokens")
 
@@ -106,20 +109,21 @@ def read_chart(numbers):
 
 
 def read_answers(numbers, case):
-    """The chart before the tokens, then for each token (answer, sums, chart): no sums and no chart where refused."""
+    """The chart before the tokens, and the answer to each token."""
     before = read_chart(numbers)
     answers = []
     for token in case.tokens:
         if token == RESET:
-            answers.append((0, [], read_chart(numbers)))
+            answers.append(Answer(0, chart=read_chart(numbers)))
         elif numbers.next() == 0:
+            room = tuple(numbers.list(2))
             sums = []
             for _ in range(numbers.next()):
                 origin, left = numbers.list(2)
                 sums.append((origin, left, numbers.list(numbers.next())))
-            answers.append((0, sums, read_chart(numbers)))
+            answers.append(Answer(0, room, sums, read_chart(numbers)))
         else:
-            answers.append((6, [], None))
+            answers.append(Answer(6))
     return before, answers
 
 

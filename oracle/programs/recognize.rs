@@ -138,15 +138,29 @@ fn read_parse<'g>(numbers: &mut Numbers, grammar: &'g InternalGrammar) -> Parse<
     parse
 }
 
-/// Reads a token. `None` where the recognizer calls itself exhausted, else each sum with its places in pop order.
-fn take_token(parse: &mut Parse, token: u32) -> Option<Vec<(u32, usize, Vec<usize>)>> {
+/// What an accepted token did.
+struct Taken {
+    /// The most items and the most queued entries that there were at a time.
+    most_items: usize,
+    most_queued: usize,
+    /// Each sum's origin, left side and places in pop order.
+    sums: Vec<(u32, usize, Vec<usize>)>,
+}
+
+/// Reads a token. `None` where the recognizer calls itself exhausted.
+fn take_token(parse: &mut Parse, token: u32) -> Option<Taken> {
     parse.forest.sums.clear();
     parse.scan(Symbol::from(token), ());
-    // `end_earleme` in its two halves: between them the popped items still stand at the places that were queued.
+    // `end_earleme` in its parts: between them the popped items still stand at the places that were queued.
     if parse.is_exhausted() {
         return None;
     }
-    parse.complete_all_sums_entirely();
+    // `complete_all_sums_entirely`, with a look at the queue whenever it has grown: a sum pops first and pushes then.
+    let mut most_queued = parse.complete.len();
+    while parse.next_sum().map(|mut sum| sum.complete_entire_sum()).is_some() {
+        most_queued = most_queued.max(parse.complete.len());
+    }
+    let most_items = parse.medial.len();
     let place = |popped: &Item<u32>| {
         parse.medial.iter().position(|item| item == popped && item.node == popped.node).expect("a stored item")
     };
@@ -155,7 +169,7 @@ fn take_token(parse: &mut Parse, token: u32) -> Option<Vec<(u32, usize, Vec<usiz
     }).collect();
     parse.advance_without_completion();
     assert!(parse.complete.is_empty(), "the queue is empty between tokens");
-    Some(sums)
+    Some(Taken { most_items, most_queued, sums })
 }
 
 fn two_words(row: &[u64]) -> [u64; 2] {
@@ -200,9 +214,9 @@ fn states(mut parse: Parse, tokens: Vec<u32>) {
         if token == RESET {
             parse.reset();
             print_state(&parse);
-        } else if let Some(sums) = take_token(&mut parse, token) {
-            print!("{} {}", ACCEPTED, sums.len());
-            for (origin, left_side, places) in sums {
+        } else if let Some(taken) = take_token(&mut parse, token) {
+            print!("{} {} {} {}", ACCEPTED, taken.most_items, taken.most_queued, taken.sums.len());
+            for (origin, left_side, places) in taken.sums {
                 print!("  {} {} {}", origin, left_side, places.len());
                 for place in places {
                     print!(" {}", place);
@@ -291,8 +305,8 @@ fn show(file: &str, tokens: &[String]) {
         println!("token {}", token);
         match take_token(&mut parse, token.parse().expect("a token's number")) {
             None => println!("  exhausted"),
-            Some(sums) => {
-                for (origin, left_side, places) in sums {
+            Some(taken) => {
+                for (origin, left_side, places) in taken.sums {
                     println!("  sum of {} from set {}: item places {:?} in pop order", left_side, origin, places);
                 }
                 show_state(&parse);
