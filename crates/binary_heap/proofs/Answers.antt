@@ -1,6 +1,5 @@
 -- What an answer of push, peek or pop tells.
-use mathlib.Core.Path.{_≡_, _∙_, sym}
-use mathlib.Core.Bool.{Bool, true, false}
+use mathlib.Core.Path.{_≡_}
 use mathlib.Core.List.{List}
 use Prim.Native.Nat.{ℕ, _+_, _-_, _≤_, _<_}
 use native.Mathlib.Omega.{arith}
@@ -9,11 +8,8 @@ use borrow.Author.Tests.{ltb-true, ltb-false}
 use Rattle.laws.proofs.Tests.{either-way}
 use Rattle.binary_heap.specs.Heap.{top}
 use Rattle.binary_heap.specs.Words.{pushAnswer, peekAnswer, popAnswer}
-use Rattle.binary_heap.specs.declared.Pushed.{Pushed}
 use Rattle.binary_heap.specs.declared.Pushed.the-variants.{Full, Count}
-use Rattle.binary_heap.specs.declared.Peeked.{Peeked}
 use Rattle.binary_heap.specs.declared.Peeked.the-variants as peeks
-use Rattle.binary_heap.specs.declared.Popped.{Popped}
 use Rattle.binary_heap.specs.declared.Popped.the-variants as pops
 
 -- Full: the queue has its capacity.

@@ -1,5 +1,5 @@
 -- `replay_heap::load` is safe and ends.
-use mathlib.Core.Path.{_≡_, _∙_}
+use mathlib.Core.Path.{_≡_}
 use borrow.Author.Needs.{needs}
 use lib.ListN.{length}
 use Rattle.replay_heap.proofs.load.Statement.{statement}

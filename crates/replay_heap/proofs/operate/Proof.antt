@@ -1,5 +1,5 @@
 -- The queue's entries stay places of the items.
-use mathlib.Core.Path.{_≡_, _∙_, refl}
+use mathlib.Core.Path.{_≡_}
 use borrow.Author.Needs.{needs}
 use lib.ListN.{length}
 use Rattle.binary_heap.specs.Words.{Places}
