@@ -74,18 +74,18 @@ module _ {R : Type 0} (words : R → List ℕ) (width : ℕ) (wide : (r : R) →
   pub flat-take : (rs : List R) (p : ℕ) → p ≤ length rs → take (width * p) (flat words rs) ≡ flat words (take p rs)
   flat-take rs p h =
       let parts : flat words rs ≡ flat words (take p rs) ++ flat words (drop p rs) =
-          ap (flat words) (sym (take-append-drop p rs)) ∙ flat-append (take p rs) (drop p rs) in
+      ap (flat words) (sym (take-append-drop p rs)) ∙ flat-append (take p rs) (drop p rs) in
       ap (take (width * p)) parts
       ∙ take-at (flat words (take p rs)) (flat words (drop p rs)) (width * p)
-          (flat-length (take p rs) ∙ ap (λ (n : ℕ). width * n) (length-take-le p rs h))
+      (flat-length (take p rs) ∙ ap (λ (n : ℕ). width * n) (length-take-le p rs h))
 
   pub flat-drop : (rs : List R) (p : ℕ) → p ≤ length rs → drop (width * p) (flat words rs) ≡ flat words (drop p rs)
   flat-drop rs p h =
       let parts : flat words rs ≡ flat words (take p rs) ++ flat words (drop p rs) =
-          ap (flat words) (sym (take-append-drop p rs)) ∙ flat-append (take p rs) (drop p rs) in
+      ap (flat words) (sym (take-append-drop p rs)) ∙ flat-append (take p rs) (drop p rs) in
       ap (drop (width * p)) parts
       ∙ drop-at (flat words (take p rs)) (flat words (drop p rs)) (width * p)
-          (flat-length (take p rs) ∙ ap (λ (n : ℕ). width * n) (length-take-le p rs h))
+      (flat-length (take p rs) ∙ ap (λ (n : ℕ). width * n) (length-take-le p rs h))
 
   -- A record stored over another takes its place.
   pub flat-set : (rs : List R) (p : ℕ) (r d : R) (rest : List ℕ) → p < length rs
@@ -97,10 +97,10 @@ module _ {R : Type 0} (words : R → List ℕ) (width : ℕ) (wide : (r : R) →
       let old : List ℕ = words (getD rs p d) in
       let long : length before ≡ p = length-take-le p rs (omega arith) in
       let parts : flat words rs ++ rest ≡ flat words before ++ (old ++ (flat words behind ++ rest)) =
-          ap (λ (l : List R). flat words l ++ rest) (split-at rs p d h)
-          ∙ ap (λ (l : List ℕ). l ++ rest) (flat-append before (getD rs p d ∷ behind))
-          ∙ append-assoc (flat words before) (old ++ flat words behind) rest
-          ∙ ap (λ (l : List ℕ). flat words before ++ l) (append-assoc old (flat words behind) rest) in
+      ap (λ (l : List R). flat words l ++ rest) (split-at rs p d h)
+      ∙ ap (λ (l : List ℕ). l ++ rest) (flat-append before (getD rs p d ∷ behind))
+      ∙ append-assoc (flat words before) (old ++ flat words behind) rest
+      ∙ ap (λ (l : List ℕ). flat words before ++ l) (append-assoc old (flat words behind) rest) in
       ap₂ (λ (l : List ℕ) (n : ℕ). sets l (width * n) (words r)) parts (sym long)
       ∙ flat-stored before r old (flat words behind ++ rest) (wide (getD rs p d))
       ∙ sym (append-assoc (flat words (before ++ (r ∷ []))) (flat words behind) rest)
