@@ -3,7 +3,7 @@ use mathlib.Core.Path.{_≡_}
 use Prim.Native.Nat.{_+_, _*_, _/_, _≤_}
 use native.Mathlib.Omega.{arith}
 use lib.ListN.{length, take-append-drop}
-use lib.Seq.{length-take-le}
+use lib.Seq.{length-take-le, length-front, take-at, drop-at}
 use Rattle.item.specs.Item.{itemWords}
 use Rattle.bits.specs.Width.{rowWords}
 use Rattle.parse.specs.Words.{Words, itemRoom, setRoom, queueRoom, within, beyond, behind}
@@ -43,4 +43,45 @@ module _ (w : Words) where
     starts = take-append-drop (setRoom w + 1) (w .starts) k;
     rows = take-append-drop (rowWords * setRoom w) (w .rows) k;
     queue = take-append-drop (queueRoom w) (w .queue) k;
+  }
+
+-- Words of the same number of each kind.
+pub record SameSizes (v u : Words) : Type 0 where
+  pub items : length (v .items) ≡ length (u .items)
+  pub starts : length (v .starts) ≡ length (u .starts)
+  pub rows : length (v .rows) ≡ length (u .rows)
+  pub queue : length (v .queue) ≡ length (u .queue)
+
+-- With room for a set, words put in the place of those within the capacities are those within them, and leave those past them.
+module _ (w v : Words) (some : 1 ≤ setRoom w) (same : SameSizes v (within w)) where
+  abbrev new : Words
+  new = behind v (beyond w)
+
+  -- What is put in their place does not change a length.
+  items-new : length (new .items) ≡ length (w .items)
+  items-new = length-front (w .items) (v .items) (itemWords * itemRoom w) (same .items)
+
+  starts-new : length (new .starts) ≡ length (w .starts)
+  starts-new = length-front (w .starts) (v .starts) (setRoom w + 1) (same .starts)
+
+  rows-new : length (new .rows) ≡ length (w .rows)
+  rows-new = length-front (w .rows) (v .rows) (rowWords * setRoom w) (same .rows)
+
+  queue-new : length (new .queue) ≡ length (w .queue)
+  queue-new = length-front (w .queue) (v .queue) (queueRoom w) (same .queue)
+
+  pub within-new : within new ≡ v
+  within-new = λ k. record {
+    items = take-at (v .items) (beyond w .items) (itemWords * itemRoom new) (omega (arith, same .items, items-within w, items-new)) k;
+    starts = take-at (v .starts) (beyond w .starts) (setRoom new + 1) (omega (arith, same .starts, starts-within w some, starts-new, rows-new)) k;
+    rows = take-at (v .rows) (beyond w .rows) (rowWords * setRoom new) (omega (arith, same .rows, rows-within w, starts-new, rows-new)) k;
+    queue = take-at (v .queue) (beyond w .queue) (queueRoom new) (omega (arith, same .queue, queue-within w, queue-new)) k;
+  }
+
+  pub beyond-new : beyond new ≡ beyond w
+  beyond-new = λ k. record {
+    items = drop-at (v .items) (beyond w .items) (itemWords * itemRoom new) (omega (arith, same .items, items-within w, items-new)) k;
+    starts = drop-at (v .starts) (beyond w .starts) (setRoom new + 1) (omega (arith, same .starts, starts-within w some, starts-new, rows-new)) k;
+    rows = drop-at (v .rows) (beyond w .rows) (rowWords * setRoom new) (omega (arith, same .rows, rows-within w, starts-new, rows-new)) k;
+    queue = drop-at (v .queue) (beyond w .queue) (queueRoom new) (omega (arith, same .queue, queue-within w, queue-new)) k;
   }

@@ -1,5 +1,5 @@
 -- Laws on answers that tell whether something holds.
-use mathlib.Core.Path.{_≡_, sym, subst, _∙_}
+use mathlib.Core.Path.{_≡_, refl, sym, subst, _∙_}
 use mathlib.Core.Bool.{Bool, true, false, not, true≢false, false≢true}
 use Prim.Native.Nat.{ℕ, _≤_, _<_}
 use native.Mathlib.Omega.{arith}
@@ -45,3 +45,10 @@ equal a b to from = record { yes = λ e. to (eqb-true a b e); nay = λ e p. eqb-
 -- .. or when they are not.
 pub differ : {P : Type 0} (a b : ℕ) → ((a ≡ b → ⊥) → P) → (P → a ≡ b → ⊥) → Tells (not (eqb a b)) P
 differ a b to from = record { yes = λ e. to (eqb-false a b (not-true (eqb a b) e)); nay = λ e p. from p (eqb-true a b (not-false (eqb a b) e)) }
+
+-- Two answers that tell of one thing agree.
+pub agree : {a b : Bool} {P : Type 0} → Tells a P → Tells b P → a ≡ b
+agree {a = true} {b = true} s t = refl
+agree {a = true} {b = false} s t = absurd (t .nay refl (s .yes refl))
+agree {a = false} {b = true} s t = absurd (s .nay refl (t .yes refl))
+agree {a = false} {b = false} s t = refl

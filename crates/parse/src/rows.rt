@@ -23,7 +23,7 @@ fn word_below(symbols: usize, i: usize, word: u64) -> bool
 }
 
 // Whether row `k` has no bit at `symbols` or above.
-fn row_below(symbols: usize, k: usize, rows: &[u64]) -> bool
+fn row_below(symbols: usize, rows: &[u64], k: usize) -> bool
     requires { ⌜ rowWords * k + rowWords ≤ length (now rows) ⌝ }
     ensures { λ r. ⌜ Tells r (Below symbols (rowOf rowWords (now (rows .entry)) k)) ⌝ }
 {
@@ -41,7 +41,7 @@ pub fn rows_below(symbols: usize, e: usize, rows: &[u64]) -> bool
     ensures { λ r. ⌜ Tells r (RowsBelow symbols (now (rows .entry)) e) ⌝ }
 {
     for k in 0..e + 1 {
-        if !row_below(symbols, k, rows) {
+        if !row_below(symbols, rows, k) {
             return false;
         }
     }

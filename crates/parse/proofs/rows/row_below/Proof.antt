@@ -10,10 +10,10 @@ use Rattle.parse.proofs.rows.row_below.Statement.{statement}
 use Rattle.parse.proofs.rows.row_below.Tie as tie
 
 abbrev Inv-loop : tie.InvT-loop
-Inv-loop symbols k rows i₀ i = Passed (WordIn rowWords symbols rows k) 0 i × (i ≤ rowWords)
+Inv-loop symbols rows k i₀ i = Passed (WordIn rowWords symbols rows k) 0 i × (i ≤ rowWords)
 
 abbrev μ-loop : tie.MeasureT-loop
-μ-loop symbols k rows i₀ i = rowWords - i
+μ-loop symbols rows k i₀ i = rowWords - i
 
 loop-holds : tie.Need-loop-holds Inv-loop μ-loop
 loop-holds c = (none-passed _ 0, search needs)

@@ -57,7 +57,10 @@ set-fits-requires c κs =
     ((start .pre .0 .0, omega (arith, from, to, up)), omega (arith, to, last, start .pre .1 .0))
 
 -- What `set_fits` tells of the set between two starts.
-told : (c : tie.After-set-fits Inv-loop μ-loop) → Tells (c .set-fits .result) (SetFits (rulesIn (c .before .before .before .before .before .before .before .before .before .args .rules .now) (c .before .before .before .before .before .before .before .before .before .args .count)) (c .before .before .before .before .before .before .before .before .before .args .items .now) (c .before .before .before .before .before .before .loop .k) (getD (c .before .before .before .before .before .before .before .before .before .args .starts .now) (c .before .before .before .before .before .before .loop .k) 0) (getD (c .before .before .before .before .before .before .before .before .before .args .starts .now) (c .before .before .before .before .before .before .loop .k + 1) 0))
+told : (c : tie.After-set-fits Inv-loop μ-loop)
+    → let args = c .before .before .before .before .before .before .before .before .before .args in
+    let k = c .before .before .before .before .before .before .loop .k in
+    Tells (c .set-fits .result) (SetFits (rulesIn (args .rules .now) (args .count)) (args .items .now) k (getD (args .starts .now) k 0) (getD (args .starts .now) (k + 1) 0))
 told c = moved (SetFits _ _ _) (c .before .before .before .wide .ensures) (c .before .wide2 .ensures) (c .set-fits .ensures)
 
 returns : tie.Need-returns Inv-loop μ-loop
