@@ -1,3 +1,4 @@
 -- Laws of the definitions in specs.
 pub mod Bits
 pub mod Filled
+pub mod Decides

@@ -1,2 +1,3 @@
 -- What contracts of more than one crate speak of.
 pub mod Bits
+pub mod Decides
