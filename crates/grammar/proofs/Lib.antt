@@ -5,3 +5,5 @@ pub mod Marks
 pub mod Productivity
 pub mod Judging
 pub mod Verdicts
+pub mod Facts
+pub mod Reached

@@ -10,15 +10,11 @@ use Rattle.grammar.specs.Accepted.{Accepted}
 use Rattle.grammar.specs.Decoded.{leftIn, firstIn, grammarIn}
 use Rattle.grammar.specs.Prediction.{Reaches, Predicts, rowAt}
 use Rattle.grammar.specs.Prediction.Reaches.{here, by-first}
+use Rattle.grammar.proofs.Reached.{reaches-trans}
 use Rattle.grammar.proofs.Decoding.{in-count, in-left, in-first, in-says}
 use Rattle.prediction.specs.Tables.{Bit, Within, Step, Seeded, Chain, Closed, Low}
 use Rattle.prediction.specs.Tables.Step.{own, first}
 use Rattle.prediction.specs.Tables.Chain.{link, join}
-
--- What is reached from what is reached is reached.
-pub reaches-trans : {g : Grammar} {x y z : ℕ} → Reaches g x y → Reaches g y z → Reaches g x z
-reaches-trans here q = q
-reaches-trans (by-first s p) q = by-first s (reaches-trans p q)
 
 module _ (words : List ℕ) (width n count : ℕ) (within : Within words n count) (seed : List (List ℕ)) (h : Seeded words width n count seed) where
   -- Steps start at symbols.
