@@ -1,5 +1,5 @@
 -- The verdict on a file, case by case.
-use mathlib.Core.Path.{_≡_, refl, ap, subst, _∙_}
+use mathlib.Core.Path.{_≡_, refl, ap, subst, subst⁻¹, _∙_}
 use mathlib.Core.List.{List}
 use Prim.Native.Nat.{ℕ, _+_, _*_, _≤_}
 use native.Mathlib.Omega.{arith}
@@ -96,3 +96,35 @@ verdict-unique file answer.Malformed answer.Accepted v w = absurd (omega (arith,
 verdict-unique file answer.Malformed answer.Broken v w = absurd (omega (arith, w .always-one (v .one refl)))
 verdict-unique file answer.Broken answer.Accepted v w = absurd (v .two refl (w .zero refl))
 verdict-unique file answer.Broken answer.Malformed v w = absurd (omega (arith, v .always-one (w .one refl)))
+
+-- What a caller knows of a file that the check has accepted: enough to read its numbers and to decode its rules.
+pub record AcceptedFile (file : List ℕ) : Type 0 where
+  pub formed : Malformed file → ⊥
+  pub accepted : Accepted (grammarOf file)
+  pub header : headerBytes ≤ length file
+  pub whole : headerBytes + ruleBytes * ruleCountOf file ≤ length file
+  pub few-rules : ruleCountOf file ≤ maxRules
+
+pub accepted-file : (file : List ℕ) (a : Checked) → Verdict file (numberOf a) → a ≡ answer.Accepted → AcceptedFile file
+accepted-file file a v e = record {
+  formed = not-malformed;
+  accepted = yes-accepted;
+  header = formed file not-malformed .header;
+  whole = accepted-readable file not-malformed yes-accepted .0;
+  few-rules = accepted-readable file not-malformed yes-accepted .1;
+}
+  where
+    number : numberOf a ≡ 0
+    number = ap numberOf e
+
+    not-malformed : Malformed file → ⊥
+    not-malformed m = omega (arith, number, v .always-one m)
+
+    yes-accepted : Accepted (grammarOf file)
+    yes-accepted = v .zero number
+
+-- The grammar in the decoded words is accepted too.
+pub accepted-words : (file words : List ℕ) (n t count : ℕ) → AcceptedFile file → n ≡ symbolsOf file → t ≡ tokensOf file → count ≡ ruleCountOf file
+    → grammarIn words (symbolsOf file) (tokensOf file) (ruleCountOf file) ≡ grammarOf file → Accepted (grammarIn words n t count)
+accepted-words file words n t count a en et ec d =
+    subst⁻¹ Accepted (read-grammar file n t count words (record { symbols = en; tokens = et; rules = ec }) d) (a .accepted)
