@@ -6,3 +6,4 @@ pub mod Lists
 pub mod Records
 pub mod Tests
 pub mod Turns
+pub mod Decides

@@ -3,3 +3,4 @@ pub mod Bits
 pub mod Counts
 pub mod Records
 pub mod Turns
+pub mod Decides
