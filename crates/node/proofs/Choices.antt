@@ -4,7 +4,7 @@ use mathlib.Core.Path.{_≡_, refl, sym, _∙_}
 use mathlib.Core.Bool.{Bool, true, false}
 use lib.Dec.{ltb, leb}
 use borrow.Author.Tests.{ltb-true, leb-true, leb-false, le-leb, lt-leb}
-use Rattle.node.specs.Choice.{pick, both, bothBelow}
+use Rattle.node.specs.Choice.{both, bothBelow}
 
 pub record Below (a x b y : ℕ) : Type 0 where
   pub first : a < x

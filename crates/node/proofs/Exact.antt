@@ -1,21 +1,21 @@
 -- The reader takes exactly what the writer writes.
-use Prim.Native.Nat.{ℕ, zero, suc, _+_, _≤_, _<_}
+use Prim.Native.Nat.{ℕ, suc, _+_, _≤_, _<_}
 use mathlib.Core.Path.{_≡_, refl, sym, ap, subst, _∙_}
 use mathlib.Core.Bool.{Bool, true, false}
 use mathlib.Core.List.{List, [], _∷_}
 use native.Mathlib.Omega.{arith}
-use lib.ListN.{length, getD, drop}
+use lib.ListN.{length}
 use lib.Dec.{ltb}
 use borrow.Author.Tests.{lt-ltb, le-ltb, ltb-true}
 use Rattle.node.specs.Choice.{pick}
 use Rattle.node.specs.Rows.{unitsAt, unitsOf, listOf}
-use Rattle.node.specs.Answers.{Answer, answer, done, noNode, Values, node, end, nothing, position, nodes}
-use Rattle.node.specs.Reading.{headFrom, fillers, stand, standAll, spelt, takeNode, readHere, readUnits, Exactly}
+use Rattle.node.specs.Answers.{answer, done, noNode, node, end, nothing, position}
+use Rattle.node.specs.Reading.{headFrom, stand, standAll, spelt, takeNode, readHere, readUnits, Exactly}
 use Rattle.node.specs.declared.Node.{Node}
 use Rattle.node.specs.declared.Units.{Units}
 use Rattle.node.specs.declared.Spelt.{Spelt}
 use Rattle.node.specs.declared.Spelt.the-variants.{Like, Unknown}
-use Rattle.node.proofs.Stands.{Holds, First, first-stands, all-held}
+use Rattle.node.proofs.Stands.{first-stands}
 use Rattle.node.proofs.Spells.{units-spell}
 
 -- What a node has that was read: its units stand at the head, and the position behind is behind them.
@@ -94,9 +94,29 @@ read-stands s p n st =
     let w : Within s (headFrom s p) (unitsAt (headFrom s p) n) = within s (headFrom s p) (unitsAt (headFrom s p) n) st in
     rw (lt-ltb (headFrom s p) (length s) (omega (arith, w .some, w .inside))) (here-read s (headFrom s p) n st)
 
+-- Where no node stands at a head, 12.
+pub here-fault : (s : List ℕ) (h : ℕ) → ((n : Node) → stand s h (unitsAt h n) ≡ true → ⊥) → readHere s h ≡ answer noNode nothing
+unfolding readHere takeNode
+here-fault s h never = spelt-case (spelt s h)
+  where
+    stand-case : (m : Node) (t : Bool) → stand s h (unitsAt h m) ≡ t
+        → pick t (answer done (node m (h + length (unitsAt h m)))) (answer noNode nothing) ≡ answer noNode nothing
+    stand-case m true e = absurd (never m e)
+    stand-case m false e = refl
+
+    spelt-case : (x : Spelt) → takeNode s h x ≡ answer noNode nothing
+    spelt-case (Like m) = stand-case m (stand s h (unitsAt h m)) refl
+    spelt-case Unknown = refl
+
 -- The reader's answer is exact.
 pub reads-exactly : (s : List ℕ) (p : ℕ) → Exactly s p (readUnits s p)
-reads-exactly s p = record { taken = read-stands s p; only = λ n q e. read-taken s p n q e .taken .stands }
+unfolding readUnits
+reads-exactly s p = record {
+  taken = read-stands s p;
+  only = λ n q e. read-taken s p n q e .taken .stands;
+  fault = λ before never. rw (lt-ltb (headFrom s p) (length s) before) (here-fault s (headFrom s p) never);
+  ended = λ past. rw (le-ltb (headFrom s p) (length s) past);
+}
 
 -- A read goes on, and stays within the store.
 pub record Onward (s : List ℕ) (p b : ℕ) : Type 0 where

@@ -4,9 +4,8 @@ use mathlib.Core.Path.{_≡_, refl, sym, ap, _∙_}
 use mathlib.Core.Bool.{Bool, true, false}
 use native.Mathlib.Omega.{arith}
 use lib.ListN.{length}
-use lib.Dec.{leb, eqb}
 use borrow.Author.Tests.{leb-false}
-use Rattle.node.specs.Choice.{pick, either}
+use Rattle.node.specs.Choice.{either}
 use Rattle.node.specs.Rows.{listOf, unfit, unfitRight, unitsOf, rowOf, countLimit, actionLimit}
 use Rattle.node.specs.declared.Right.{Right}
 use Rattle.node.specs.declared.Units.{Units}

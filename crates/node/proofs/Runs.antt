@@ -1,5 +1,5 @@
 -- Units one behind another: two at a time, in the store and put there.
-use Prim.Native.Nat.{ℕ, zero, suc, _+_, _≤_, _<_, min}
+use Prim.Native.Nat.{ℕ, _+_, _≤_, _<_, min}
 use mathlib.Core.Path.{_≡_, refl, sym, ap, _∙_}
 use mathlib.Core.Bool.{Bool, true, false}
 use mathlib.Core.List.{List, [], _∷_}
@@ -7,9 +7,9 @@ use native.Mathlib.Nat.{add-assoc}
 use native.Mathlib.Omega.{arith}
 use borrow.Author.Tests.{leb-true, leb-false, le-leb, lt-leb}
 use lib.Dec.{leb}
-use lib.ListN.{length, getD, set, take, length-set, length-take}
-use lib.Seq.{getD-set-same, getD-set-other, take-all, length-take-le}
-use Rattle.node.specs.Choice.{pick, both}
+use lib.ListN.{length, set, take, length-set, length-take}
+use lib.Seq.{take-all}
+use Rattle.node.specs.Choice.{both}
 use Rattle.node.specs.Rows.{listOf}
 use Rattle.node.specs.Answers.{answer, done, valueUnfit, outOfRoom, nothing, position}
 use Rattle.node.specs.Writing.{Outcome, usable, usableUnits, put, place, writeUnits}

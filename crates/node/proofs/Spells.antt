@@ -1,12 +1,12 @@
 -- The reader's table undoes the writer's: the units of a node, where they stand, spell that node.
-use Prim.Native.Nat.{ℕ, zero, suc, _+_, _-_, _*_, _/_, _%_, _≤_, _<_}
+use Prim.Native.Nat.{ℕ, _+_, _-_, _*_, _/_, _%_, _≤_, _<_}
 use mathlib.Core.Path.{_≡_, refl, sym, ap, _∙_}
 use mathlib.Core.Bool.{Bool, true, false}
 use mathlib.Core.List.{List, [], _∷_}
 use native.Mathlib.Omega.{arith}
-use lib.ListN.{length, getD}
+use lib.ListN.{getD}
 use lib.Dec.{ltb, leb, eqb}
-use borrow.Author.Tests.{lt-ltb, le-ltb, le-leb, lt-leb, eq-eqb, ne-eqb, leb-true, leb-false, ltb-true}
+use borrow.Author.Tests.{lt-ltb, le-ltb, le-leb, leb-true, ltb-true}
 use Rattle.node.specs.Choice.{pick, both, bothBelow}
 use Rattle.node.specs.Rows.{distance, unitsOf, unitsAt, listOf, rowOf, sumRow, longProduct, aloneRow, pairRow, productRow, leafRow, unfit, unfitRight, low, high, allOnes, countLimit, actionLimit}
 use Rattle.node.specs.Reading.{factorAt, alone, paired, longRight, valueAt, nearSpelt, leafSpelt, longSpelt, speltBy, spelt, stand}
@@ -14,12 +14,10 @@ use Rattle.node.specs.declared.Right.{Right}
 use Rattle.node.specs.declared.Right.the-variants.{At, Nothing}
 use Rattle.node.specs.declared.Node.{Node}
 use Rattle.node.specs.declared.Node.the-variants.{Sum, Product, NullingLeaf, Evaluated}
-use Rattle.node.specs.declared.Units.{Units}
-use Rattle.node.specs.declared.Units.the-variants.{Unfit, One, Two, Four, Six}
-use Rattle.node.specs.declared.Spelt.{Spelt}
-use Rattle.node.specs.declared.Spelt.the-variants.{Like, Unknown}
+use Rattle.node.specs.declared.Units.the-variants.{Unfit, One, Two, Four}
+use Rattle.node.specs.declared.Spelt.the-variants.{Like}
 use Rattle.node.proofs.Choices.{Below, below, Both, both-true}
-use Rattle.node.proofs.Fit.{fit-sum, fit-product, fit-row, either-second}
+use Rattle.node.proofs.Fit.{fit-sum, fit-product, either-second}
 use Rattle.node.proofs.Stands as S
 
 -- A distance that a row has room for leads back to its factor.
@@ -50,7 +48,7 @@ module _ (s : List ℕ) (q x : ℕ) where
       let m : x % 256 ≡ a = omega arith in
       simp (lt-ltb x 0x8000 (omega arith), le-ltb x 0x2000 (omega arith), lt-ltb x 0x4000 (omega arith), k, m, back)
 
-  middle-alone :
+  pub middle-alone :
       (d a f : ℕ) → d < 8192 → x ≡ 0x4000 + d → getD s (q + 1) 0 ≡ a → factorAt q d ≡ At f → speltBy s q x ≡ Like (Product a f Nothing)
   unfolding nearSpelt alone
   middle-alone d a f hd e action back =
@@ -102,11 +100,11 @@ module _ (s : List ℕ) (q x : ℕ) where
         k,
       )
 
-  wide-evaluated : (n : ℕ) → x ≡ 0xA000 → valueAt s (q + 2) ≡ n → speltBy s q x ≡ Like (Evaluated n)
+  pub wide-evaluated : (n : ℕ) → x ≡ 0xA000 → valueAt s (q + 2) ≡ n → speltBy s q x ≡ Like (Evaluated n)
   unfolding leafSpelt
   wide-evaluated n e v = rw (e, v)
 
-  wide-nulling : (n : ℕ) → x ≡ 0xA001 → valueAt s (q + 2) ≡ n → speltBy s q x ≡ Like (NullingLeaf n)
+  pub wide-nulling : (n : ℕ) → x ≡ 0xA001 → valueAt s (q + 2) ≡ n → speltBy s q x ≡ Like (NullingLeaf n)
   unfolding leafSpelt
   wide-nulling n e v = rw (e, v)
 
@@ -118,7 +116,7 @@ module _ (s : List ℕ) (q x : ℕ) where
       let k : (x - 0xC000) * 65536 + getD s (q + 1) 0 ≡ a = omega arith in
       simp (le-ltb x 0x8000 (omega arith), le-ltb x 0xC000 (omega arith), lt-ltb x 0xE000 (omega arith), k, left, right)
 
-  long-sum :
+  pub long-sum :
       (c n : ℕ) → c < 0x10000000 → x ≡ 0xE000 + high c → getD s (q + 1) 0 ≡ low c → valueAt s (q + 2) ≡ n
       → speltBy s q x ≡ Like (Sum c n)
   unfolding longSpelt
@@ -127,8 +125,17 @@ module _ (s : List ℕ) (q x : ℕ) where
       simp (le-ltb x 0x8000 (omega arith), le-ltb x 0xC000 (omega arith), le-ltb x 0xE000 (omega arith), k, symbol)
 
 -- The two halves of a value make it up.
-halves : (x : ℕ) → high x * 65536 + low x ≡ x
+pub halves : (x : ℕ) → high x * 65536 + low x ≡ x
 halves x = omega arith
+
+-- A right factor that is not all ones is present in the longest Product; all ones are none.
+pub long-present : (r : ℕ) → eqb r allOnes ≡ false → longRight (high r * 65536 + low r) ≡ At r
+unfolding longRight
+long-present r present = ap longRight (halves r) ∙ rw present
+
+pub long-none : longRight (high allOnes * 65536 + low allOnes) ≡ Nothing
+unfolding longRight
+long-none = refl
 
 module _ (s : List ℕ) (q : ℕ) where
   sum-spells : (c n : ℕ) → c < countLimit → stand s q (listOf (sumRow c n)) ≡ true → spelt s q ≡ Like (Sum c n)
@@ -145,7 +152,7 @@ module _ (s : List ℕ) (q : ℕ) where
           let f : S.Four s q (0xE000 + high c) (low c) (high n * 65536 + low n) = S.four-stand s q _ _ _ _ _ st in
           long-sum s q _ c n h (f .head) (f .second) (f .value ∙ halves n)
 
-  product-spells :
+  pub product-spells :
       (a l v : ℕ) (r : Right) → a < actionLimit → longRight (high v * 65536 + low v) ≡ r → stand s q (listOf (longProduct a l v)) ≡ true
       → spelt s q ≡ Like (Product a l r)
   unfolding longProduct stand
@@ -155,7 +162,7 @@ module _ (s : List ℕ) (q : ℕ) where
       ∙ right)
 
   alone-spells : (a l : ℕ) → a < actionLimit → stand s q (listOf (aloneRow q a l)) ≡ true → spelt s q ≡ Like (Product a l Nothing)
-  unfolding aloneRow stand longRight
+  unfolding aloneRow stand
   alone-spells a l h st = short (bothBelow (distance q l) 32 a 256) refl st
     where
       middle : (t : Bool) → bothBelow (distance q l) 8192 a 65536 ≡ t
@@ -165,7 +172,7 @@ module _ (s : List ℕ) (q : ℕ) where
           let f : S.First s q (0x4000 + distance q l) (a ∷ []) = S.first-stands s q _ _ st in
           middle-alone s q _ (distance q l) a l (b .first) (f .first .there) (S.first-stands s (q + 1) _ _ (f .others) .first .there)
           (factor-back q l (b .first))
-      middle false e st = product-spells a l allOnes Nothing h refl st
+      middle false e st = product-spells a l allOnes Nothing h long-none st
 
       short : (t : Bool) → bothBelow (distance q l) 32 a 256 ≡ t
           → stand s q (listOf (pick t (One (0x2000 + distance q l * 256 + a))
@@ -180,7 +187,7 @@ module _ (s : List ℕ) (q : ℕ) where
   pair-spells :
       (a l r : ℕ) → a < actionLimit → eqb r allOnes ≡ false → stand s q (listOf (pairRow q a l r)) ≡ true
       → spelt s q ≡ Like (Product a l (At r))
-  unfolding pairRow stand longRight
+  unfolding pairRow stand
   pair-spells a l r h present st = on (both (ltb a 65536) (bothBelow (distance q r) 32 (distance q l) 256)) refl st
     where
       on : (t : Bool) → both (ltb a 65536) (bothBelow (distance q r) 32 (distance q l) 256) ≡ t
@@ -194,7 +201,7 @@ module _ (s : List ℕ) (q : ℕ) where
           (S.first-stands s (q + 1) _ _ (f .others) .first .there)
           (factor-back q l (omega (arith, b .second))) (factor-back q r (omega (arith, b .first)))
       on false e st =
-          product-spells a l r (At r) h (ap longRight (halves r) ∙ rw present) st
+          product-spells a l r (At r) h (long-present r present) st
 
   leaf-spells :
       (leaf : ℕ → Node) (short wide n : ℕ)

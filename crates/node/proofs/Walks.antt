@@ -1,10 +1,10 @@
 -- The walk, read by read.
-use Prim.Native.Nat.{ℕ, zero, suc, _+_, _≤_, _<_}
-use mathlib.Core.Path.{_≡_, refl, sym, ap, _∙_}
+use Prim.Native.Nat.{ℕ, zero, suc, _+_, _<_}
+use mathlib.Core.Path.{_≡_, refl, ap, _∙_}
 use mathlib.Core.List.{List}
 use native.Mathlib.Omega.{arith}
 use lib.ListN.{length}
-use Rattle.node.specs.Answers.{Answer, answer, done, noNode, Values, node, end, nothing, position, nodes}
+use Rattle.node.specs.Answers.{Answer, answer, done, noNode, node, end, nothing, position, nodes}
 use Rattle.node.specs.Reading.{readUnits}
 use Rattle.node.specs.Walking.{goOn, walkOn, walkFrom}
 use Rattle.node.specs.declared.Node.{Node}

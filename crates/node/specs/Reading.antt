@@ -1,5 +1,5 @@
 -- Reading one node: fillers are skipped, then the node stands there whose units, written at that very position, are the units there.
-use Prim.Native.Nat.{ℕ, suc, _+_, _-_, _*_, _/_, _%_}
+use Prim.Native.Nat.{ℕ, suc, _+_, _-_, _*_, _/_, _%_, _≤_, _<_}
 use mathlib.Core.Path.{_≡_}
 use mathlib.Core.Bool.{Bool, true, false}
 use mathlib.Core.List.{List, [], _∷_}
@@ -112,9 +112,12 @@ readUnits s p = pick (ltb (headFrom s p) (length s)) (readHere s (headFrom s p))
 abbrev pub readAt : List ℕ → ℕ → Answer
 readAt store p = readUnits (usable store) p
 
--- The reader takes exactly what the writer writes: it answers a node where that node's units, written at the position behind the fillers,
--- stand there, and 12 where no node's do.
+-- The reader takes exactly what the writer writes: behind the fillers stands a node where that node's units, written at that very
+-- position, are the units there. Where no node's are, the answer is 12, and where no unit is left, the end.
 pub record Exactly (s : List ℕ) (p : ℕ) (r : Answer) : Type 0 where
   pub taken : (n : Node) → stand s (headFrom s p) (unitsAt (headFrom s p) n) ≡ true
       → r ≡ answer done (node n (headFrom s p + length (unitsAt (headFrom s p) n)))
   pub only : (n : Node) (q : ℕ) → r ≡ answer done (node n q) → stand s (headFrom s p) (unitsAt (headFrom s p) n) ≡ true
+  pub fault : headFrom s p < length s → ((n : Node) → stand s (headFrom s p) (unitsAt (headFrom s p) n) ≡ true → ⊥)
+      → r ≡ answer noNode nothing
+  pub ended : length s ≤ headFrom s p → r ≡ answer done end

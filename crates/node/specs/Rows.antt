@@ -1,6 +1,6 @@
 -- The units of a node at a position: document 01's table, the first row that fits, in its order.
 use Prim.Native.Nat.{ℕ, _+_, _-_, _*_, _/_, _%_}
-use mathlib.Core.Bool.{Bool, true, false}
+use mathlib.Core.Bool.{Bool, false}
 use mathlib.Core.List.{List, [], _∷_}
 use lib.Dec.{ltb, leb, eqb}
 use Rattle.node.specs.Choice.{pick, both, either, bothBelow}

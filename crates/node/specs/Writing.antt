@@ -1,6 +1,5 @@
 -- Writing one node: the position behind it, 10 before 11, and no other unit changed.
-use Prim.Native.Nat.{ℕ, suc, _+_}
-use mathlib.Core.Bool.{Bool, true, false}
+use Prim.Native.Nat.{ℕ, _+_}
 use mathlib.Core.List.{List, [], _∷_}
 use lib.ListN.{length, set, take}
 use lib.Dec.{leb}

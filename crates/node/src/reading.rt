@@ -96,7 +96,7 @@ fn read_here(s: &[u16], q: usize) -> Found
     if stand(s, q, units) {
         return Found::Whole(node, q + width(units));
     }
-    Found::NoNode
+    Found::NoNode // cut off, unfit, or in another form than its own
 }
 
 // The first node from p on.
