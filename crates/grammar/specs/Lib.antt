@@ -2,3 +2,4 @@
 pub mod Rules
 pub mod Sentences
 pub mod Accepted
+pub mod Prediction

@@ -1,0 +1,3 @@
+-- From derivations to the sets of a parse, in the order of the argument.
+pub mod Spans
+pub mod Predictions
