@@ -1,3 +1,5 @@
 -- From derivations to the sets of a parse, in the order of the argument.
 pub mod Spans
 pub mod Predictions
+pub mod Viable
+pub mod Charts

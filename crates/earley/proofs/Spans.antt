@@ -100,3 +100,7 @@ pub whole-derives : {g : Grammar} {a : List ℕ} {x : ℕ} → Span g a x 0 (len
 whole-derives {g} {a} {x} d =
     let p = span-derives d in
     subst (λ (w : List ℕ). Derives g x w) (p .leads ∙ take-length a) (p .derives)
+
+-- Every derived string has at least one token; so the empty string is no sentence.
+pub derives-some : {g : Grammar} {x : ℕ} (w : List ℕ) → Derives g x w → 0 < length w
+derives-some w d = span-forward (spans-whole d)
