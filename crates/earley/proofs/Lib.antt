@@ -3,3 +3,4 @@ pub mod Spans
 pub mod Predictions
 pub mod Viable
 pub mod Charts
+pub mod Steps

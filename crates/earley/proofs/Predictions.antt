@@ -36,6 +36,13 @@ item {g} {a} {q = q} {p = p} h n d s = record {
   spans = subst (λ y. Span g a y q p) (sym (h .first)) s;
 }
 
+-- What an item of a rule `x ::= y z` says.
+pub item-two : {g : Grammar} {a : List ℕ} {r x y z q p : ℕ} → Says g r x y z → Item g a r q p → z ≢ none
+item-two h i e = i .two (h .second ∙ e)
+
+pub item-spans : {g : Grammar} {a : List ℕ} {r x y z q p : ℕ} → Says g r x y z → Item g a r q p → Span g a y q p
+item-spans {g} {a} {q = q} {p = p} h i = subst (λ y. Span g a y q p) (h .first) (i .spans)
+
 -- An item predicts its second symbol where it stands.
 pub item-predicts : {g : Grammar} {a : List ℕ} {r q p : ℕ} → Item g a r q p → Pred g a (ruleAt g r .second) p
 item-predicts i = second (says (i .there)) (i .two) (i .predicted) (i .spans)
