@@ -4,3 +4,4 @@ pub mod Predictions
 pub mod Viable
 pub mod Charts
 pub mod Steps
+pub mod Token
