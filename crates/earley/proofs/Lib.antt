@@ -4,4 +4,6 @@ pub mod Predictions
 pub mod Viable
 pub mod Charts
 pub mod Steps
+pub mod Next
 pub mod Token
+pub mod Answers

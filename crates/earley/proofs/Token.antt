@@ -11,34 +11,8 @@ use Rattle.grammar.specs.Prediction.{Reaches, itself, further}
 use Rattle.earley.proofs.Spans.{Span, span-forward}
 use Rattle.earley.proofs.Predictions.{Pred, Item, says, item, item-predicts, item-grows, pred-grows, reaches-pred, reaches-first}
 use Rattle.earley.proofs.Charts.{Chart, Live, Found, Holds, live-set, set-inside}
+use Rattle.earley.proofs.Next.{Stored, Led, Next, kept-within, kept-row-true, kept-row-there, new-origins}
 use Rattle.earley.proofs.Steps.{Done, Pass, DoneAt, pass-all, done-live, done-span, row-at, item-at, span-done}
-
--- A rule x ::= y z is stored with origin `o`: (o, y) is completed, and row o has y and x.
-pub record Stored (g : Grammar) (c : Chart) (done : ℕ → ℕ → Type 0) (o r : ℕ) : Type 0 where
-  pub there : r < ruleCount g
-  pub two : ruleAt g r .second ≢ none
-  pub completed : done o (ruleAt g r .first)
-  pub first : c .row o (ruleAt g r .first)
-  pub left : c .row o (ruleAt g r .left)
-
--- `x` is reached from the second symbol of an item of set `s`.
-pub record Led (g : Grammar) (c : Chart) (s x : ℕ) : Type 0 where
-  pub origin : ℕ
-  pub rule : ℕ
-  pub item : c .item s origin rule
-  pub reaches : Reaches g (ruleAt g rule .second) x
-
--- The chart after a token. The sets 0..kept stay, and one new set comes behind them: what is stored, and the row that it leads to.
--- Where sets are dropped no new item begins at set `kept`, and that set's row may be cleared.
-pub record Next (g : Grammar) (c : Chart) (done : ℕ → ℕ → Type 0) (kept : ℕ) (c′ : Chart) : Type 0 where
-  pub within : kept ≤ c .last
-  pub last : c′ .last ≡ suc kept
-  pub items : {s o r : ℕ} → s ≤ kept → c′ .item s o r ↔ c .item s o r
-  pub row-true : {s x : ℕ} → s ≤ kept → c′ .row s x → c .row s x
-  pub row-there : {s x : ℕ} → s ≤ kept → (s < kept) ⊎ (kept ≡ c .last) → c .row s x → c′ .row s x
-  pub new-items : {o r : ℕ} → c′ .item (suc kept) o r ↔ Stored g c done o r
-  pub new-origins : {o r : ℕ} → kept < c .last → Stored g c done o r → o < kept
-  pub new-row : {x : ℕ} → c′ .row (suc kept) x ↔ Led g c′ (suc kept) x
 
 -- What is predicted at a place behind the first token is reached from an item that stands there.
 pred-led : {g : Grammar} {a : List ℕ} {c : Chart} {s m x p : ℕ} {pos : ℕ → ℕ} → ((r q : ℕ) → Item g a r q m → Found c pos s r q) → 0 < m
@@ -98,10 +72,10 @@ module _ {g : Grammar} {a : List ℕ} {c c′ : Chart} {t kept : ℕ} {done : �
   stored-stays {o} s =
       let l : Live c o = done-live (pass .sound (s .completed)) in
       let m : o ≤ c .last = live-set h l in
-      let w = next .within in
+      let w = kept-within next in
       elim (decLe (c .last) kept) [
         | yes k ↦ record { live = l; within = omega arith; whole = inr (omega arith) }
-        | no k ↦ (let b : o < kept = next .new-origins (omega arith) s in record { live = l; within = omega arith; whole = inl b })
+        | no k ↦ (let b : o < kept = new-origins next (omega arith) s in record { live = l; within = omega arith; whole = inl b })
       ]
 
   live-cases : {s : ℕ} → Live c′ s → (s ≡ suc kept) ⊎ Stays c kept s
@@ -147,12 +121,12 @@ module _ {g : Grammar} {a : List ℕ} {c c′ : Chart} {t kept : ℕ} {done : �
 
   rises : (s u : ℕ) → s < u → u ≤ suc kept → later h kept s < later h kept u
   rises s u l m = next-cases kept u m
-      (λ k. let w = next .within in
+      (λ k. let w = kept-within next in
       let b = h .rising s u l (omega arith) in
       let e = old-stands {s = s} (omega arith) in
       let f = old-stands k in
       omega arith)
-      (λ k. let w = next .within in
+      (λ k. let w = kept-within next in
       let b = set-inside {s = s} h (omega arith) in
       let e = old-stands {s = s} (omega arith) in
       rw k (rw new-stands (omega arith)))
@@ -163,12 +137,12 @@ module _ {g : Grammar} {a : List ℕ} {c c′ : Chart} {t kept : ℕ} {done : �
 
   item-older : (s o r : ℕ) → s ≤ suc kept → c′ .item s o r → o < s
   item-older s o r m i = next-cases kept s m
-      (λ l. let w = next .within in h .older (omega arith) (next .items l .0 i))
+      (λ l. let w = kept-within next in h .older (omega arith) (next .items l .0 i))
       (λ e. let b = stored-stays (is-stored e i) .within in omega arith)
 
   item-right : (s o r : ℕ) → s ≤ suc kept → c′ .item s o r → Item g (a ++ t ∷ []) r (later h kept o) (later h kept s)
   item-right s o r m i = next-cases kept s m
-      (λ l. let w = next .within in
+      (λ l. let w = kept-within next in
       let j = next .items l .0 i in
       let b = h .older (omega arith) j in
       subst₂ (Item g (a ++ t ∷ []) r) (sym (old-stands (omega arith))) (sym (old-stands l)) (item-grows (t ∷ []) (h .item-true (omega arith) j)))
@@ -177,8 +151,8 @@ module _ {g : Grammar} {a : List ℕ} {c c′ : Chart} {t kept : ℕ} {done : �
 
   row-right : (s x : ℕ) → s ≤ suc kept → c′ .row s x → Pred g (a ++ t ∷ []) x (later h kept s)
   row-right s x m i = next-cases kept s m
-      (λ l. let w = next .within in
-      subst (Pred g (a ++ t ∷ []) x) (sym (old-stands l)) (pred-grows (t ∷ []) (h .row-true (omega arith) (next .row-true l i))))
+      (λ l. let w = kept-within next in
+      subst (Pred g (a ++ t ∷ []) x) (sym (old-stands l)) (pred-grows (t ∷ []) (h .row-true (omega arith) (kept-row-true next l i))))
       (λ e. let d = next .new-row .0 (subst (λ n. c′ .row n x) e i) in
       let j = item-right (suc kept) (d .origin) (d .rule) (omega arith) (d .item) in
       rw e (reaches-pred (d .reaches) (item-predicts j)))
@@ -196,7 +170,7 @@ module _ {g : Grammar} {a : List ℕ} {c c′ : Chart} {t kept : ℕ} {done : �
   row-complete : (s x : ℕ) → Live c′ s → Pred g (a ++ t ∷ []) x (later h kept s) → c′ .row s x
   row-complete s x l d = ⊎-elim
       (λ e. rw e (next .new-row .1 (pred-led item-stored (omega arith) d (ap (later h kept) e ∙ new-stands))))
-      (λ (y : Stays c kept s). next .row-there (y .within) (y .whole) (row-at h (t ∷ []) (y .live) (sym (old-stands (y .within))) d))
+      (λ (y : Stays c kept s). kept-row-there next (y .within) (y .whole) (row-at h (t ∷ []) (y .live) (sym (old-stands (y .within))) d))
       (live-cases l)
 
   -- THE INVARIANT GOES ON: the chart after a token holds for the tokens and it.
