@@ -43,7 +43,7 @@ pub record Holds (g : Grammar) (a : List ℕ) (c : Chart) : Type 0 where
   pub row-there : {s x : ℕ} → Live c s → Pred g a x (pos s) → c .row s x
 
 -- A live set is one of the sets, where items lie behind their origins.
-live-below : {c : Chart} {s : ℕ} → ((s o r : ℕ) → s ≤ c .last → c .item s o r → o < s) → Live c s → s ≤ c .last
+pub live-below : {c : Chart} {s : ℕ} → ((s o r : ℕ) → s ≤ c .last → c .item s o r → o < s) → Live c s → s ≤ c .last
 live-below older Live.latest = omega arith
 live-below older (Live.origin l i) =
     let k = live-below older l in

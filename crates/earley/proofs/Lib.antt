@@ -7,3 +7,4 @@ pub mod Steps
 pub mod Next
 pub mod Token
 pub mod Answers
+pub mod Dropping
