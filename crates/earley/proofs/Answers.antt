@@ -1,17 +1,17 @@
 -- What a chart that holds tells of sentences: its latest row, and rule 0 in its latest set.
-use mathlib.Core.Path.{_≡_, refl, sym, _∙_, ap, subst}
+use mathlib.Core.Path.{_≡_, sym, subst}
 use mathlib.Core.List.{List, [], _∷_, _++_}
-use mathlib.Core.Logic.{_≢_, _↔_, _⊎_, inl, inr, ⊎-elim}
-use Prim.Native.Nat.{ℕ, zero, suc, _+_, _≤_, _<_}
+use mathlib.Core.Logic.{_↔_, _⊎_, inl, inr, ⊎-elim}
+use Prim.Native.Nat.{ℕ, _≤_, _<_}
 use native.Mathlib.Decide.{decLe}
 use native.Mathlib.Omega.{arith}
-use lib.ListN.{length}
-use Rattle.grammar.specs.Rules.{Grammar, none, ruleCount, ruleAt, wrapper, endMark}
+use Rattle.grammar.specs.Rules.{Grammar, ruleAt}
 use Rattle.grammar.specs.Sentences.{Sentence, Begins}
 use Rattle.grammar.specs.Accepted.{Accepted}
 use Rattle.earley.proofs.Predictions.{Pred, Item, says}
-use Rattle.earley.proofs.Viable.{Outer, Inner, which, pred-viable, viable-pred, item-sentence, item-first}
-use Rattle.earley.proofs.Charts.{Chart, Live, Found, Holds}
+use Rattle.earley.proofs.Wrapper.{which}
+use Rattle.earley.proofs.Viable.{pred-viable, viable-pred, item-sentence, item-first}
+use Rattle.earley.proofs.Charts.{Chart, Live, Holds}
 
 -- EXACTLY THE VIABLE TOKENS: the latest row has the tokens that some sentence goes on with.
 pub row-viable : {g : Grammar} {a : List ℕ} {c : Chart} {t : ℕ} → Accepted g → Holds g a c → t < g .tokens
@@ -27,7 +27,8 @@ pub record Wrapped (c : Chart) : Type 0 where
   pub item : c .item (c .last) origin 0
 
 -- Such an item begins at set 0.
-pub wrapped-origin : {g : Grammar} {a : List ℕ} {c : Chart} {s o : ℕ} → Accepted g → Holds g a c → s ≤ c .last → c .item s o 0 → o ≡ 0
+pub wrapped-origin : {g : Grammar} {a : List ℕ} {c : Chart} {s o : ℕ} → Accepted g → Holds g a c → s ≤ c .last → c .item s o 0
+    → o ≡ 0
 wrapped-origin {o = o} acc h l i =
     let e = item-first acc (h .item-true l i) in
     let m = h .older l i in
@@ -45,14 +46,15 @@ wrapped-sentence {g} {a} {c} acc h = (
       record { origin = f .origin; item = f .item },
 )
 
--- An item of another rule has a smaller second symbol than rule 0: the end mark is the greatest symbol and stands in rule 0 alone.
+-- THE END MARK IS LAST: an item is rule 0's, with origin 0, or has a second symbol below the end mark. The end mark is the greatest
+-- symbol and stands in rule 0 alone; so in the order by second, rule and origin rule 0's item is the greatest.
 pub end-greatest : {g : Grammar} {a : List ℕ} {c : Chart} {s o r : ℕ} → Accepted g → Holds g a c → s ≤ c .last → c .item s o r
-    → (r ≡ 0) ⊎ (ruleAt g r .second < ruleAt g 0 .second)
-end-greatest {g} {r = r} acc h l i =
+    → ((r ≡ 0) × (o ≡ 0)) ⊎ (ruleAt g r .second < ruleAt g 0 .second)
+end-greatest {g} {c = c} {s = s} {o = o} {r = r} acc h l i =
     let m = h .item-true l i in
     ⊎-elim
-    (λ (u : Outer g _ _ _ _). inl (u .number))
-    (λ (n : Inner g _ _ _ _).
+    (λ u. inl (u .number, wrapped-origin acc h l (subst (c .item s o) (u .number) i)))
+    (λ n.
     ⊎-elim
     (λ e. absurd (m .two e))
     (λ b. inr (let e = acc .wraps .second in let k = acc .room in omega arith))

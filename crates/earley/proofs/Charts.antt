@@ -1,14 +1,14 @@
 -- A chart of sets, as a parse holds it, and what it must have to do with the ideal chart.
-use mathlib.Core.Path.{_≡_, refl, sym, _∙_, ap, subst}
+use mathlib.Core.Path.{_≡_, refl, sym, subst}
 use mathlib.Core.List.{List, []}
 use mathlib.Core.Logic.{_↔_}
-use Prim.Native.Nat.{ℕ, zero, suc, _+_, _≤_, _<_}
+use Prim.Native.Nat.{ℕ, _≤_, _<_}
 use native.Mathlib.Decide.{decLe}
 use native.Mathlib.Omega.{arith}
 use lib.ListN.{length}
 use Rattle.grammar.specs.Rules.{Grammar, wrapper}
-use Rattle.grammar.specs.Prediction.{Reaches, itself, further}
-use Rattle.earley.proofs.Spans.{Span, span-forward, span-inside}
+use Rattle.grammar.specs.Prediction.{Reaches, itself}
+use Rattle.earley.proofs.Spans.{span-forward, span-inside}
 use Rattle.earley.proofs.Predictions.{Pred, Item, reaches-pred, reaches-first}
 
 -- Sets 0..last, each with items (origin and rule) and a row of symbols.

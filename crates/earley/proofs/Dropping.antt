@@ -2,11 +2,11 @@
 use mathlib.Core.Path.{_≡_, refl, sym, _∙_, ap, subst}
 use mathlib.Core.List.{List}
 use mathlib.Core.Logic.{_↔_}
-use Prim.Native.Nat.{ℕ, suc, _≤_, _<_}
+use Prim.Native.Nat.{ℕ, _≤_, _<_}
 use native.Mathlib.Decide.{decLe}
 use native.Mathlib.Omega.{arith}
 use Rattle.grammar.specs.Rules.{Grammar}
-use Rattle.earley.proofs.Charts.{Chart, Live, Found, Holds, live-below}
+use Rattle.earley.proofs.Charts.{Chart, Live, Holds, live-below}
 
 -- The item of set `s` whose origin had the number `o`.
 pub record Renamed (c′ : Chart) (was : ℕ → ℕ) (s o r : ℕ) : Type 0 where

@@ -43,29 +43,28 @@ pub record Next (g : Grammar) (c : Chart) (done : ℕ → ℕ → Type 0) (kept 
   pub new-items : {o r : ℕ} → c′ .item (suc kept) o r ↔ Stored g c done o r
   pub new-row : {x : ℕ} → c′ .row (suc kept) x ↔ Led g c′ (suc kept) x
 
--- What stays is as it was, but that a row may be cleared where no new item begins.
 module _ {g : Grammar} {c c′ : Chart} {kept : ℕ} {done : ℕ → ℕ → Type 0} (next : Next g c done kept c′) where
+  -- Only sets of the old chart stay.
   pub kept-within : kept ≤ c .last
-  kept-within = ⊎-elim (λ (u : Unpruned c kept c′). let e = u .all in omega arith) (λ (p : Pruned g c done kept c′). let l = p .fewer in omega arith) (next .pruning)
+  kept-within = ⊎-elim (λ u. let e = u .all in omega arith) (λ p. let l = p .fewer in omega arith) (next .pruning)
 
+  -- Where sets are dropped, no new item begins at the last that stays.
+  pub new-origins : {o r : ℕ} → kept < c .last → Stored g c done o r → o < kept
+  new-origins l s = ⊎-elim (λ u. let e = u .all in absurd (omega arith)) (λ p. p .origins s) (next .pruning)
+
+  -- A row that stays has nothing new.
   pub kept-row-true : {s x : ℕ} → s ≤ kept → c′ .row s x → c .row s x
   kept-row-true {s} {x} l i = elim (decLt s kept) [ yes m ↦ next .rows m .0 i | no m ↦ at-kept (omega arith) ]
     where
       at-kept : s ≡ kept → c .row s x
-      at-kept e =
-          rw e
-          (⊎-elim (λ (u : Unpruned c kept c′). u .row .0 (rw e at i)) (λ (p : Pruned g c done kept c′). absurd (p .row (rw e at i))) (next .pruning))
+      at-kept e = rw e (⊎-elim (λ u. u .row .0 (rw e at i)) (λ p. absurd (p .row (rw e at i))) (next .pruning))
 
+  -- And it has all that it had, but where sets are dropped and it is the last.
   pub kept-row-there : {s x : ℕ} → s ≤ kept → (s < kept) ⊎ (kept ≡ c .last) → c .row s x → c′ .row s x
   kept-row-there {s} {x} l whole i = elim (decLt s kept) [ yes m ↦ next .rows m .1 i | no m ↦ at-kept (omega arith) ]
     where
-      at-kept : s ≡ kept → c′ .row s x
-      at-kept e =
-          rw e
-          (⊎-elim
-          (λ (u : Unpruned c kept c′). u .row .1 (rw e at i))
-          (λ (p : Pruned g c done kept c′). let f = p .fewer in absurd (⊎-elim (λ m. omega arith) (λ m. omega arith) whole))
-          (next .pruning))
+      not-dropped : kept < c .last → s ≡ kept → ⊥
+      not-dropped f e = ⊎-elim (λ m. omega arith) (λ m. omega arith) whole
 
-  pub new-origins : {o r : ℕ} → kept < c .last → Stored g c done o r → o < kept
-  new-origins l s = ⊎-elim (λ (u : Unpruned c kept c′). let e = u .all in absurd (omega arith)) (λ (p : Pruned g c done kept c′). p .origins s) (next .pruning)
+      at-kept : s ≡ kept → c′ .row s x
+      at-kept e = rw e (⊎-elim (λ u. u .row .1 (rw e at i)) (λ p. absurd (not-dropped (p .fewer) e)) (next .pruning))

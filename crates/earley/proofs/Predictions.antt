@@ -1,9 +1,9 @@
 -- The ideal chart over a token list: what is predicted where, and which rules have their first symbol behind them.
 -- No sets, no words and no pruning.
-use mathlib.Core.Path.{_≡_, refl, sym, _∙_, subst}
+use mathlib.Core.Path.{refl, sym, _∙_, subst}
 use mathlib.Core.List.{List, _++_}
 use mathlib.Core.Logic.{_≢_}
-use Prim.Native.Nat.{ℕ, zero, suc, _+_, _≤_, _<_}
+use Prim.Native.Nat.{ℕ, _≤_, _<_}
 use native.Mathlib.Omega.{arith}
 use lib.ListN.{length}
 use Rattle.grammar.specs.Rules.{Grammar, Says, none, ruleCount, ruleAt, wrapper}

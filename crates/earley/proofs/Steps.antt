@@ -1,14 +1,13 @@
 -- What the steps complete when a token comes, and that it is exactly the spans of the ideal chart that end behind it.
-use mathlib.Core.Path.{_≡_, refl, sym, _∙_, ap, subst}
+use mathlib.Core.Path.{_≡_, sym, _∙_, ap, subst}
 use mathlib.Core.List.{List, [], _∷_, _++_}
-use mathlib.Core.Logic.{_≢_}
-use Prim.Native.Nat.{ℕ, zero, suc, _+_, _≤_, _<_}
+use Prim.Native.Nat.{ℕ, suc, _≤_, _<_}
 use native.Mathlib.Omega.{arith}
-use lib.ListN.{length, getD, length-append, List·getD-append}
+use lib.ListN.{length, getD, length-append}
 use lib.Seq.{getD-append-seam}
-use Rattle.grammar.specs.Rules.{Grammar, Says, none, ruleCount, ruleAt}
-use Rattle.earley.proofs.Spans.{Span, span-forward, span-grows}
-use Rattle.earley.proofs.Predictions.{Pred, Item, item, says, item-two, item-spans, pred-shrinks, item-shrinks}
+use Rattle.grammar.specs.Rules.{Grammar, Says, none}
+use Rattle.earley.proofs.Spans.{Span, span-grows}
+use Rattle.earley.proofs.Predictions.{Pred, Item, item, item-two, item-spans, pred-shrinks, item-shrinks}
 use Rattle.earley.proofs.Charts.{Chart, Live, Found, Holds, live-set, set-inside}
 
 -- `Done g c t k x`: with the token `t` the steps complete (k, x). First (e, t); and of a completed (k, y) with y in row k,

@@ -1,22 +1,23 @@
 -- A token keeps the invariant: the new set has exactly the ideal items and predictions, and what pruning drops is not live.
 use mathlib.Core.Path.{_≡_, refl, sym, _∙_, ap, subst, subst₂}
 use mathlib.Core.List.{List, [], _∷_, _++_}
-use mathlib.Core.Logic.{_≢_, _↔_, _⊎_, inl, inr, ⊎-elim}
-use Prim.Native.Nat.{ℕ, zero, suc, _+_, _≤_, _<_}
+use mathlib.Core.Logic.{_⊎_, inl, inr, ⊎-elim}
+use Prim.Native.Nat.{ℕ, suc, _≤_, _<_}
 use native.Mathlib.Decide.{decLe}
 use native.Mathlib.Omega.{arith}
 use lib.ListN.{length, length-append}
-use Rattle.grammar.specs.Rules.{Grammar, Says, none, ruleCount, ruleAt}
-use Rattle.grammar.specs.Prediction.{Reaches, itself, further}
-use Rattle.earley.proofs.Spans.{Span, span-forward}
+use Rattle.grammar.specs.Rules.{Grammar, ruleAt}
+use Rattle.grammar.specs.Prediction.{itself}
+use Rattle.earley.proofs.Spans.{Span}
 use Rattle.earley.proofs.Predictions.{Pred, Item, says, item, item-predicts, item-grows, pred-grows, reaches-pred, reaches-first}
+use Rattle.earley.proofs.Places.{upTo, upTo-old, upTo-new, next-cases}
 use Rattle.earley.proofs.Charts.{Chart, Live, Found, Holds, live-set, set-inside}
 use Rattle.earley.proofs.Next.{Stored, Led, Next, kept-within, kept-row-true, kept-row-there, new-origins}
-use Rattle.earley.proofs.Steps.{Done, Pass, DoneAt, pass-all, done-live, done-span, row-at, item-at, span-done}
+use Rattle.earley.proofs.Steps.{Pass, DoneAt, pass-all, done-live, done-span, row-at, item-at, span-done}
 
 -- What is predicted at a place behind the first token is reached from an item that stands there.
-pred-led : {g : Grammar} {a : List ℕ} {c : Chart} {s m x p : ℕ} {pos : ℕ → ℕ} → ((r q : ℕ) → Item g a r q m → Found c pos s r q) → 0 < m
-    → Pred g a x p → p ≡ m → Led g c s x
+pred-led : {g : Grammar} {a : List ℕ} {c : Chart} {s m x p : ℕ} {pos : ℕ → ℕ}
+    → ((r q : ℕ) → Item g a r q m → Found c pos s r q) → 0 < m → Pred g a x p → p ≡ m → Led g c s x
 pred-led f l Pred.wrapped e = absurd (omega arith)
 pred-led f l (Pred.first h d) e =
     let k = pred-led f l d e in
@@ -24,36 +25,6 @@ pred-led f l (Pred.first h d) e =
 pred-led {g} {a} {c} {s} f l (Pred.second {r = r} {y = y} {q = q} h n d t) e =
     let k = f r q (item h n d (subst (Span g a y q) e t)) in
     record { origin = k .origin; rule = r; item = k .item; reaches = rw (h .second) itself }
-
-choose : {A : Type 0} → Dec A → ℕ → ℕ → ℕ
-choose (yes _) u v = u
-choose (no _) u v = v
-
-choose-yes : {A : Type 0} (d : Dec A) (u v : ℕ) → A → choose d u v ≡ u
-unfolding choose
-choose-yes (yes _) u v h = refl
-choose-yes (no k) u v h = absurd (k h)
-
-choose-no : {A : Type 0} (d : Dec A) (u v : ℕ) → (A → ⊥) → choose d u v ≡ v
-unfolding choose
-choose-no (yes h) u v k = absurd (k h)
-choose-no (no _) u v k = refl
-
--- `f` up to `k`, and `v` behind it.
-pub upTo : ℕ → (ℕ → ℕ) → ℕ → ℕ → ℕ
-upTo k f v s = choose (decLe s k) (f s) v
-
-pub upTo-old : {k s : ℕ} (f : ℕ → ℕ) (v : ℕ) → s ≤ k → upTo k f v s ≡ f s
-unfolding upTo
-upTo-old {k} {s} f v h = choose-yes (decLe s k) (f s) v h
-
-pub upTo-new : {k s : ℕ} (f : ℕ → ℕ) (v : ℕ) → k < s → upTo k f v s ≡ v
-unfolding upTo
-upTo-new {k} {s} f v h = choose-no (decLe s k) (f s) v (λ l. omega arith)
-
--- A number up to `k`, or the next.
-next-cases : {A : Type 0} (k s : ℕ) → s ≤ suc k → (s ≤ k → A) → (s ≡ suc k → A) → A
-next-cases k s h old new = elim (decLe s k) [ yes l ↦ old l | no l ↦ new (omega arith) ]
 
 -- A live set of the new chart that is not its latest was live before, stays, and keeps its row.
 pub record Stays (c : Chart) (kept s : ℕ) : Type 0 where
@@ -78,12 +49,13 @@ module _ {g : Grammar} {a : List ℕ} {c c′ : Chart} {t kept : ℕ} {done : �
         | no k ↦ (let b : o < kept = new-origins next (omega arith) s in record { live = l; within = omega arith; whole = inl b })
       ]
 
+  -- So the live sets are the new one and such as were live before.
   live-cases : {s : ℕ} → Live c′ s → (s ≡ suc kept) ⊎ Stays c kept s
   live-cases Live.latest = inl (next .last)
   live-cases (Live.origin {o = o} {r = r} l i) =
       ⊎-elim
       (λ e. inr (stored-stays (next .new-items .0 (subst (λ n. c′ .item n o r) e i))))
-      (λ (s : Stays c kept _).
+      (λ s.
       let j = next .items (s .within) .0 i in
       let b = h .older (live-set h (s .live)) j in
       let w = s .within in
@@ -113,12 +85,14 @@ module _ {g : Grammar} {a : List ℕ} {c c′ : Chart} {t kept : ℕ} {done : �
       } in
       record { origin = d .set; item = next .new-items .1 s; stands = upTo-old (h .pos) (suc (length a)) (stored-stays s .within) ∙ d .stands }
 
+  -- Sets that stay stand where they stood, the new one behind the token.
   old-stands : {s : ℕ} → s ≤ kept → later h kept s ≡ h .pos s
   old-stands l = upTo-old (h .pos) (suc (length a)) l
 
   new-stands : later h kept (suc kept) ≡ suc (length a)
   new-stands = upTo-new (h .pos) (suc (length a)) (omega arith)
 
+  -- The positions rise.
   rises : (s u : ℕ) → s < u → u ≤ suc kept → later h kept s < later h kept u
   rises s u l m = next-cases kept u m
       (λ k. let w = kept-within next in
@@ -135,11 +109,13 @@ module _ {g : Grammar} {a : List ℕ} {c c′ : Chart} {t kept : ℕ} {done : �
   is-stored : {s o r : ℕ} → s ≡ suc kept → c′ .item s o r → Stored g c done o r
   is-stored {o = o} {r = r} e i = next .new-items .0 (subst (λ n. c′ .item n o r) e i)
 
+  -- Items lie behind their origins.
   item-older : (s o r : ℕ) → s ≤ suc kept → c′ .item s o r → o < s
   item-older s o r m i = next-cases kept s m
       (λ l. let w = kept-within next in h .older (omega arith) (next .items l .0 i))
       (λ e. let b = stored-stays (is-stored e i) .within in omega arith)
 
+  -- No item is wrong.
   item-right : (s o r : ℕ) → s ≤ suc kept → c′ .item s o r → Item g (a ++ t ∷ []) r (later h kept o) (later h kept s)
   item-right s o r m i = next-cases kept s m
       (λ l. let w = kept-within next in
@@ -149,6 +125,7 @@ module _ {g : Grammar} {a : List ℕ} {c c′ : Chart} {t kept : ℕ} {done : �
       (λ e. let d = is-stored e i in
       subst₂ (Item g (a ++ t ∷ []) r) (sym (old-stands (stored-stays d .within))) (sym new-stands ∙ ap (later h kept) (sym e)) (stored-item d))
 
+  -- No row has a wrong symbol.
   row-right : (s x : ℕ) → s ≤ suc kept → c′ .row s x → Pred g (a ++ t ∷ []) x (later h kept s)
   row-right s x m i = next-cases kept s m
       (λ l. let w = kept-within next in
@@ -157,20 +134,22 @@ module _ {g : Grammar} {a : List ℕ} {c c′ : Chart} {t kept : ℕ} {done : �
       let j = item-right (suc kept) (d .origin) (d .rule) (omega arith) (d .item) in
       rw e (reaches-pred (d .reaches) (item-predicts j)))
 
+  -- No item is missing in a live set.
   item-complete : (s r q : ℕ) → Live c′ s → Item g (a ++ t ∷ []) r q (later h kept s) → Found c′ (later h kept) s r q
   item-complete s r q l i = ⊎-elim
       (λ e. rw e (item-stored r q (subst (Item g (a ++ t ∷ []) r q) new-stands (rw e at i))))
-      (λ (y : Stays c kept s).
+      (λ y.
       let f = item-at h (t ∷ []) (y .live) (sym (old-stands (y .within))) i in
       let b = h .older (live-set h (y .live)) (f .item) in
       let w = y .within in
       record { origin = f .origin; item = next .items (y .within) .1 (f .item); stands = old-stands (omega arith) ∙ f .stands })
       (live-cases l)
 
+  -- No symbol is missing in a live set's row.
   row-complete : (s x : ℕ) → Live c′ s → Pred g (a ++ t ∷ []) x (later h kept s) → c′ .row s x
   row-complete s x l d = ⊎-elim
       (λ e. rw e (next .new-row .1 (pred-led item-stored (omega arith) d (ap (later h kept) e ∙ new-stands))))
-      (λ (y : Stays c kept s). kept-row-there next (y .within) (y .whole) (row-at h (t ∷ []) (y .live) (sym (old-stands (y .within))) d))
+      (λ y. kept-row-there next (y .within) (y .whole) (row-at h (t ∷ []) (y .live) (sym (old-stands (y .within))) d))
       (live-cases l)
 
   -- THE INVARIANT GOES ON: the chart after a token holds for the tokens and it.
