@@ -1,0 +1,262 @@
+#!/usr/bin/env python3
+"""Makes random inputs from fixed seeds, asks the Rust, and records its answers in vectors/.
+
+    generate.py            make all recorded files again (the programs must be built: see build)
+
+More or other inputs: change the seeds or numbers in main(), or import the makers below.
+"""
+
+import os
+import random
+
+import model
+import streams
+from streams import Case, Chart, HeapCase, POP, PUSH
+
+# -------------------------------------------------------------------------------------------------------- Grammars
+
+
+def random_grammar(rng, tokens, nonterminals, rules, unary):
+    """An accepted grammar with about that many rules. A rule is unary with the given chance.
+
+    The blocks of rules stand in random order, and a unary rule leads to a token or to a nonterminal of a later block.
+    Nonterminals that would derive no token string get a rule of tokens.
+    """
+    symbols = tokens + nonterminals + 2
+    blocks = list(range(tokens, symbols - 2))
+    rng.shuffle(blocks)
+    rank = {left: k for k, left in enumerate(blocks)}
+    of_block = {left: [] for left in blocks}
+
+    def add(left):
+        if rng.random() < unary:
+            rule = (left, rng.choice(list(range(tokens)) + blocks[rank[left] + 1:]), None)
+        else:
+            rule = (left, rng.randrange(symbols - 2), rng.randrange(symbols - 2))
+        if rule not in of_block[left]:
+            of_block[left].append(rule)
+
+    start = rng.choice(blocks)
+
+    def grammar():
+        wrap = (symbols - 2, start, symbols - 1)
+        return model.Grammar(symbols, tokens, (wrap,) + tuple(rule for left in blocks for rule in of_block[left]))
+
+    for left in blocks:
+        add(left)
+    tries = 0
+    while len(grammar().rules) < rules and tries < 4 * rules:
+        add(rng.choice(blocks))
+        tries += 1
+    for left in blocks:
+        if left not in model.productive(grammar()):
+            of_block[left].append((left, rng.randrange(tokens), None))
+    made = grammar()
+    file = model.make_file(*made)
+    answer, checked = model.check(file)
+    if answer != 0:  # one rule too many: the repair above may pass 512
+        return random_grammar(rng, tokens, nonterminals, rules - 8, unary)
+    assert checked == made
+    return file, made
+
+
+def small_grammar(rng):
+    """Small, ambiguous, with unary chains."""
+    nonterminals = rng.randint(1, 5)
+    rules = rng.randint(2, 3 * nonterminals + 2)
+    return random_grammar(rng, rng.randint(1, 3), nonterminals, rules, rng.choice([0.2, 0.4, 0.6]))
+
+
+def middle_grammar(rng):
+    return random_grammar(rng, rng.randint(2, 8), rng.randint(5, 20), rng.randint(15, 60), 0.35)
+
+
+def large_grammar(rng):
+    """More than 64 symbols, so that both words of a row are used; up to 128 symbols and 512 rules."""
+    symbols = rng.choice([rng.randint(65, 128), 128])
+    tokens = rng.randint(10, symbols - 30)
+    return random_grammar(rng, tokens, symbols - 2 - tokens, rng.choice([rng.randint(120, 500), 512]), 0.3)
+
+
+# ---------------------------------------------------------------------------------------------------------- Tokens
+
+def rooms(chart, items=4096, sets=1024, queue=1024):
+    """Lent words that hold a chart, and its state."""
+    buffers = model.Buffers.zeroed(items, sets, queue)
+    contents = [streams.flat(chart.items), chart.starts, streams.row_words(chart.rows)]
+    for words, content in zip([buffers.items, buffers.starts, buffers.rows], contents):
+        words[:len(content)] = content
+    return model.State(chart.set_number, len(chart.items)), buffers
+
+
+def chart_of(state, buffers):
+    e, count = state
+    first, behind = buffers.latest(state)
+    finished = first < behind and buffers.item(behind - 1)[1] == 0
+    items = [buffers.item(place) for place in range(count)]
+    return Chart(e, finished, items, buffers.starts[:e + 2], [buffers.row(k) for k in range(e + 1)])
+
+
+def start_chart(grammar):
+    return Chart(0, False, [], [0, 0], [model.closed_rows(grammar)[grammar.symbols - 2]])
+
+
+def random_tokens(rng, grammar, chart, count, most_items):
+    """Tokens of which most are predicted, none refused for room at the largest capacities.
+
+    Stops early where the chart grows past most_items, and before a step on which 01 and the Rust are known to part: a
+    predicted token that nothing uses, or an empty latest set (D2 and D3 in docs/DIFFERENCES.md).
+    """
+    state, buffers = rooms(chart)
+    tokens = []
+    while len(tokens) < count:
+        row = buffers.row(state.set_number)
+        predicted = [token for token in range(grammar.tokens) if row & model.bit(token)]
+        token = rng.choice(predicted) if predicted and rng.random() < 0.9 else rng.randrange(grammar.tokens)
+        answer, state, _ = model.take(grammar, state, buffers, token)
+        first, behind = buffers.latest(state)
+        if answer not in (0, 6) or (answer == 0 and first == behind) or state.item_count > most_items:
+            break
+        tokens.append(token)
+        if not predicted:  # one refusal shows it
+            break
+    return tokens
+
+
+def reached_case(rng, make_grammar, count, most_items=250):
+    """A run from the start."""
+    file, grammar = make_grammar(rng)
+    return Case(file, None, False, random_tokens(rng, grammar, start_chart(grammar), count, most_items))
+
+
+def forged_case(rng, make_grammar, count, most_items=250):
+    """A run from a well-formed state that need not be reachable."""
+    file, grammar = make_grammar(rng)
+    table = model.closed_rows(grammar)
+    binary = [rule for rule, (_, _, second) in enumerate(grammar.rules) if second is not None]
+    items, starts, rows = [], [0], []
+    set_number = rng.randint(0, 7)
+    for k in range(set_number + 1):
+        possible = [(origin, rule) for origin in range(k) for rule in binary]
+        chosen = rng.sample(possible, min(len(possible), rng.choice([1, 3, 8, 24])))
+        items += sorted(chosen, key=lambda item: model.set_order(grammar, item))
+        starts.append(len(items))
+        rows.append(rng.getrandbits(grammar.symbols) | table[rng.randrange(grammar.symbols)])
+    latest_finished = starts[-2] < starts[-1] and items[-1][1] == 0
+    chart = Chart(set_number, latest_finished, items, starts, rows)
+    if starts[-2] == starts[-1] and items:
+        return forged_case(rng, make_grammar, count, most_items)
+    return Case(file, chart, False, random_tokens(rng, grammar, chart, count, most_items))
+
+
+# ------------------------------------------------------------------------------------------------- Heap and nodes
+
+def heap_case(rng):
+    """Pushes and pops over items with few keys, so that most are equal to others. Ends with an empty heap."""
+    origins, rules = rng.choice([(1, 1), (1, 2), (2, 2), (3, 3)])
+    items = [(rng.randrange(origins), rng.randrange(rules)) for _ in range(rng.choice([rng.randint(2, 24), 70]))]
+    places = list(range(len(items)))
+    rng.shuffle(places)
+    operations, queued = [], 0
+    while places or queued:
+        if places and (queued == 0 or rng.random() < 0.65):
+            operations.append((PUSH, places.pop()))
+            queued += 1
+        else:
+            operations.append((POP,))
+            queued -= 1
+    return HeapCase(items, operations)
+
+
+def near(rng, *edges):
+    """A number at or beside an edge, or anywhere below the last one."""
+    edge = rng.choice(edges)
+    return max(0, edge + rng.randint(-2, 2)) if rng.random() < 0.8 else rng.randrange(edges[-1])
+
+
+def random_node(rng, position):
+    """A node on which 01 and the Rust agree: one unit, two units, or the long Product."""
+    kind = rng.choice(["sum", "leaf", "link", "link", "product", "product"])
+    if kind == "sum":
+        return model.Sum(rng.choice([0, 1, 2, 30, 31, rng.randrange(32)]), rng.choice([0, 254, 255, rng.randrange(256)]))
+    if kind == "leaf":
+        return rng.choice([model.NullingLeaf, model.Evaluated])(rng.choice([0, 4094, 4095, rng.randrange(4096)]))
+    near_factor = lambda: max(0, position - near(rng, 0, 31, 255, 8191))
+    factor = lambda: near_factor() if rng.random() < 0.9 else rng.randrange(2**32 - 1)
+    action = min(near(rng, 0, 255, 65535, 2**29 - 3), 2**29 - 1)
+    return model.Product(action, factor(), None if kind == "link" else factor())
+
+
+def random_place(rng):
+    position = rng.choice([0, 1, rng.randrange(300), rng.randrange(32762), 32761])
+    return position, random_node(rng, position)
+
+
+def random_store(rng):
+    """A store of such nodes with fillers between them, and a position at one of them or at fillers before it."""
+    units, heads = [], [0]
+    for _ in range(rng.randint(1, 12)):
+        heads.append(len(units))
+        units += [model.FILLER] * rng.choice([0, 0, 0, 1, 2, 5])
+        units += model.units_of(random_node(rng, len(units)), len(units))
+    units += [model.FILLER] * rng.choice([0, 0, 1, 3])
+    return units, rng.choice([0, rng.choice(heads), len(units)])
+
+
+# --------------------------------------------------------------------------------------------------------- Records
+
+def record(name, records):
+    """Writes a file: the number of records, then each one. A record is a list of lines of numbers."""
+    os.makedirs(streams.VECTORS, exist_ok=True)
+    with open(os.path.join(streams.VECTORS, name), "w") as out:
+        out.write(f"{len(records)}\n")
+        for lines in records:
+            for line in lines:
+                out.write(" ".join(map(str, line)) + "\n")
+
+
+def state_record(case, before, answers):
+    lines = [streams.case_numbers(case), streams.chart_numbers(before)]
+    for answer in answers:
+        if answer.number:
+            lines.append([answer.number])
+        else:
+            popped = [n for origin, left, places in answer.sums for n in [origin, left, len(places), *places]]
+            lines.append([answer.number, *answer.room, len(answer.sums), *popped])
+            lines.append(streams.chart_numbers(answer.chart))
+    return lines
+
+
+def record_states(name, cases):
+    record(name, [state_record(case, *told) for case, told in zip(cases, streams.ask_states(cases))])
+
+
+def main():
+    by_hand = [Case(model.GRAMMAR_A, None, False, [0, 1, 0, 0, 1, 0, 1, 0, 1, 0]), Case(model.GRAMMAR_B, None, False, [0, 1, 2] * 3 + [1])]
+    rng = random.Random(1)
+    record_states("states_small.txt", by_hand + [reached_case(rng, small_grammar, rng.randint(4, 14), 140) for _ in range(300)])
+    rng = random.Random(2)
+    record_states("states_large.txt", [reached_case(rng, large_grammar, 6, 800) for _ in range(24)] +
+                  [reached_case(rng, middle_grammar, 9, 300) for _ in range(40)])
+    rng = random.Random(3)
+    record_states("states_forged.txt", [forged_case(rng, small_grammar, 4, 150) for _ in range(200)] +
+                  [forged_case(rng, middle_grammar, 3, 200) for _ in range(40)] +
+                  [forged_case(rng, large_grammar, 2, 400) for _ in range(10)])
+
+    rng = random.Random(4)
+    cases = [heap_case(rng) for _ in range(300)]
+    popped = streams.Numbers(streams.ask("recognize", "heap", [n for case in cases for n in streams.heap_numbers(case)]))
+    record("heap.txt", [[streams.heap_numbers(case), popped.list(streams.pops(case))] for case in cases])
+
+    rng = random.Random(5)
+    places = [random_place(rng) for _ in range(2500)]
+    record("nodes.txt", [[[position, *streams.node_numbers(node), len(units), *units]]
+                         for (position, node), units in zip(places, streams.ask_write(places))])
+    stores = [random_store(rng) for _ in range(500)]
+    read_numbers = lambda read: [len(read)] + [n for node, behind in read for n in [*streams.node_numbers(node), behind]]
+    record("stores.txt", [[[len(units), *units, position], read_numbers(read)]
+                          for (units, position), read in zip(stores, streams.ask_read(stores))])
+
+
+if __name__ == "__main__":
+    main()
