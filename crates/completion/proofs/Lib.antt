@@ -2,3 +2,6 @@
 pub mod Pushes
 pub mod Soundness
 pub mod Waiting
+pub mod Entries
+pub mod Onward
+pub mod Through
