@@ -5,3 +5,4 @@ pub mod Waiting
 pub mod Entries
 pub mod Onward
 pub mod Through
+pub mod Charting
