@@ -22,7 +22,7 @@ use Rattle.completion.specs.Sums.{greatest, sumEnds, nextSummand, popSum
 use Rattle.completion.specs.Ready.{Sound, Charted}
 use Rattle.completion.proofs.Soundness.{store-sound, enqueue-sound, has-place}
 use Rattle.completion.proofs.Waiting.{store-place}
-use Rattle.completion.proofs.Entries.{entriesOf, storedPass, queuedPass, poppedPass, store-cases, then-cases, next-is, each-entry, every-entry, some-entries, popped-entries, popped-words}
+use Rattle.completion.proofs.Entries.{entriesOf, storedPass, queuedPass, poppedPass, store-cases, enqueue-cases, then-cases, next-is, each-entry, every-entry, some-entries, popped-entries, popped-words}
 use Rattle.completion.proofs.Onward.{Onward, onward-refl, onward-trans, onward-store, onward-enqueue, onward-next}
 use Rattle.completion.proofs.Through.{Begins, Inside, medial-keeps, medial-items-keep, unary-goes, unary-predictions-go, binary-goes, binary-predictions-go, complete-cases}
 
@@ -62,7 +62,6 @@ onward-charted {rs} {starts} {s} {t} charted onward new =
       origins = λ p there. each p there .is-set;
       starts-fit = λ k. omega (arith, charted .starts-fit k, onward .more-items);
       ordered = λ k p from up-to.
-          let second : ℕ → ℕ = λ p. secondOf rs (itemAt (t .items) p) in
           let one : secondOf rs (itemAt (t .items) p) ≡ secondOf rs (itemAt (s .items) p) =
           ap (secondOf rs) (onward .same-items p (omega (arith, charted .starts-fit (k + 1)))) in
           let next : secondOf rs (itemAt (t .items) (p + 1)) ≡ secondOf rs (itemAt (s .items) (p + 1)) =
@@ -112,7 +111,7 @@ module _ (rs : List Rule) (starts : List ℕ) (s : Pass) where
       }
 
   pub enqueue-items : (place : ℕ) (t : Pass) → enqueue place t .at .items ≡ t .at .items
-  enqueue-items place t = Rattle.completion.proofs.Entries.enqueue-cases (λ (u : Pass). u .at .items ≡ t .at .items) t place (λ free. refl) refl
+  enqueue-items place t = enqueue-cases (λ (u : Pass). u .at .items ≡ t .at .items) t place (λ free. refl) refl
 
   pub steady-enqueue : (place : ℕ) (t : Pass) → place < t .at .items → Steady rs starts s t → Steady rs starts s (enqueue place t)
   steady-enqueue place t there steady =
@@ -181,7 +180,7 @@ module _ (rs : List Rule) (starts : List ℕ) (s : Pass) where
   goes-on-sum k x t = by-count (eqb (t .at .queued) 0) refl
     where
       by-count : (b : Bool) → eqb (t .at .queued) 0 ≡ b → (b || not (eqb (greatest t .origin) k && eqb (leftOf rs (greatest t)) x)) ≡ false → 0 < t .at .queued
-      by-count true none ends = let z : _≡_ {A = Bool} true false = ends in absurd (let z : _≡_ {A = ℕ} 0 1 = cc in omega arith)
+      by-count true none ends = absurd (let z : _≡_ {A = ℕ} 0 1 = cc in omega arith)
       by-count false some ends = let not-none : t .at .queued ≡ 0 → ⊥ = eqb-false (t .at .queued) 0 some in omega arith
 
   -- Popping a sum keeps all of it.

@@ -6,3 +6,5 @@ pub mod Entries
 pub mod Onward
 pub mod Through
 pub mod Charting
+pub mod Heaped
+pub mod Pending
