@@ -8,3 +8,4 @@ pub mod Through
 pub mod Charting
 pub mod Heaped
 pub mod Pending
+pub mod Once

@@ -130,6 +130,32 @@ module _ {rs : List Rule} {starts : List ℕ} (s : Pass) (pending : Pending rs s
         heap = heaped .ordered .heap;
       }
 
+module _ {rs : List Rule} {starts rows : List ℕ} (grounds : Grounds rs starts rows) (s : Pass) (pending : Pending rs starts s) (k x : ℕ)
+    (set : k + 1 < length starts) where
+  -- Completing a pair queues only what is below it.
+  pub complete-lower : (t : Pass) → Heaped rs starts (Lower rs k x) s t → Heaped rs starts (Lower rs k x) s (complete rs starts rows k x t)
+  complete-lower =
+      heaped-complete rs starts (Lower rs k x) s rows k x set (pending .charted)
+      (λ p inside second.
+      lower-earlier (grounds .rules-fit .few-rules)
+      (pending .charted .rules p (omega (arith, inside .up-to, pending .charted .starts-fit (k + 1)))) (pending .earlier k p inside))
+      (λ r begins one. lower-unary grounds begins one)
+
+  -- The first completion of a pass, from an empty queue.
+  pub first-lower : s .at .queued ≡ 0 → Heaped rs starts (Lower rs k x) s (complete rs starts rows k x s)
+  first-lower none =
+      complete-lower s
+      (record {
+        steady = pending-steady s pending;
+        ordered = record {
+          heap = pending .heap;
+          each = record { each = λ i there. absurd (omega (arith, entries-length s (pending .sound .queued-fit))) };
+        };
+      })
+
+  pub first-pending : s .at .queued ≡ 0 → Pending rs starts (complete rs starts rows k x s)
+  first-pending none = pending-onward s pending (complete rs starts rows k x s) (first-lower none)
+
 -- A sum that has ended: the queue is empty, or its greatest entry is of another origin or left side.
 pub sum-ended : (rs : List Rule) (k x : ℕ) (s : Pass) → sumEnds rs k x s ≡ true → 0 < s .at .queued
     → greatest s .origin ≡ k → leftOf rs (greatest s) ≡ x → ⊥
@@ -191,17 +217,11 @@ module _ {rs : List Rule} {starts rows : List ℕ} (grounds : Grounds rs starts 
       all-lower (popSum rs (greatest s .origin) (leftOf rs (greatest s)) s) (pop-not-above (greatest s .origin) (leftOf rs (greatest s)))
       (pop-ended (greatest s .origin) (leftOf rs (greatest s)))
 
-  -- After the pair was completed too: completing it queues only what is below.
+  -- After the pair was completed too.
   pub sum-lower : Heaped rs starts (Lower rs (greatest s .origin) (leftOf rs (greatest s))) s (completeSum rs starts rows s)
   unfolding completeSum
   sum-lower =
-      heaped-complete rs starts (Lower rs (greatest s .origin) (leftOf rs (greatest s))) s rows (greatest s .origin) (leftOf rs (greatest s))
-      (greatest-charted .is-set) (pending .charted)
-      (λ p inside second.
-      lower-earlier (grounds .rules-fit .few-rules)
-      (pending .charted .rules p (omega (arith, inside .up-to, pending .charted .starts-fit (greatest s .origin + 1))))
-      (pending .earlier (greatest s .origin) p inside))
-      (λ r begins one. lower-unary grounds begins one)
+      complete-lower grounds s pending (greatest s .origin) (leftOf rs (greatest s)) (greatest-charted .is-set)
       (popSum rs (greatest s .origin) (leftOf rs (greatest s)) s) pop-lower
 
   -- A sum leaves a pending pass pending.
@@ -295,7 +315,7 @@ module _ {rs : List Rule} {starts rows : List ℕ} (grounds : Grounds rs starts 
         until-enough rests (completeSum rs starts rows) (Pending rs starts) (left rs) sum-keeps sum-falls n (length starts * length rs) s pending enough
         (left-few s pending)
 
-    -- A sum more is nothing new.
+    -- And the pass is pending still.
     pub all-sums-pending : Pending rs starts (completeAllSums rs starts rows s)
     unfolding completeAllSums
     all-sums-pending = until-keeps rests (completeSum rs starts rows) (Pending rs starts) sum-keeps (length starts * length rs) s pending
