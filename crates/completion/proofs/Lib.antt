@@ -9,3 +9,4 @@ pub mod Charting
 pub mod Heaped
 pub mod Pending
 pub mod Once
+pub mod Distinct

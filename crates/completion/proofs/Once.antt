@@ -29,7 +29,7 @@ pub record Pair : Type 0 where
 abbrev pub pairOf : List Rule → Item → Pair
 pairOf rs i = record { set = i .origin; symbol = leftOf rs i }
 
-abbrev noPair : Pair
+abbrev pub noPair : Pair
 noPair = record { set = 0; symbol = 0 }
 
 -- Each entry of the queue comes below a pair.
@@ -39,18 +39,27 @@ pub record AllLower (rs : List Rule) (k x : ℕ) (s : Pass) : Type 0 where
 pub heaped-all : {rs : List Rule} {starts : List ℕ} {k x : ℕ} {s t : Pass} → Heaped rs starts (Lower rs k x) s t → AllLower rs k x t
 heaped-all heaped = record { all = heaped .ordered .each }
 
+-- A symbol with a rule.
+pub record HasRule (rs : List Rule) (x : ℕ) : Type 0 where
+  pub rule : ℕ
+  pub is-rule : rule < length rs
+  pub left : getD rs rule noRule .left ≡ x
+
 -- Pair `b` comes below pair `a`: its set is not above, and at the same set every rule of its symbol is below every rule of the other.
 pub record Beneath (rs : List Rule) (a b : Pair) : Type 0 where
   pub up-to : b .set ≤ a .set
   pub rules :
       b .set ≡ a .set → (q r : ℕ) → q < length rs → r < length rs → getD rs q noRule .left ≡ b .symbol → getD rs r noRule .left ≡ a .symbol → q < r
+  pub ruled : HasRule rs (b .symbol)
 
--- A pair is not beneath itself, if its symbol has a rule.
-pub beneath-other : {rs : List Rule} {a b : Pair} (r : ℕ) → r < length rs → getD rs r noRule .left ≡ b .symbol → Beneath rs a b → a ≡ b → ⊥
-beneath-other {rs} {a} {b} r there left beneath same =
+-- So it is another pair.
+pub beneath-other : {rs : List Rule} {a b : Pair} → Beneath rs a b → a ≡ b → ⊥
+beneath-other {rs} {a} {b} beneath same =
     let set : a .set ≡ b .set = ap (λ (p : Pair). p .set) same in
     let symbol : a .symbol ≡ b .symbol = ap (λ (p : Pair). p .symbol) same in
-    let less : r < r = beneath .rules (sym set) r r there there left (left ∙ sym symbol) in
+    let r : ℕ = beneath .ruled .rule in
+    let there : beneath .ruled .rule < length rs = beneath .ruled .is-rule in
+    let less : r < r = beneath .rules (sym set) r r there there (beneath .ruled .left) (beneath .ruled .left ∙ sym symbol) in
     omega arith
 
 module _ {rs : List Rule} {starts rows : List ℕ} (grounds : Grounds rs starts rows) where
@@ -58,6 +67,7 @@ module _ {rs : List Rule} {starts rows : List ℕ} (grounds : Grounds rs starts 
   pub lower-beneath : (k x : ℕ) (i : Item) → i .rule < length rs → Lower rs k x i → Beneath rs (record { set = k; symbol = x }) (pairOf rs i)
   lower-beneath k x i rule lower =
       record {
+        ruled = record { rule = i .rule; is-rule = rule; left = refl };
         up-to = lower .up-to;
         rules = λ same q r there-q there-r left-q left-r.
             let low : i .rule < r = omega (arith, lower .below r there-r left-r) in
@@ -92,7 +102,7 @@ module _ {rs : List Rule} {starts rows : List ℕ} (grounds : Grounds rs starts 
       };
     }
 
-    greatest-lower : (k x : ℕ) → AllLower rs k x s → Lower rs k x (greatest s)
+    pub greatest-lower : (k x : ℕ) → AllLower rs k x s → Lower rs k x (greatest s)
     greatest-lower k x lower =
         each-entry s (pending .sound .queued-fit) (λ v. Lower rs k x (itemAt (s .items) v)) (lower .all) 0 some
 
@@ -123,7 +133,7 @@ pairsCompleted rs starts rows zero s = []
 pairsCompleted rs starts rows (suc n) s =
     elim (rests s) [ true ↦ [] | false ↦ pairOf rs (greatest s) ∷ pairsCompleted rs starts rows n (completeSum rs starts rows s) ]
 
--- Of some pairs, each is beneath a given one, and is a pair with a rule.
+-- Of some pairs, each is beneath a given one.
 pub record AllBeneath (rs : List Rule) (a : Pair) (pairs : List Pair) : Type 0 where
   pub beneath : (i : ℕ) → i < length pairs → Beneath rs a (getD pairs i noPair)
 
@@ -131,6 +141,19 @@ pub record AllBeneath (rs : List Rule) (a : Pair) (pairs : List Pair) : Type 0 w
 pub data Falling (rs : List Rule) : List Pair → Type 0 where
   done : Falling rs []
   then : {a : Pair} {pairs : List Pair} → AllBeneath rs a pairs → Falling rs pairs → Falling rs (a ∷ pairs)
+
+-- In falling pairs each is beneath every one before it, and so no pair is there twice.
+pub falling-at : {rs : List Rule} {pairs : List Pair} → Falling rs pairs → (i j : ℕ) → i < j → j < length pairs
+    → Beneath rs (getD pairs i noPair) (getD pairs j noPair)
+falling-at done i j before there = absurd (omega arith)
+falling-at (then all falling) zero zero before there = absurd (omega arith)
+falling-at (then all falling) zero (suc j) before there = all .beneath j (omega arith)
+falling-at (then all falling) (suc i) zero before there = absurd (omega arith)
+falling-at (then all falling) (suc i) (suc j) before there = falling-at falling i j (omega arith) (omega arith)
+
+pub falling-once : {rs : List Rule} {pairs : List Pair} → Falling rs pairs → (i j : ℕ) → i < j → j < length pairs
+    → getD pairs i noPair ≡ getD pairs j noPair → ⊥
+falling-once falling i j before there = beneath-other (falling-at falling i j before there)
 
 module _ {rs : List Rule} {starts rows : List ℕ} (grounds : Grounds rs starts rows) where
   -- The pairs completed from a pass whose entries are below a pair are beneath that pair.
