@@ -297,8 +297,6 @@ module _ {rs : List Rule} {starts rows : List ℕ} (grounds : Grounds rs starts 
     pub fresh-sum : (s : Pass) → Pending rs starts s → 0 < s .at .queued → Fresh rs e old s → Fresh rs e old (completeSum rs starts rows s)
     unfolding completeSum
     fresh-sum s pending some fresh =
-        let k : ℕ = greatest s .origin in
-        let x : ℕ = leftOf rs (greatest s) in
         let charts : Charts rs starts (greatest s) = greatest-charts rs starts s s some (pending-steady s pending) in
         let pair : (p : ℕ) → old ≤ p → p < s .at .items → Lower rs (originAt (s .items) p) (firstOf rs (itemAt (s .items) p)) (greatest s) =
         λ p h there. greatest-lower grounds s pending some (originAt (s .items) p) (firstOf rs (itemAt (s .items) p)) (fresh .behind p h there) in

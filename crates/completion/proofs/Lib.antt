@@ -10,3 +10,4 @@ pub mod Heaped
 pub mod Pending
 pub mod Once
 pub mod Distinct
+pub mod Refusals
