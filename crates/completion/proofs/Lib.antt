@@ -11,3 +11,4 @@ pub mod Pending
 pub mod Once
 pub mod Distinct
 pub mod Refusals
+pub mod Beginning
