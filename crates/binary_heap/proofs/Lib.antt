@@ -2,6 +2,10 @@
 pub mod PushLaws
 pub mod PopLaws
 pub mod Top
+pub mod Appended
+pub mod WordLaws
+pub mod Answers
+pub mod Kept
 pub mod Words
 pub mod Entries
 pub mod Hole
@@ -9,3 +13,4 @@ pub mod Alike
 pub mod Sifting
 pub mod Sifts
 pub mod Move
+pub mod Examples

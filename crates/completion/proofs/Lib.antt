@@ -12,3 +12,5 @@ pub mod Once
 pub mod Distinct
 pub mod Refusals
 pub mod Beginning
+pub mod Searching
+pub mod Pairs

@@ -9,6 +9,8 @@ use lib.ListN.{length, getD}
 use lib.Dec.{eqb}
 use borrow.Author.Tests.{eq-eqb, ne-eqb}
 use Rattle.laws.specs.Bits.{holds, rowOf}
+use Rattle.laws.specs.Turns.{over}
+use Rattle.laws.proofs.Turns.{over-keeps}
 use Rattle.bits.specs.Width.{rowWords}
 use Rattle.item.specs.Item.{itemWords}
 use Rattle.grammar.specs.Rules.{Rule, none, noRule}
@@ -130,3 +132,7 @@ module _ (rs : List Rule) (rows : List ℕ) (k x r : ℕ) (s : Pass) (sound : So
       by-fit : (b : Bool) → Sound (elim b [ true ↦ store k r s | false ↦ s ])
       by-fit true = store-sound k r s sound
       by-fit false = sound
+
+-- Completing rule after rule keeps a pass sound.
+pub unaries-sound : (rs : List Rule) (rows : List ℕ) (k x n : ℕ) (s : Pass) → Sound s → Sound (over n (completeUnary rs rows k x) s)
+unaries-sound rs rows k x n s sound = over-keeps Sound n (completeUnary rs rows k x) (λ r s h sound. unary-sound rs rows k x r s sound) s sound

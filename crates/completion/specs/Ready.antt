@@ -29,10 +29,15 @@ pub record Sound (s : Pass) : Type 0 where
   pub queued-fit : s .at .queued ≤ length (s .queue)
   pub entries : (i : ℕ) → i < s .at .queued → getD (s .queue) i 0 < s .at .items
 
+-- `k` is a set: the places of its items do not run backwards, and the start behind them is there.
+pub record IsSet (starts : List ℕ) (k : ℕ) : Type 0 where
+  pub there : k + 1 < length starts
+  pub upwards : getD starts k 0 ≤ getD starts (k + 1) 0
+
 -- The rules of items are rules and their origins are sets; the items of the sets are there and stand in the order of their seconds.
 pub record Charted (rs : List Rule) (starts : List ℕ) (s : Pass) : Type 0 where
   pub rules : (p : ℕ) → p < s .at .items → ruleAt (s .items) p < length rs
-  pub origins : (p : ℕ) → p < s .at .items → originAt (s .items) p + 1 < length starts
+  pub origins : (p : ℕ) → p < s .at .items → IsSet starts (originAt (s .items) p)
   pub starts-fit : (k : ℕ) → getD starts k 0 ≤ s .at .items
   pub ordered :
       (k p : ℕ) → getD starts k 0 ≤ p → p + 1 < getD starts (k + 1) 0 → secondOf rs (itemAt (s .items) p) ≤ secondOf rs (itemAt (s .items) (p + 1))

@@ -1,12 +1,11 @@
 // Completing the items of a set whose second is a symbol.
 ghost use mathlib.Core.Path.{_≡_};
 ghost use Prim.Native.Nat.{_+_, _≤_, _<_};
-ghost use lib.ListN.{length};
 ghost use Rattle.grammar.specs.Accepted.{maxRules};
 ghost use Rattle.grammar.specs.Decoded.{rulesIn};
 ghost use Rattle.completion.specs.Pass.{passOf};
 ghost use Rattle.completion.specs.Search.{Searchable, Below, Found};
-ghost use Rattle.completion.specs.Ready.{Sound, Charted};
+ghost use Rattle.completion.specs.Ready.{IsSet, Sound, Charted};
 ghost use Rattle.completion.specs.Complete.{completeMedialItems};
 use crate::Progress;
 use crate::pass;
@@ -71,7 +70,7 @@ pub fn complete_medial_items(
     x: usize,
     at: Progress,
 ) -> Progress
-    requires { ⌜ (count ≤ maxRules) × (k + 1 < length (now starts)) × (x < 65536) ⌝ }
+    requires { ⌜ (count ≤ maxRules) × IsSet (now starts) k × (x < 65536) ⌝ }
     requires { ⌜ Sound (passOf at (now items) (now queue)) × Charted (rulesIn (now rules) count) (now starts) (passOf at (now items) (now queue)) ⌝ }
     ensures { λ r. ⌜ passOf r (now (items .entry)) (now (queue .exit)) ≡ completeMedialItems (rulesIn (now (rules .entry)) count) (now (starts .entry)) k x (passOf at (now (items .entry)) (now (queue .entry))) ⌝ }
 {

@@ -6,7 +6,7 @@ use native.Mathlib.Omega.{arith}
 use native.Mathlib.Decide.{ℕ-discrete}
 use lib.ListN.{length, getD, set, replicate, length-set, length-replicate}
 use lib.Seq.{ext-getD, getD-set-same, getD-set-other}
-use Rattle.grammar.specs.Rules.{Rule, ruleCount, ruleAt}
+use Rattle.grammar.specs.Rules.{Rule, Says, ruleCount, ruleAt}
 use Rattle.grammar.specs.Accepted.{maxRules}
 use Rattle.grammar.specs.File.{u16At, headerBytes, ruleBytes, ruleCountOf, symbolsOf, tokensOf, ruleIn, rulesFrom, grammarOf}
 use Rattle.grammar.specs.Decoded.{ruleWords, leftIn, firstIn, secondIn, rulesBehind, rulesIn, grammarIn}
@@ -53,6 +53,20 @@ in-count words n t count = behind-count words 0 count
 
 pub in-rule : (words : List ℕ) (n t count r : ℕ) → r < count → ruleAt (grammarIn words n t count) r ≡ rule (leftIn words r) (firstIn words r) (secondIn words r)
 in-rule words n t count r l = behind-at words 0 count r l ∙ ap (λ (k : ℕ). rule (leftIn words k) (firstIn words k) (secondIn words k)) (omega arith)
+
+module _ (words : List ℕ) (n t count r : ℕ) (l : r < count) where
+  pub in-left : ruleAt (grammarIn words n t count) r .left ≡ leftIn words r
+  in-left = ap (λ (x : Rule). x .left) (in-rule words n t count r l)
+
+  pub in-first : ruleAt (grammarIn words n t count) r .first ≡ firstIn words r
+  in-first = ap (λ (x : Rule). x .first) (in-rule words n t count r l)
+
+  pub in-second : ruleAt (grammarIn words n t count) r .second ≡ secondIn words r
+  in-second = ap (λ (x : Rule). x .second) (in-rule words n t count r l)
+
+  -- Rule `r` says what the words hold.
+  pub in-says : Says (grammarIn words n t count) r (leftIn words r) (firstIn words r) (secondIn words r)
+  in-says = record { there = subst (λ (k : ℕ). r < k) (sym (in-count words n t count)) l; left = in-left; first = in-first; second = in-second }
 
 -- The rules of a file stand behind its header.
 pub of-count : (file : List ℕ) → ruleCount (grammarOf file) ≡ ruleCountOf file

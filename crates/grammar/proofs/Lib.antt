@@ -1,2 +1,9 @@
 -- Laws of grammars.
 pub mod Decoding
+pub mod Asked
+pub mod Marks
+pub mod Productivity
+pub mod Judging
+pub mod Verdicts
+pub mod Facts
+pub mod Reached

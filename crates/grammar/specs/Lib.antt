@@ -4,3 +4,6 @@ pub mod Sentences
 pub mod Accepted
 pub mod File
 pub mod Decoded
+pub mod Prediction
+pub mod Checking
+pub mod Answers

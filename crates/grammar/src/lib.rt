@@ -1,3 +1,68 @@
-// The grammar file, version 1: its header, its rules decoded into words, its check, and the prediction table.
+// The grammar file, version 1: its header, its rules decoded into words, and its check.
+ghost use Rattle.laws.specs.Decides.{Decides};
+ghost use Rattle.grammar.specs.Accepted as asked;
+ghost use Rattle.grammar.specs.Answers.{Verdict, numberOf};
+ghost use Rattle.grammar.specs.Checking.{Sized};
+ghost use Rattle.grammar.specs.Decoded.{grammarIn};
+
+mod conditions;
 pub mod file;
+mod pairs;
+mod productive;
 pub mod rules;
+
+use crate::conditions::ruled;
+use crate::conditions::sized;
+use crate::conditions::wraps;
+use crate::file::malformed;
+use crate::file::rule_count;
+use crate::file::symbols;
+use crate::file::tokens;
+use crate::pairs::equal_pair;
+use crate::productive::all_productive;
+use crate::rules::Rules;
+use crate::rules::decode;
+
+// What the check answers.
+pub enum Checked {
+    Accepted,
+    Malformed,
+    Broken,
+}
+
+// Whether the decoded rules are a grammar as the paper asks for.
+fn accepted(rules: &Rules, n: usize, t: usize, count: usize) -> bool
+    requires { ⌜ Sized n t count ⌝ }
+    ensures { λ r. ⌜ Decides r (asked.Accepted (grammarIn (now (rules .entry)) n t count)) ⌝ }
+{
+    if !wraps(rules, n, t) {
+        return false;
+    }
+    if !ruled(rules, n, t, count) {
+        return false;
+    }
+    if equal_pair(rules, count) {
+        return false;
+    }
+    all_productive(rules, n, t, count)
+}
+
+// The check of any bytes.
+pub fn check(file: &[u8]) -> Checked
+    ensures { λ r. ⌜ Verdict (now (file .entry)) (numberOf r) ⌝ }
+{
+    if malformed(file) {
+        return Checked::Malformed;
+    }
+    let n = symbols(file);
+    let t = tokens(file);
+    let count = rule_count(file);
+    if !sized(n, t, count) {
+        return Checked::Broken;
+    }
+    let rules = decode(file);
+    if accepted(&rules, n, t, count) {
+        return Checked::Accepted;
+    }
+    Checked::Broken
+}

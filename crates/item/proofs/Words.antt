@@ -5,7 +5,7 @@ use Prim.Native.Nat.{ℕ, suc, _+_, _*_, _≤_, _<_}
 use native.Mathlib.Nat.{add-zero}
 use native.Mathlib.Numerals.{add-one}
 use native.Mathlib.Omega.{arith}
-use lib.ListN.{length, getD, set, length-set}
+use lib.ListN.{length, getD, take, drop, set, length-append, length-set, List·getD-append}
 use lib.Seq.{length-sets, getD-set-same, getD-set-other}
 use Rattle.laws.proofs.Records as records
 use Rattle.item.specs.Item.{Item, wordsOf, itemWords, flat, itemAt, originAt, ruleAt, stored, keyOf, keyAt, HasPlace}
@@ -29,10 +29,35 @@ item-of-flat its rest p d h = λ k. record { origin = origins k; rule = rules k 
     rules : ruleAt (flat its ++ rest) p ≡ getD its p d .rule
     rules = records.flat-at wordsOf itemWords (λ i. refl) its rest p 1 d h (omega arith)
 
+-- Its key is that item's,
+pub key-of-flat : (its : List Item) (rest : List ℕ) (p : ℕ) (d : Item) → p < length its → keyAt (flat its ++ rest) p ≡ keyOf (getD its p d)
+key-of-flat its rest p d h = ap keyOf (item-of-flat its rest p d h)
+
+-- whatever items stand behind it.
+pub key-before : (its more : List Item) (rest rest′ : List ℕ) (p : ℕ) → p < length its
+    → keyAt (flat (its ++ more) ++ rest) p ≡ keyAt (flat its ++ rest′) p
+key-before its more rest rest′ p h =
+    let none : Item = record { origin = 0; rule = 0 } in
+    key-of-flat (its ++ more) rest p none (omega (arith, length-append its more))
+    ∙ ap keyOf (List·getD-append its more none p h)
+    ∙ sym (key-of-flat its rest′ p none h)
+
 -- An item stored behind the others is one item more.
 pub stored-behind : (its : List Item) (i : Item) (a b : ℕ) (rest : List ℕ)
     → stored (flat its ++ (a ∷ b ∷ rest)) (length its) i ≡ flat (its ++ (i ∷ [])) ++ rest
 stored-behind its i a b rest = records.flat-stored wordsOf itemWords (λ i. refl) its i (a ∷ b ∷ []) rest refl
+
+-- An item stored over another takes its place.
+pub stored-over : (its : List Item) (p : ℕ) (i : Item) (rest : List ℕ) → p < length its
+    → stored (flat its ++ rest) p i ≡ flat (set its p i) ++ rest
+stored-over its p i rest h = records.flat-set wordsOf itemWords (λ i. refl) its p i (record { origin = 0; rule = 0 }) rest h
+
+-- The words of the first items, and those of the others.
+pub flat-take : (its : List Item) (p : ℕ) → p ≤ length its → take (itemWords * p) (flat its) ≡ flat (take p its)
+flat-take its p h = records.flat-take wordsOf itemWords (λ i. refl) its p h
+
+pub flat-drop : (its : List Item) (p : ℕ) → p ≤ length its → drop (itemWords * p) (flat its) ≡ flat (drop p its)
+flat-drop its p h = records.flat-drop wordsOf itemWords (λ i. refl) its p h
 
 -- A store leaves the number of words.
 pub stored-length : (words : List ℕ) (p : ℕ) (i : Item) → length (stored words p i) ≡ length words

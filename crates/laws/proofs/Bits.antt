@@ -136,6 +136,10 @@ module _ (row : List ℕ) (s : ℕ) where
     | no n ↦ inr (record { is-set = sym (ap (λ (w : ℕ). bit w (y % wordBits)) (getD-set-other row (s / wordBits) (y / wordBits) _ 0 (λ e. n (sym e)))) ∙ h .is-set })
   ]
 
+-- Bit k of word i stands for the symbol i * 64 + k.
+pub bit-place : (row : List ℕ) (i k : ℕ) → k < wordBits → bitAt row (i * wordBits + k) ≡ bit (getD row i 0) k
+bit-place row i k l = ap (λ (j : ℕ). bit (getD row j 0) ((i * wordBits + k) % wordBits)) (digits-div i l) ∙ ap (bit (getD row i 0)) (digits-mod i l)
+
 -- Two rows of one width that hold the same symbols are equal.
 pub row-ext : (width : ℕ) (a b : List ℕ) → Row width a → Row width b → ((s : ℕ) → Holds a s → Holds b s) → ((s : ℕ) → Holds b s → Holds a s) → a ≡ b
 row-ext width a b ra rb to from =
@@ -145,16 +149,13 @@ row-ext width a b ra rb to from =
     same : (x y : ℕ) → x < 2 → y < 2 → (x ≡ 1 → y ≡ 1) → (y ≡ 1 → x ≡ 1) → x ≡ y
     same x y lx ly f g = elim (ℕ-discrete x 1) [ yes e ↦ e ∙ sym (f e) | no n ↦ elim (ℕ-discrete y 1) [ yes e ↦ g e ∙ sym e | no m ↦ omega arith ] ]
 
-    place : (row : List ℕ) (i k : ℕ) → k < wordBits → bitAt row (i * wordBits + k) ≡ bit (getD row i 0) k
-    place row i k l = ap (λ (j : ℕ). bit (getD row j 0) ((i * wordBits + k) % wordBits)) (digits-div i l) ∙ ap (bit (getD row i 0)) (digits-mod i l)
-
     at : (i k : ℕ) → k < wordBits → bit (getD a i 0) k ≡ bit (getD b i 0) k
     at i k l =
-        sym (place a i k l)
+        sym (bit-place a i k l)
         ∙ same (bitAt a (i * wordBits + k)) (bitAt b (i * wordBits + k)) (bit-small _ _) (bit-small _ _)
         (λ e. to (i * wordBits + k) (record { is-set = e }) .is-set)
         (λ e. from (i * wordBits + k) (record { is-set = e }) .is-set)
-        ∙ place b i k l
+        ∙ bit-place b i k l
 
 -- A union of two rows of n words has n words.
 pub union-wide : (n : ℕ) (x y : List ℕ) → length x ≡ n → length y ≡ n → length (union x y) ≡ n

@@ -1,11 +1,11 @@
 -- Laws on records of `width` words each, held one behind another in a list of words, with other words behind them.
-use mathlib.Core.Path.{_≡_, refl, sym, ap, _∙_, subst}
+use mathlib.Core.Path.{_≡_, refl, sym, ap, ap₂, _∙_}
 use mathlib.Core.List.{List, [], _∷_, _++_, append-assoc, append-nil}
-use Prim.Native.Nat.{ℕ, zero, suc, _+_, _*_, _≤_, _<_, suc-le-suc}
-use native.Mathlib.Nat.{le-of-suc-le-suc, not-suc-le-zero, mul-suc, mul-zero, add-zero}
+use Prim.Native.Nat.{ℕ, zero, suc, _+_, _*_, _≤_, _<_}
+use native.Mathlib.Nat.{le-of-suc-le-suc, not-suc-le-zero, mul-suc, mul-zero}
 use native.Mathlib.Omega.{arith}
-use lib.ListN.{length, getD, take, drop, set, length-append, List·getD-append}
-use lib.Seq.{getD-append-add, take-append-add, drop-append-add, take-at, drop-at, sets, sets-eq}
+use lib.ListN.{length, getD, take, drop, set, length-append, List·getD-append, take-append-drop}
+use lib.Seq.{length-take-le, append-snoc, split-at, set-split, getD-append-add, drop-append-add, take-at, drop-at, sets, sets-eq}
 use Rattle.laws.specs.Records.{flat}
 
 module _ {R : Type 0} (words : R → List ℕ) (width : ℕ) (wide : (r : R) → length (words r) ≡ width) where
@@ -69,3 +69,40 @@ module _ {R : Type 0} (words : R → List ℕ) (width : ℕ) (wide : (r : R) →
       ∙ ap (λ (l : List ℕ). (flat words rs ++ words r) ++ l) back
       ∙ ap (λ (l : List ℕ). (flat words rs ++ l) ++ rest) (sym (append-nil (words r)))
       ∙ ap (λ (l : List ℕ). l ++ rest) (sym (flat-append rs (r ∷ [])))
+
+  -- The words of the first records, and those of the others.
+  pub flat-take : (rs : List R) (p : ℕ) → p ≤ length rs → take (width * p) (flat words rs) ≡ flat words (take p rs)
+  flat-take rs p h =
+      let parts : flat words rs ≡ flat words (take p rs) ++ flat words (drop p rs) =
+      ap (flat words) (sym (take-append-drop p rs)) ∙ flat-append (take p rs) (drop p rs) in
+      ap (take (width * p)) parts
+      ∙ take-at (flat words (take p rs)) (flat words (drop p rs)) (width * p)
+      (flat-length (take p rs) ∙ ap (λ (n : ℕ). width * n) (length-take-le p rs h))
+
+  pub flat-drop : (rs : List R) (p : ℕ) → p ≤ length rs → drop (width * p) (flat words rs) ≡ flat words (drop p rs)
+  flat-drop rs p h =
+      let parts : flat words rs ≡ flat words (take p rs) ++ flat words (drop p rs) =
+      ap (flat words) (sym (take-append-drop p rs)) ∙ flat-append (take p rs) (drop p rs) in
+      ap (drop (width * p)) parts
+      ∙ drop-at (flat words (take p rs)) (flat words (drop p rs)) (width * p)
+      (flat-length (take p rs) ∙ ap (λ (n : ℕ). width * n) (length-take-le p rs h))
+
+  -- A record stored over another takes its place.
+  pub flat-set : (rs : List R) (p : ℕ) (r d : R) (rest : List ℕ) → p < length rs
+      → sets (flat words rs ++ rest) (width * p) (words r) ≡ flat words (set rs p r) ++ rest
+  unfolding flat
+  flat-set rs p r d rest h =
+      let before : List R = take p rs in
+      let behind : List R = drop (suc p) rs in
+      let old : List ℕ = words (getD rs p d) in
+      let long : length before ≡ p = length-take-le p rs (omega arith) in
+      let parts : flat words rs ++ rest ≡ flat words before ++ (old ++ (flat words behind ++ rest)) =
+      ap (λ (l : List R). flat words l ++ rest) (split-at rs p d h)
+      ∙ ap (λ (l : List ℕ). l ++ rest) (flat-append before (getD rs p d ∷ behind))
+      ∙ append-assoc (flat words before) (old ++ flat words behind) rest
+      ∙ ap (λ (l : List ℕ). flat words before ++ l) (append-assoc old (flat words behind) rest) in
+      ap₂ (λ (l : List ℕ) (n : ℕ). sets l (width * n) (words r)) parts (sym long)
+      ∙ flat-stored before r old (flat words behind ++ rest) (wide (getD rs p d))
+      ∙ sym (append-assoc (flat words (before ++ (r ∷ []))) (flat words behind) rest)
+      ∙ ap (λ (l : List ℕ). l ++ rest) (sym (flat-append (before ++ (r ∷ [])) behind))
+      ∙ ap (λ (l : List R). flat words l ++ rest) (append-snoc before r behind ∙ sym (set-split rs p r h))

@@ -13,6 +13,15 @@ module _ {S : Type 0} where
   unfolding over
   over-more n turn s = ap (λ (k : ℕ). over k turn s) (add-one n)
 
+  -- One turn more, of what came of the turns before.
+  pub over-next : (n : ℕ) (turn : ℕ → S → S) (s now next : S) → now ≡ over n turn s → next ≡ turn n now → next ≡ over (n + 1) turn s
+  over-next n turn s now next before step = step ∙ ap (turn n) before ∙ sym (over-more n turn s)
+
+  -- No turn yet.
+  pub over-none : (turn : ℕ → S → S) (s : S) → s ≡ over 0 turn s
+  unfolding over
+  over-none turn s = refl
+
   -- What each turn keeps all turns keep.
   pub over-keeps : (P : S → Type 0) (n : ℕ) (turn : ℕ → S → S) → ((i : ℕ) (s : S) → i < n → P s → P (turn i s)) → (s : S) → P s
       → P (over n turn s)

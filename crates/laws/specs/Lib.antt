@@ -1,5 +1,6 @@
 -- Definitions that contracts of several crates cite.
-pub mod Counts
 pub mod Bits
+pub mod Counts
 pub mod Records
 pub mod Turns
+pub mod Decides

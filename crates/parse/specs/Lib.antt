@@ -2,3 +2,4 @@
 pub mod Words
 pub mod WellFormed
 pub mod Tells
+pub mod Parts

@@ -23,16 +23,25 @@ abbrev pub maxQueued : ℕ
 maxQueued = 1024
 
 -- I: half the item words.
+abbrev pub itemRoomOf : List ℕ → ℕ
+itemRoomOf items = min maxItems (length items / itemWords)
+
 abbrev pub itemRoom : Words → ℕ
-itemRoom w = min maxItems (length (w .items) / itemWords)
+itemRoom w = itemRoomOf (w .items)
 
 -- E: the starts less one, half the row words.
+abbrev pub setRoomOf : List ℕ → List ℕ → ℕ
+setRoomOf starts rows = min maxSets (min (length starts - 1) (length rows / rowWords))
+
 abbrev pub setRoom : Words → ℕ
-setRoom w = min maxSets (min (length (w .starts) - 1) (length (w .rows) / rowWords))
+setRoom w = setRoomOf (w .starts) (w .rows)
 
 -- Q: the queue's words.
+abbrev pub queueRoomOf : List ℕ → ℕ
+queueRoomOf queue = min maxQueued (length queue)
+
 abbrev pub queueRoom : Words → ℕ
-queueRoom w = min maxQueued (length (w .queue))
+queueRoom w = queueRoomOf (w .queue)
 
 -- The words within the capacities. Only they belong to the parse.
 abbrev pub within : Words → Words

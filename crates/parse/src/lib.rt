@@ -1,7 +1,60 @@
 // The words of a parse, and whether they are well formed.
+ghost use mathlib.Core.Path.{_≡_};
+ghost use Prim.Native.Nat.{ℕ, _+_, _/_, _≤_};
+ghost use lib.ListN.{length};
+ghost use Rattle.bits.specs.Width.{rowWords};
+ghost use Rattle.grammar.specs.Accepted.{maxRules};
+ghost use Rattle.grammar.specs.Decoded.{rulesIn};
+ghost use Rattle.parse.specs.Tells.{Tells};
+ghost use Rattle.parse.specs.WellFormed.{WellFormed};
+use bits::WIDTH;
+use grammar::rules::Rules;
+use item::ITEM_WORDS;
+
+pub mod order;
+pub mod room;
+pub mod rows;
+pub mod sets;
+pub mod spare;
+pub mod word;
 
 // A parse by value: the number of the latest set, and the number of items in all sets.
 pub struct State {
     pub set: usize,
     pub items: usize,
+}
+
+// Whether a state and words are well formed for the first `count` rules over `symbols` symbols. The words are those within
+// the capacities; whatever they and the state hold, no word past the capacities is read.
+pub fn well_formed(
+    rules: &Rules,
+    symbols: usize,
+    count: usize,
+    state: State,
+    items: &[u32],
+    starts: &[u32],
+    rows: &[u64],
+    queue: &[u32],
+) -> bool
+    requires { ⌜ (count ≤ maxRules) × (length (now starts) ≡ length (now rows) / rowWords + 1) ⌝ }
+    ensures { λ r. ⌜ Tells r (WellFormed symbols (rulesIn (now (rules .entry)) count) state (record { items = now (items .entry); starts = now (starts .entry); rows = now (rows .entry); queue = now (queue .entry) })) ⌝ }
+{
+    let set = state.set;
+    let held = state.items;
+    if set >= rows.len() / WIDTH {
+        return false;
+    }
+    if held > items.len() / ITEM_WORDS {
+        return false;
+    }
+    if !sets::starts_fit(state, starts) {
+        return false;
+    }
+    if !sets::sets_fit(rules, count, set, items, starts) {
+        return false;
+    }
+    if !rows::rows_below(symbols, set, rows) {
+        return false;
+    }
+    spare::spare_clear(state, items, starts, rows, queue)
 }

@@ -1,12 +1,7 @@
 -- `item::write` meets its contract: two stores, one behind the other.
-use mathlib.Core.Path.{ap}
-use mathlib.Core.List.{List}
-use Prim.Native.Nat.{ℕ, _*_}
 use native.Mathlib.Numerals.{add-one}
 use native.Mathlib.Omega.{arith}
-use lib.ListN.{length-set, set}
-use denote.Ref.{now}
-use Rattle.item.specs.Item.{itemWords}
+use lib.ListN.{length-set}
 use borrow.Author.Needs.{needs}
 use Rattle.item.proofs.write.Statement.{statement}
 use Rattle.item.proofs.write.Tie as tie

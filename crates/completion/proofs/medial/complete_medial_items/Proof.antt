@@ -1,3 +1,16 @@
+use Rattle.completion.proofs.Searching.{queueing, set-searchable, medial-found, queueing-sound}
+use Rattle.completion.specs.Ready.{Sound}
+use Rattle.completion.specs.Pass.{Pass}
+use Rattle.laws.proofs.Turns.{over-next, over-none}
+use Rattle.laws.specs.Turns.{over}
+use Rattle.completion.specs.Pass.{passOf}
+use Rattle.grammar.specs.Decoded.{rulesIn}
+use borrow.Author.Needs.{needs}
+use native.Mathlib.Omega.{arith}
+use lib.ListN.{length, getD}
+use Prim.Native.Nat.{ℕ, _+_, _-_, _≤_, _<_}
+use mathlib.Core.List.{List}
+use mathlib.Core.Path.{_≡_, refl, sym, ap, _∙_, subst}
 use Rattle.completion.proofs.medial.complete_medial_items.Statement.{statement}
 use Rattle.completion.proofs.medial.complete_medial_items.Tie as tie
 use Rattle.completion.proofs.medial.complete_medial_items.Reads as reads
@@ -6,76 +19,112 @@ use Rattle.completion.proofs.medial.medial_item_set_range.Reads as medi
 use Rattle.completion.proofs.pass.enqueue.Reads as enqueue-reads
 
 abbrev Inv-loop : tie.InvT-loop
-Inv-loop rules count items starts queue₀ k x first number now₀ i₀ queue now i = ?
+Inv-loop rules count items starts queue₀ k x first number now₀ i₀ queue now i =
+    (i ≤ number) × (passOf now items queue ≡ over i (queueing first) (passOf now₀ items queue₀)) × (length queue ≡ length queue₀)
 
 abbrev μ-loop : tie.MeasureT-loop
-μ-loop rules count items starts queue₀ k x first number now₀ i₀ queue now i = ?
+μ-loop rules count items starts queue₀ k x first number now₀ i₀ queue now i = number - i
 
--- src/medial.rt:82:9
+-- src/medial.rt:81:9
 mul-medial-item-set-range : tie.Need-mul-medial-item-set-range Inv-loop μ-loop
-mul-medial-item-set-range c = ?
+mul-medial-item-set-range c = search needs
 
--- src/medial.rt:82:9
+-- src/medial.rt:81:9
 shared-slice-read-medial-item-set-range :
     tie.Need-shared-slice-read-medial-item-set-range Inv-loop μ-loop
-shared-slice-read-medial-item-set-range c = ?
+shared-slice-read-medial-item-set-range c = search needs
+
+-- src/medial.rt:81:9
+cast-medial-item-set-range : tie.Need-cast-medial-item-set-range Inv-loop μ-loop
+cast-medial-item-set-range c = record { fits = omega (arith, c .shared-slice-known3 .given (c .before .before .before .before .args .k)) }
+
+-- src/medial.rt:82:16
+add-medial-item-set-range : tie.Need-add-medial-item-set-range Inv-loop μ-loop
+add-medial-item-set-range c = search needs
 
 -- src/medial.rt:82:9
-cast-medial-item-set-range : tie.Need-cast-medial-item-set-range Inv-loop μ-loop
-cast-medial-item-set-range c = ?
-
--- src/medial.rt:83:16
-add-medial-item-set-range : tie.Need-add-medial-item-set-range Inv-loop μ-loop
-add-medial-item-set-range c = ?
-
--- src/medial.rt:83:9
 mul-medial-item-set-range-2 : tie.Need-mul-medial-item-set-range-2 Inv-loop μ-loop
-mul-medial-item-set-range-2 c = ?
+mul-medial-item-set-range-2 c = search needs
 
--- src/medial.rt:83:9
+-- src/medial.rt:82:9
 shared-slice-read-medial-item-set-range-2 :
     tie.Need-shared-slice-read-medial-item-set-range-2 Inv-loop μ-loop
-shared-slice-read-medial-item-set-range-2 c = ?
+shared-slice-read-medial-item-set-range-2 c = search needs
 
--- src/medial.rt:83:9
+-- src/medial.rt:82:9
 cast-medial-item-set-range-2 : tie.Need-cast-medial-item-set-range-2 Inv-loop μ-loop
-cast-medial-item-set-range-2 c = ?
+cast-medial-item-set-range-2 c = record { fits = omega (arith, c .shared-slice-known4 .given (c .before .before .before .before .before .args .k + 1)) }
 
--- src/medial.rt:78:9
+-- src/medial.rt:77:9
 medial-item-set-range-requires : tie.Need-medial-item-set-range-requires Inv-loop μ-loop
-medial-item-set-range-requires c κs = ?
+medial-item-set-range-requires c κs =
+    let a = c .before .before .before .before .before .args in
+    let rs = rulesIn (a .rules .now) (a .count) in
+    let s = passOf (a .at) (a .items .now) (a .queue .now) in
+    (c .before .before .before .before .before .pre .0 .0, set-searchable rs (a .starts .now) (a .k) s (c .before .before .before .before .before .pre .0 .1) (c .before .before .before .before .before .pre .1 .0) (c .before .before .before .before .before .pre .1 .1), c .before .before .before .before .before .pre .0 .2)
 
--- src/medial.rt:89:5
+-- src/medial.rt:88:5
 loop-holds : tie.Need-loop-holds Inv-loop μ-loop
-loop-holds c = ?
+loop-holds c = (search needs, over-none _ _, refl)
 
--- src/medial.rt:90:43
+-- src/medial.rt:89:43
 add-enqueue : tie.Need-add-enqueue Inv-loop μ-loop
-add-enqueue c = ?
-
--- src/medial.rt:90:9
-enqueue-requires : tie.Need-enqueue-requires Inv-loop μ-loop
-enqueue-requires c κs = ?
+add-enqueue c =
+    let a = c .before .before .before .before .before .before .before .before .before .args in
+    let f = c .before .before .before .medial-item-set-range .ensures in
+    record { fits = omega (arith, c .before .loop-test .taken, f .up-to, c .before .before .before .before .before .before .before .before .before .pre .1 .1 .starts-fit (a .k + 1), c .before .before .before .before .before .before .before .before .before .pre .1 .0 .items-fit, c .before .before .before .before .before .before .before .before .before .pre .1 .0 .few-items) }
 
 -- src/medial.rt:89:9
+enqueue-requires : tie.Need-enqueue-requires Inv-loop μ-loop
+enqueue-requires c κs =
+    let a = c .before .before .before .before .before .before .before .before .before .args in
+    let rs = rulesIn (a .rules .now) (a .count) in
+    let s = passOf (a .at) (a .items .now) (a .queue .now) in
+    let l = c .before .before .loop in
+    let f = c .before .before .before .medial-item-set-range .ensures in
+    let first = c .before .before .before .medial-item-set-range .result .first in
+    let number = c .before .before .before .medial-item-set-range .result .number in
+    let known = queueing-sound first number (l .i) s (c .before .before .before .before .before .before .before .before .before .pre .1 .0) (omega (arith, f .up-to, c .before .before .before .before .before .before .before .before .before .pre .1 .1 .starts-fit (a .k + 1))) (l .inv .0) in (
+      subst Sound (sym (l .inv .1)) (known .0),
+      λ on. subst (λ (u : Pass). first + l .i < u .at .items) (sym (l .inv .1)) (omega (arith, known .1, c .before .loop-test .taken, f .up-to, c .before .before .before .before .before .before .before .before .before .pre .1 .1 .starts-fit (a .k + 1))),
+    )
+
+-- src/medial.rt:88:9
 add-i : tie.Need-add-i Inv-loop μ-loop
-add-i c = ?
+add-i c = search needs
 
--- src/medial.rt:89:5
+-- src/medial.rt:88:5
 loop-less : tie.Need-loop-less Inv-loop μ-loop
-loop-less c = ?
+loop-less c = search needs
 
--- src/medial.rt:89:5
+-- src/medial.rt:88:5
 loop-again : tie.Need-loop-again Inv-loop μ-loop
-loop-again c = ?
+loop-again c =
+    let a = c .before .before .before .before .before .before .before .before .before .before .before .before .args in
+    let rs = rulesIn (a .rules .now) (a .count) in
+    let s = passOf (a .at) (a .items .now) (a .queue .now) in
+    let l = c .before .before .before .before .before .loop in (
+      search needs,
+      over-next (l .i) (queueing (c .before .before .before .before .before .before .medial-item-set-range .result .first)) s (passOf (l .now) (a .items .now) (l .queue)) _ (l .inv .1) (c .before .before .enqueue .ensures),
+      c .before .before .enqueue .kept .1 .0 ∙ l .inv .2,
+    )
 
--- src/medial.rt:64:1
+-- src/medial.rt:63:1
 same-length : tie.Need-same-length Inv-loop μ-loop
-same-length c = ?
+same-length c = c .before .loop .inv .2
 
--- src/medial.rt:64:1
+-- src/medial.rt:63:1
 returns : tie.Need-returns Inv-loop μ-loop
-returns c = ?
+returns c =
+    let a = c .before .before .before .before .before .before .before .before .args in
+    let rs = rulesIn (a .rules .now) (a .count) in
+    let s = passOf (a .at) (a .items .now) (a .queue .now) in
+    let l = c .before .loop in
+    let r = c .before .before .medial-item-set-range .result in
+    let all : l .i ≡ r .number = omega (arith, l .inv .0, c .loop-test .left) in
+    l .inv .1
+    ∙ ap (λ (n : ℕ). over n (queueing (r .first)) s) all
+    ∙ sym (medial-found rs (a .starts .now) (a .k) (a .x) (r .first) (r .number) s (c .before .before .medial-item-set-range .ensures))
 
 pub complete-medial-items-spec : {M : Type 1} → statement M
 complete-medial-items-spec =

@@ -1,3 +1,16 @@
+use Rattle.completion.proofs.Searching.{second-read}
+use Rattle.completion.proofs.Waiting.{rules-length}
+use Rattle.item.specs.Item.{ruleAt}
+use Rattle.completion.specs.Search.{secondAt}
+use borrow.Author.Count.{below-more}
+use Rattle.completion.specs.Pass.{passOf}
+use Rattle.grammar.specs.Decoded.{rulesIn}
+use borrow.Author.Needs.{needs}
+use native.Mathlib.Omega.{arith}
+use lib.ListN.{length, getD}
+use Prim.Native.Nat.{ℕ, _+_, _-_, _≤_, _<_}
+use mathlib.Core.List.{List}
+use mathlib.Core.Path.{_≡_, refl, sym, ap, _∙_, subst}
 use Rattle.completion.proofs.medial.first_not_below.Statement.{statement}
 use Rattle.completion.proofs.medial.first_not_below.Tie as tie
 use Rattle.completion.proofs.medial.first_not_below.Reads as reads
@@ -6,46 +19,80 @@ use Rattle.grammar.proofs.rules.second.Reads as second-reads
 use Rattle.item.proofs.rule.Reads as rule-reads
 
 abbrev Inv-loop : tie.InvT-loop
-Inv-loop rules count items from to x p₀ p = ?
+Inv-loop rules count items from to x p₀ p =
+    (from ≤ p) × (p ≤ to) × ((q : ℕ) → q < p → from ≤ q → secondAt (rulesIn rules count) items q < x)
 
 abbrev μ-loop : tie.MeasureT-loop
-μ-loop rules count items from to x p₀ p = ?
+μ-loop rules count items from to x p₀ p = to - p
 
--- src/medial.rt:34:5
+-- src/medial.rt:33:5
 loop-holds : tie.Need-loop-holds Inv-loop μ-loop
-loop-holds c = ?
+loop-holds c =
+    (search needs, c .before .pre .1 .upwards, λ q h l. absurd (omega arith))
 
--- src/medial.rt:35:42
+-- src/medial.rt:34:42
 rule-requires : tie.Need-rule-requires Inv-loop μ-loop
-rule-requires c κs = ?
+rule-requires c κs =
+    c .before .before .before .pre .1 .there (c .before .loop .p) (c .before .loop .inv .0) (c .loop-test .taken)
 
--- src/medial.rt:35:42
+-- src/medial.rt:34:42
 cast-second : tie.Need-cast-second Inv-loop μ-loop
-cast-second c = ?
+cast-second c = search needs
 
--- src/medial.rt:35:12
+-- src/medial.rt:34:12
 second-requires : tie.Need-second-requires Inv-loop μ-loop
-second-requires c κs = ?
+second-requires c κs =
+    let a = c .before .before .before .before .args in
+    let rs = rulesIn (a .rules .now) (a .count) in
+    omega (arith, c .rule .ensures, c .before .before .before .before .pre .1 .rules (c .before .before .loop .p) (c .before .before .loop .inv .0) (c .before .loop-test .taken), rules-length (a .rules .now) (a .count), c .before .before .before .before .pre .0)
 
--- src/medial.rt:36:13
+-- src/medial.rt:35:13
 returns : tie.Need-returns Inv-loop μ-loop
-returns c = ?
+returns c =
+    let a = c .before .before .before .before .before .before .args in
+    let rs = rulesIn (a .rules .now) (a .count) in
+    let l = c .before .before .before .before .loop in
+    let there : ruleAt (a .items .now) (l .p) < a .count =
+    omega (arith, c .before .before .before .before .before .before .pre .1 .rules (l .p) (l .inv .0) (c .before .before .before .loop-test .taken), rules-length (a .rules .now) (a .count)) in
+    record {
+      from-on = l .inv .0;
+      up-to = l .inv .1;
+      below = λ q low high. l .inv .2 q high low;
+      not-below = λ h. omega (arith, c .if1 .taken, second-read (a .rules .now) (a .count) (a .items .now) (l .p) (c .before .before .rule .result) (c .before .second .result) (c .before .before .rule .ensures) there (c .before .second .ensures .0));
+    }
 
--- src/medial.rt:38:9
+-- src/medial.rt:37:9
 add-p : tie.Need-add-p Inv-loop μ-loop
-add-p c = ?
+add-p c = search needs
 
--- src/medial.rt:34:5
+-- src/medial.rt:33:5
 loop-less : tie.Need-loop-less Inv-loop μ-loop
-loop-less c = ?
+loop-less c = search needs
 
--- src/medial.rt:34:5
+-- src/medial.rt:33:5
 loop-again : tie.Need-loop-again Inv-loop μ-loop
-loop-again c = ?
+loop-again c =
+    let a = c .before .before .before .before .before .before .args in
+    let rs = rulesIn (a .rules .now) (a .count) in
+    let l = c .before .before .before .before .loop in
+    let there : ruleAt (a .items .now) (l .p) < a .count =
+    omega (arith, c .before .before .before .before .before .before .pre .1 .rules (l .p) (l .inv .0) (c .before .before .before .loop-test .taken), rules-length (a .rules .now) (a .count)) in (
+      search needs,
+      search needs,
+      below-more (λ (q : ℕ). a .from ≤ q → secondAt rs (a .items .now) q < a .x) (l .p) (l .inv .2)
+          (λ low. omega (arith, c .if1 .left, second-read (a .rules .now) (a .count) (a .items .now) (l .p) (c .before .before .rule .result) (c .before .second .result) (c .before .before .rule .ensures) there (c .before .second .ensures .0))),
+    )
 
--- src/medial.rt:22:1
+-- src/medial.rt:21:1
 returns-2 : tie.Need-returns-2 Inv-loop μ-loop
-returns-2 c = ?
+returns-2 c =
+    let l = c .before .loop in
+    record {
+      from-on = l .inv .0;
+      up-to = l .inv .1;
+      below = λ q low high. l .inv .2 q high low;
+      not-below = λ h. absurd (omega (arith, c .loop-test .left));
+    }
 
 pub first-not-below-spec : {M : Type 1} → statement M
 first-not-below-spec =

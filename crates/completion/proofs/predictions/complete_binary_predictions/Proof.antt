@@ -1,3 +1,15 @@
+use Rattle.completion.proofs.Waiting.{rules-length}
+use Rattle.completion.specs.Complete.{completeBinary, completeBinaryPredictions}
+use Rattle.completion.specs.Pass.{passOf}
+use Rattle.grammar.specs.Decoded.{rulesIn}
+use Rattle.laws.proofs.Turns.{over-next, over-none}
+use Rattle.laws.specs.Turns.{over}
+use borrow.Author.Needs.{needs}
+use native.Mathlib.Omega.{arith}
+use lib.ListN.{length}
+use Prim.Native.Nat.{ℕ, _+_, _-_, _≤_, _<_}
+use mathlib.Core.List.{List}
+use mathlib.Core.Path.{_≡_, refl, sym, ap, _∙_, subst}
 use Rattle.completion.proofs.predictions.complete_binary_predictions.Statement.{statement}
 use Rattle.completion.proofs.predictions.complete_binary_predictions.Tie as tie
 use Rattle.completion.proofs.predictions.complete_binary_predictions.Reads as reads
@@ -5,38 +17,54 @@ use Rattle.completion.proofs.predictions.complete_binary_predictions.Lt
 use Rattle.completion.proofs.predictions.complete_binary.Reads as complete-binary-reads
 
 abbrev Inv-loop : tie.InvT-loop
-Inv-loop rules count items₀ rows k x now₀ r₀ items now r = ?
+Inv-loop rules count items₀ rows k x now₀ r₀ items now r =
+    (r ≤ count)
+    × ((q : List ℕ) → passOf now items q ≡ over r (completeBinary (rulesIn rules count) rows k x) (passOf now₀ items₀ q))
+    × (length items ≡ length items₀)
 
 abbrev μ-loop : tie.MeasureT-loop
-μ-loop rules count items₀ rows k x now₀ r₀ items now r = ?
+μ-loop rules count items₀ rows k x now₀ r₀ items now r = count - r
 
 -- src/predictions.rt:119:5
 loop-holds : tie.Need-loop-holds Inv-loop μ-loop
-loop-holds c = ?
+loop-holds c = (search needs, λ q. over-none _ _, refl)
 
 -- src/predictions.rt:120:9
 complete-binary-requires : tie.Need-complete-binary-requires Inv-loop μ-loop
-complete-binary-requires c κs = ?
+complete-binary-requires c κs = (c .before .before .before .before .before .pre .0, c .before .before .before .before .before .pre .1, c .before .loop-test .taken)
 
 -- src/predictions.rt:119:9
 add-r : tie.Need-add-r Inv-loop μ-loop
-add-r c = ?
+add-r c = search needs
 
 -- src/predictions.rt:119:5
 loop-less : tie.Need-loop-less Inv-loop μ-loop
-loop-less c = ?
+loop-less c = search needs
 
 -- src/predictions.rt:119:5
 loop-again : tie.Need-loop-again Inv-loop μ-loop
-loop-again c = ?
+loop-again c =
+    let a = c .before .before .before .before .before .before .before .before .args in
+    let rs = rulesIn (a .rules .now) (a .count) in
+    let l = c .before .before .before .before .before .loop in (
+      search needs,
+      λ q. over-next (l .r) (completeBinary rs (a .rows .now) (a .k) (a .x)) (passOf (a .at) (a .items .now) q) (passOf (l .now) (l .items) q) _ (l .inv .1 q) (c .before .before .complete-binary .ensures q),
+      c .before .before .complete-binary .kept .1 .1 .0 ∙ l .inv .2,
+    )
 
 -- src/predictions.rt:106:1
 same-length : tie.Need-same-length Inv-loop μ-loop
-same-length c = ?
+same-length c = c .before .loop .inv .2
 
 -- src/predictions.rt:106:1
 returns : tie.Need-returns Inv-loop μ-loop
-returns c = ?
+unfolding completeBinaryPredictions
+returns c =
+    let a = c .before .before .before .before .args in
+    let rs = rulesIn (a .rules .now) (a .count) in
+    let l = c .before .loop in
+    let all : l .r ≡ length rs = omega (arith, l .inv .0, c .loop-test .left, rules-length (a .rules .now) (a .count)) in
+    λ q. l .inv .1 q ∙ ap (λ (n : ℕ). over n (completeBinary rs (a .rows .now) (a .k) (a .x)) (passOf (a .at) (a .items .now) q)) all
 
 pub complete-binary-predictions-spec : {M : Type 1} → statement M
 complete-binary-predictions-spec =

@@ -1,3 +1,16 @@
+use Rattle.completion.proofs.Waiting.{rules-length, unaries-sound}
+use Rattle.completion.specs.Ready.{Sound}
+use Rattle.completion.specs.Complete.{completeUnary, completeUnaryPredictions}
+use Rattle.completion.specs.Pass.{passOf}
+use Rattle.grammar.specs.Decoded.{rulesIn}
+use Rattle.laws.proofs.Turns.{over-next, over-none}
+use Rattle.laws.specs.Turns.{over}
+use borrow.Author.Needs.{needs}
+use native.Mathlib.Omega.{arith}
+use lib.ListN.{length}
+use Prim.Native.Nat.{ℕ, _+_, _-_, _≤_, _<_}
+use mathlib.Core.List.{List}
+use mathlib.Core.Path.{_≡_, refl, sym, ap, _∙_, subst}
 use Rattle.completion.proofs.predictions.complete_unary_predictions.Statement.{statement}
 use Rattle.completion.proofs.predictions.complete_unary_predictions.Tie as tie
 use Rattle.completion.proofs.predictions.complete_unary_predictions.Reads as reads
@@ -5,42 +18,64 @@ use Rattle.completion.proofs.predictions.complete_unary_predictions.Lts
 use Rattle.completion.proofs.predictions.complete_unary.Reads as complete-unary-reads
 
 abbrev Inv-loop : tie.InvT-loop
-Inv-loop rules count items₀ rows queue₀ k x now₀ r₀ items queue now r = ?
+Inv-loop rules count items₀ rows queue₀ k x now₀ r₀ items queue now r =
+    (r ≤ count)
+    × (passOf now items queue ≡ over r (completeUnary (rulesIn rules count) rows k x) (passOf now₀ items₀ queue₀))
+    × (length items ≡ length items₀)
+    × (length queue ≡ length queue₀)
 
 abbrev μ-loop : tie.MeasureT-loop
-μ-loop rules count items₀ rows queue₀ k x now₀ r₀ items queue now r = ?
+μ-loop rules count items₀ rows queue₀ k x now₀ r₀ items queue now r = count - r
 
 -- src/predictions.rt:73:5
 loop-holds : tie.Need-loop-holds Inv-loop μ-loop
-loop-holds c = ?
+loop-holds c = (search needs, over-none _ _, refl, refl)
 
 -- src/predictions.rt:74:9
 complete-unary-requires : tie.Need-complete-unary-requires Inv-loop μ-loop
-complete-unary-requires c κs = ?
+complete-unary-requires c κs =
+    let a = c .before .before .before .before .before .before .before .args in
+    let rs = rulesIn (a .rules .now) (a .count) in
+    let l = c .before .before .before .loop in
+    (c .before .before .before .before .before .before .before .pre .0, c .before .before .before .before .before .before .before .pre .1, c .before .before .loop-test .taken, subst Sound (sym (l .inv .1)) (unaries-sound rs (a .rows .now) (a .k) (a .x) (l .r) (passOf (a .at) (a .items .now) (a .queue .now)) (c .before .before .before .before .before .before .before .pre .2)))
 
 -- src/predictions.rt:73:9
 add-r : tie.Need-add-r Inv-loop μ-loop
-add-r c = ?
+add-r c = search needs
 
 -- src/predictions.rt:73:5
 loop-less : tie.Need-loop-less Inv-loop μ-loop
-loop-less c = ?
+loop-less c = search needs
 
 -- src/predictions.rt:73:5
 loop-again : tie.Need-loop-again Inv-loop μ-loop
-loop-again c = ?
+loop-again c =
+    let a = c .before .before .before .before .before .before .before .before .before .before .before .before .args in
+    let rs = rulesIn (a .rules .now) (a .count) in
+    let l = c .before .before .before .before .before .before .before .before .loop in (
+      search needs,
+      over-next (l .r) (completeUnary rs (a .rows .now) (a .k) (a .x)) (passOf (a .at) (a .items .now) (a .queue .now)) (passOf (l .now) (l .items) (l .queue)) _ (l .inv .1) (c .before .before .before .before .complete-unary .ensures),
+      c .before .before .before .before .complete-unary .kept .1 .1 .0 ∙ l .inv .2,
+      c .before .before .before .before .complete-unary .kept .1 .1 .1 .1 .0 ∙ l .inv .3,
+    )
 
 -- src/predictions.rt:59:1
 same-length : tie.Need-same-length Inv-loop μ-loop
-same-length c = ?
+same-length c = c .before .loop .inv .2
 
 -- src/predictions.rt:59:1
 same-length-2 : tie.Need-same-length-2 Inv-loop μ-loop
-same-length-2 c = ?
+same-length-2 c = c .before .loop .inv .3
 
 -- src/predictions.rt:59:1
 returns : tie.Need-returns Inv-loop μ-loop
-returns c = ?
+unfolding completeUnaryPredictions
+returns c =
+    let a = c .before .before .before .before .before .args in
+    let rs = rulesIn (a .rules .now) (a .count) in
+    let l = c .before .loop in
+    let all : l .r ≡ length rs = omega (arith, l .inv .0, c .loop-test .left, rules-length (a .rules .now) (a .count)) in
+    l .inv .1 ∙ ap (λ (n : ℕ). over n (completeUnary rs (a .rows .now) (a .k) (a .x)) (passOf (a .at) (a .items .now) (a .queue .now))) all
 
 pub complete-unary-predictions-spec : {M : Type 1} → statement M
 complete-unary-predictions-spec =

@@ -1,0 +1,195 @@
+-- The items of a set whose second is a symbol stand together, and completing them is queueing them one after the other.
+use mathlib.Core.Path.{_≡_, refl, sym, ap, _∙_, subst}
+use mathlib.Core.Bool.{Bool, true, false}
+use mathlib.Core.List.{List}
+use Prim.Native.Nat.{ℕ, zero, suc, _+_, _-_, _≤_, _<_}
+use native.Mathlib.Decide.{decLt, ℕ-discrete}
+use native.Mathlib.Nat.{le-refl, le-trans}
+use native.Mathlib.Omega.{arith}
+use lib.ListN.{length, getD}
+use lib.Dec.{eqb}
+use borrow.Author.Tests.{eq-eqb, ne-eqb}
+use Rattle.laws.specs.Turns.{over}
+use Rattle.laws.proofs.Turns.{over-same, over-still, over-keeps, over-split}
+use Rattle.item.specs.Item.{itemAt, ruleAt}
+use Rattle.grammar.specs.Rules.{Rule}
+use Rattle.grammar.specs.Decoded.{secondIn, rulesIn}
+use Rattle.parse.specs.WellFormed.{secondOf}
+use Rattle.completion.specs.Pass.{Pass, andThen, enqueue}
+use Rattle.completion.specs.Complete.{completeMedial, completeMedialItems}
+use Rattle.completion.specs.Search.{secondAt, Searchable, Below, Found}
+use Rattle.completion.specs.Ready.{IsSet, Sound, Charted}
+use Rattle.completion.proofs.Soundness.{has-place, then-sound, enqueue-sound}
+use Rattle.completion.proofs.Waiting.{rule-second}
+use Rattle.completion.proofs.Pushes.{enqueue-done, enqueue-refused, goes-on, stays}
+
+module _ (rs : List Rule) (items : List ℕ) (from to : ℕ) (search : Searchable rs items from to) where
+  -- Seconds never fall from one place to a later one.
+  later : (p n : ℕ) → from ≤ p → p + n < to → secondAt rs items p ≤ secondAt rs items (p + n)
+  later p zero low high = subst (λ (q : ℕ). secondAt rs items p ≤ secondAt rs items q) (omega arith) (le-refl (secondAt rs items p))
+  later p (suc n) low high =
+      subst (λ (q : ℕ). secondAt rs items p ≤ secondAt rs items q) (omega arith)
+      (le-trans (later p n low (omega arith)) (search .ordered (p + n) (omega arith) (omega arith)))
+
+  never-fall : (p q : ℕ) → from ≤ p → p ≤ q → q < to → secondAt rs items p ≤ secondAt rs items q
+  never-fall p q low up high =
+      subst (λ (m : ℕ). secondAt rs items p ≤ secondAt rs items m) (omega arith) (later p (q - p) low (omega arith))
+
+  -- The first place not below a symbol, and the first behind it not below the next symbol, bound the items of the symbol.
+  pub found : (x first end : ℕ) → Below rs items from to x first → Below rs items first to (x + 1) end → Found rs items from to x first (end - first)
+  found x first end one two =
+      record {
+        from-on = one .from-on;
+        up-to = omega (arith, two .from-on, two .up-to);
+        before = one .below;
+        there = λ p low high.
+            let least : x ≤ secondAt rs items first = one .not-below (omega (arith, two .up-to)) in
+            let risen : secondAt rs items first ≤ secondAt rs items p = never-fall first p (one .from-on) low (omega (arith, two .up-to)) in
+            let most : secondAt rs items p < x + 1 = two .below p low (omega (arith, two .from-on)) in
+            omega arith;
+        behind = λ p low high.
+            let least : x + 1 ≤ secondAt rs items end = two .not-below (omega (arith, two .from-on)) in
+            let risen : secondAt rs items end ≤ secondAt rs items p = never-fall end p (omega (arith, one .from-on, two .from-on)) (omega (arith, two .from-on)) high in
+            omega arith;
+      }
+
+-- Queueing leaves the items.
+enqueue-items : (place : ℕ) (s : Pass) → enqueue place s .items ≡ s .items
+enqueue-items place s =
+    elim (decLt (s .at .queued) (length (s .queue))) [
+      | yes free ↦ ap (λ (u : Pass). u .items) (enqueue-done s place free)
+      | no full ↦ ap (λ (u : Pass). u .items) (enqueue-refused s place (omega arith))
+    ]
+
+-- Queueing leaves the number of items.
+pub enqueue-count : (place : ℕ) (s : Pass) → enqueue place s .at .items ≡ s .at .items
+enqueue-count place s =
+    elim (decLt (s .at .queued) (length (s .queue))) [
+      | yes free ↦ ap (λ (u : Pass). u .at .items) (enqueue-done s place free)
+      | no full ↦ ap (λ (u : Pass). u .at .items) (enqueue-refused s place (omega arith))
+    ]
+
+-- What goes on leaves the number of items, if it does so from there.
+pub then-next-count : (s : Pass) (next : Pass → Pass) → next s .at .items ≡ s .at .items → andThen s next .at .items ≡ s .at .items
+then-next-count s next same =
+    elim (ℕ-discrete (s .at .stopped) 0) [
+      | yes e ↦ ap (λ (u : Pass). u .at .items) (goes-on s next e) ∙ same
+      | no ne ↦ ap (λ (u : Pass). u .at .items) (stays s next ne)
+    ]
+
+-- What goes on leaves the items, if it does so from there.
+then-items : (s : Pass) (next : Pass → Pass) → next s .items ≡ s .items → andThen s next .items ≡ s .items
+then-items s next same =
+    elim (ℕ-discrete (s .at .stopped) 0) [
+      | yes e ↦ ap (λ (u : Pass). u .items) (goes-on s next e) ∙ same
+      | no ne ↦ ap (λ (u : Pass). u .items) (stays s next ne)
+    ]
+
+module _ (rs : List Rule) (x : ℕ) where
+  -- An item with another second is passed over.
+  medial-other : (p : ℕ) (s : Pass) → (secondOf rs (itemAt (s .items) p) ≡ x → ⊥) → completeMedial rs x p s ≡ s
+  unfolding completeMedial
+  medial-other p s other =
+      elim (ℕ-discrete (s .at .stopped) 0) [
+        | yes e ↦ goes-on s _ e ∙ rw (ne-eqb (secondOf rs (itemAt (s .items) p)) x other) refl
+        | no ne ↦ stays s _ ne
+      ]
+
+  -- One with this second is queued.
+  medial-same : (p : ℕ) (s : Pass) → secondOf rs (itemAt (s .items) p) ≡ x → completeMedial rs x p s ≡ andThen s (enqueue p)
+  unfolding completeMedial
+  medial-same p s same =
+      elim (ℕ-discrete (s .at .stopped) 0) [
+        | yes e ↦ goes-on s _ e ∙ rw (eq-eqb (secondOf rs (itemAt (s .items) p)) x same) refl ∙ sym (goes-on s (enqueue p) e)
+        | no ne ↦ stays s _ ne ∙ sym (stays s (enqueue p) ne)
+      ]
+
+-- Each of `number` places from `first` on is queued.
+abbrev pub queueing : ℕ → ℕ → Pass → Pass
+queueing first i s = andThen s (enqueue (first + i))
+
+module _ (rs : List Rule) (starts : List ℕ) (k x first number : ℕ) (s : Pass)
+    (found : Found rs (s .items) (getD starts k 0) (getD starts (k + 1) 0) x first number) where
+  Same : Pass → Type 0
+  Same u = u .items ≡ s .items
+
+  second-same : (p : ℕ) (u : Pass) → Same u → secondOf rs (itemAt (u .items) p) ≡ secondAt rs (s .items) p
+  unfolding Same
+  second-same p u same = ap (λ (w : List ℕ). secondOf rs (itemAt w p)) same
+
+  -- Before those that were found, and behind them, nothing is done.
+  passed-before : (p : ℕ) (u : Pass) → getD starts k 0 ≤ p → p < first → Same u → completeMedial rs x p u ≡ u
+  passed-before p u low high same =
+      medial-other rs x p u (λ e. let less : secondAt rs (s .items) p < x = found .before p low high in omega (arith, second-same p u same))
+
+  passed-behind : (p : ℕ) (u : Pass) → first + number ≤ p → p < getD starts (k + 1) 0 → Same u → completeMedial rs x p u ≡ u
+  passed-behind p u low high same =
+      medial-other rs x p u (λ e. let more : x < secondAt rs (s .items) p = found .behind p low high in omega (arith, second-same p u same))
+
+  -- Those that were found are queued.
+  queued-there : (p i : ℕ) (u : Pass) → p ≡ first + i → i < number → Same u → completeMedial rs x p u ≡ queueing first i u
+  queued-there p i u at few same =
+      medial-same rs x p u (second-same p u same ∙ found .there p (omega arith) (omega arith)) ∙ ap (λ (q : ℕ). andThen u (enqueue q)) at
+
+  queueing-same : (i : ℕ) (u : Pass) → Same u → Same (queueing first i u)
+  unfolding Same
+  queueing-same i u same = then-items u (enqueue (first + i)) (enqueue-items (first + i) u) ∙ same
+
+  -- Completing the items of a set is queueing those that were found.
+  pub medial-found : completeMedialItems rs starts k x s ≡ over number (queueing first) s
+  unfolding completeMedialItems Same
+  medial-found =
+      let from = getD starts k 0 in
+      let to = getD starts (k + 1) 0 in
+      let turn : ℕ → Pass → Pass = λ i. completeMedial rs x (from + i) in
+      let before : ℕ = first - from in
+      let behind : ℕ = to - (first + number) in
+      let all : to - from ≡ before + (number + behind) = omega (arith, found .from-on, found .up-to) in
+      let queues : over number (λ i. turn (before + i)) s ≡ over number (queueing first) s =
+      over-same Same number (λ i. turn (before + i)) (queueing first)
+      (λ i u h same. subst Same (sym (queued-there (from + (before + i)) i u (omega (arith, found .from-on)) h same)) (queueing-same i u same))
+      (λ i u h same. queued-there (from + (before + i)) i u (omega (arith, found .from-on)) h same) s refl in
+      let kept : Same (over number (queueing first) s) = over-keeps Same number (queueing first) (λ i u h same. queueing-same i u same) s refl in
+      ap (λ (n : ℕ). over n turn s) all
+      ∙ over-split before (number + behind) turn s
+      ∙ ap (λ (u : Pass). over (number + behind) (λ i. turn (before + i)) u)
+      (over-still Same before turn (λ i u h same. passed-before (from + i) u (omega arith) (omega (arith, found .from-on)) same) s refl)
+      ∙ over-split number behind (λ i. turn (before + i)) s
+      ∙ over-still Same behind (λ i. turn (before + (number + i)))
+      (λ i u h same. passed-behind (from + (before + (number + i))) u (omega (arith, found .from-on)) (omega (arith, found .from-on)) same)
+      (over number (λ i. turn (before + i)) s) (subst Same (sym queues) kept)
+      ∙ queues
+
+-- What can be searched can be searched from a later place on.
+pub searchable-from : (rs : List Rule) (items : List ℕ) (from to f : ℕ) → Searchable rs items from to → from ≤ f → f ≤ to → Searchable rs items f to
+searchable-from rs items from to f search low high =
+    record {
+      upwards = high;
+      there = λ p l h. search .there p (omega arith) h;
+      rules = λ p l h. search .rules p (omega arith) h;
+      ordered = λ p l h. search .ordered p (omega arith) h;
+    }
+
+-- The items of a set can be searched.
+pub set-searchable : (rs : List Rule) (starts : List ℕ) (k : ℕ) (s : Pass) → IsSet starts k → Sound s → Charted rs starts s
+    → Searchable rs (s .items) (getD starts k 0) (getD starts (k + 1) 0)
+set-searchable rs starts k s is sound chart =
+    let end : getD starts (k + 1) 0 ≤ s .at .items = chart .starts-fit (k + 1) in
+    record {
+      upwards = is .upwards;
+      there = λ p l h. has-place s sound p (omega arith);
+      rules = λ p l h. chart .rules p (omega arith);
+      ordered = λ p l h. chart .ordered k p l h;
+    }
+
+-- The second of an item, as the code reads it.
+pub second-read : (words : List ℕ) (count : ℕ) (items : List ℕ) (p r second : ℕ) → r ≡ ruleAt items p → ruleAt items p < count → second ≡ secondIn words r
+    → second ≡ secondAt (rulesIn words count) items p
+second-read words count items p r second rule there read =
+    read ∙ ap (λ (q : ℕ). secondIn words q) rule ∙ rule-second words count (ruleAt items p) there
+
+-- Queueing places of items keeps a pass sound, and its items.
+pub queueing-sound : (first number n : ℕ) (s : Pass) → Sound s → first + number ≤ s .at .items → n ≤ number → Sound (over n (queueing first) s) × (over n (queueing first) s .at .items ≡ s .at .items)
+queueing-sound first number n s sound there few =
+    over-keeps (λ (u : Pass). Sound u × (u .at .items ≡ s .at .items)) n (queueing first)
+    (λ i u h known. (then-sound u (enqueue (first + i)) (known .0) (λ on. enqueue-sound (first + i) u (known .0) (omega (arith, known .1))), then-next-count u (enqueue (first + i)) (enqueue-count (first + i) u) ∙ known .1)) s (sound, refl)

@@ -1,0 +1,12 @@
+-- From derivations to the sets of a parse, in the order of the argument.
+pub mod Spans
+pub mod Predictions
+pub mod Wrapper
+pub mod Viable
+pub mod Charts
+pub mod Steps
+pub mod Next
+pub mod Places
+pub mod Token
+pub mod Dropping
+pub mod Answers

@@ -1,0 +1,70 @@
+-- The chart after a token, said of any pass of the steps: steps 2 to 6 as relations between two charts.
+use mathlib.Core.Path.{_≡_}
+use mathlib.Core.Logic.{_≢_, _↔_, _⊎_, ⊎-elim}
+use Prim.Native.Nat.{ℕ, suc, _≤_, _<_}
+use native.Mathlib.Decide.{decLt}
+use native.Mathlib.Omega.{arith}
+use Rattle.grammar.specs.Rules.{Grammar, none, ruleCount, ruleAt}
+use Rattle.grammar.specs.Prediction.{Reaches}
+use Rattle.earley.proofs.Charts.{Chart}
+
+-- A rule x ::= y z is stored with origin `o`: (o, y) is completed, and row o has y and x.
+pub record Stored (g : Grammar) (c : Chart) (done : ℕ → ℕ → Type 0) (o r : ℕ) : Type 0 where
+  pub there : r < ruleCount g
+  pub two : ruleAt g r .second ≢ none
+  pub completed : done o (ruleAt g r .first)
+  pub first : c .row o (ruleAt g r .first)
+  pub left : c .row o (ruleAt g r .left)
+
+-- `x` is reached from the second symbol of an item of set `s`.
+pub record Led (g : Grammar) (c : Chart) (s x : ℕ) : Type 0 where
+  pub origin : ℕ
+  pub rule : ℕ
+  pub item : c .item s origin rule
+  pub reaches : Reaches g (ruleAt g rule .second) x
+
+-- No set is dropped.
+pub record Unpruned (c : Chart) (kept : ℕ) (c′ : Chart) : Type 0 where
+  pub all : kept ≡ c .last
+  pub row : {x : ℕ} → c′ .row kept x ↔ c .row kept x
+
+-- The sets behind `kept` are dropped: every new item has an origin below `kept`, and the row of `kept` is cleared.
+pub record Pruned (g : Grammar) (c : Chart) (done : ℕ → ℕ → Type 0) (kept : ℕ) (c′ : Chart) : Type 0 where
+  pub fewer : kept < c .last
+  pub origins : {o r : ℕ} → Stored g c done o r → o < kept
+  pub row : {x : ℕ} → c′ .row kept x → ⊥
+
+-- The chart after a token: the sets 0..kept stay, and one new set comes behind them, what is stored and the row that it leads to.
+pub record Next (g : Grammar) (c : Chart) (done : ℕ → ℕ → Type 0) (kept : ℕ) (c′ : Chart) : Type 0 where
+  pub last : c′ .last ≡ suc kept
+  pub items : {s o r : ℕ} → s ≤ kept → c′ .item s o r ↔ c .item s o r
+  pub rows : {s x : ℕ} → s < kept → c′ .row s x ↔ c .row s x
+  pub pruning : Unpruned c kept c′ ⊎ Pruned g c done kept c′
+  pub new-items : {o r : ℕ} → c′ .item (suc kept) o r ↔ Stored g c done o r
+  pub new-row : {x : ℕ} → c′ .row (suc kept) x ↔ Led g c′ (suc kept) x
+
+module _ {g : Grammar} {c c′ : Chart} {kept : ℕ} {done : ℕ → ℕ → Type 0} (next : Next g c done kept c′) where
+  -- Only sets of the old chart stay.
+  pub kept-within : kept ≤ c .last
+  kept-within = ⊎-elim (λ u. let e = u .all in omega arith) (λ p. let l = p .fewer in omega arith) (next .pruning)
+
+  -- Where sets are dropped, no new item begins at the last that stays.
+  pub new-origins : {o r : ℕ} → kept < c .last → Stored g c done o r → o < kept
+  new-origins l s = ⊎-elim (λ u. let e = u .all in absurd (omega arith)) (λ p. p .origins s) (next .pruning)
+
+  -- A row that stays has nothing new.
+  pub kept-row-true : {s x : ℕ} → s ≤ kept → c′ .row s x → c .row s x
+  kept-row-true {s} {x} l i = elim (decLt s kept) [ yes m ↦ next .rows m .0 i | no m ↦ at-kept (omega arith) ]
+    where
+      at-kept : s ≡ kept → c .row s x
+      at-kept e = rw e (⊎-elim (λ u. u .row .0 (rw e at i)) (λ p. absurd (p .row (rw e at i))) (next .pruning))
+
+  -- And it has all that it had, but where sets are dropped and it is the last.
+  pub kept-row-there : {s x : ℕ} → s ≤ kept → (s < kept) ⊎ (kept ≡ c .last) → c .row s x → c′ .row s x
+  kept-row-there {s} {x} l whole i = elim (decLt s kept) [ yes m ↦ next .rows m .1 i | no m ↦ at-kept (omega arith) ]
+    where
+      not-dropped : kept < c .last → s ≡ kept → ⊥
+      not-dropped f e = ⊎-elim (λ m. omega arith) (λ m. omega arith) whole
+
+      at-kept : s ≡ kept → c′ .row s x
+      at-kept e = rw e (⊎-elim (λ u. u .row .1 (rw e at i)) (λ p. absurd (not-dropped (p .fewer) e)) (next .pruning))

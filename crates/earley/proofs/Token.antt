@@ -1,0 +1,166 @@
+-- A token keeps the invariant: the new set has exactly the ideal items and predictions, and what pruning drops is not live.
+use mathlib.Core.Path.{_≡_, refl, sym, _∙_, ap, subst, subst₂}
+use mathlib.Core.List.{List, [], _∷_, _++_}
+use mathlib.Core.Logic.{_⊎_, inl, inr, ⊎-elim}
+use Prim.Native.Nat.{ℕ, suc, _≤_, _<_}
+use native.Mathlib.Decide.{decLe}
+use native.Mathlib.Omega.{arith}
+use lib.ListN.{length, length-append}
+use Rattle.grammar.specs.Rules.{Grammar, ruleAt}
+use Rattle.grammar.specs.Prediction.{here as itself}
+use Rattle.earley.proofs.Spans.{Span}
+use Rattle.earley.proofs.Predictions.{Pred, Item, says, item, item-predicts, item-grows, pred-grows, reaches-pred, reaches-first}
+use Rattle.earley.proofs.Places.{upTo, upTo-old, upTo-new, next-cases}
+use Rattle.earley.proofs.Charts.{Chart, Live, Found, Holds, live-set, set-inside}
+use Rattle.earley.proofs.Next.{Stored, Led, Next, kept-within, kept-row-true, kept-row-there, new-origins}
+use Rattle.earley.proofs.Steps.{Pass, DoneAt, pass-all, done-live, done-span, row-at, item-at, span-done}
+
+-- What is predicted at a place behind the first token is reached from an item that stands there.
+pred-led : {g : Grammar} {a : List ℕ} {c : Chart} {s m x p : ℕ} {pos : ℕ → ℕ}
+    → ((r q : ℕ) → Item g a r q m → Found c pos s r q) → 0 < m → Pred g a x p → p ≡ m → Led g c s x
+pred-led f l Pred.wrapped e = absurd (omega arith)
+pred-led f l (Pred.first h d) e =
+    let k = pred-led f l d e in
+    record { origin = k .origin; rule = k .rule; item = k .item; reaches = reaches-first (k .reaches) h }
+pred-led {g} {a} {c} {s} f l (Pred.second {r = r} {y = y} {q = q} h n d t) e =
+    let k = f r q (item h n d (subst (Span g a y q) e t)) in
+    record { origin = k .origin; rule = r; item = k .item; reaches = rw (h .second) itself }
+
+-- A live set of the new chart that is not its latest was live before, stays, and keeps its row.
+pub record Stays (c : Chart) (kept s : ℕ) : Type 0 where
+  pub live : Live c s
+  pub within : s ≤ kept
+  pub whole : (s < kept) ⊎ (kept ≡ c .last)
+
+-- Where the sets stand after the token.
+abbrev later : {g : Grammar} {a : List ℕ} {c : Chart} → Holds g a c → ℕ → ℕ → ℕ
+later {a = a} h kept = upTo kept (h .pos) (suc (length a))
+
+module _ {g : Grammar} {a : List ℕ} {c c′ : Chart} {t kept : ℕ} {done : ℕ → ℕ → Type 0}
+    (h : Holds g a c) (small : t < g .tokens) (pass : Pass g c t done) (next : Next g c done kept c′) where
+  -- The origin of a stored item stays.
+  stored-stays : {o r : ℕ} → Stored g c done o r → Stays c kept o
+  stored-stays {o} s =
+      let l : Live c o = done-live (pass .sound (s .completed)) in
+      let m : o ≤ c .last = live-set h l in
+      let w = kept-within next in
+      elim (decLe (c .last) kept) [
+        | yes k ↦ record { live = l; within = omega arith; whole = inr (omega arith) }
+        | no k ↦ (let b : o < kept = new-origins next (omega arith) s in record { live = l; within = omega arith; whole = inl b })
+      ]
+
+  -- So the live sets are the new one and such as were live before.
+  live-cases : {s : ℕ} → Live c′ s → (s ≡ suc kept) ⊎ Stays c kept s
+  live-cases Live.latest = inl (next .last)
+  live-cases (Live.origin {o = o} {r = r} l i) =
+      ⊎-elim
+      (λ e. inr (stored-stays (next .new-items .0 (subst (λ n. c′ .item n o r) e i))))
+      (λ s.
+      let j = next .items (s .within) .0 i in
+      let b = h .older (live-set h (s .live)) j in
+      let w = s .within in
+      inr (record { live = Live.origin (s .live) j; within = omega arith; whole = inl (omega arith) }))
+      (live-cases l)
+
+  -- What is stored is an ideal item.
+  stored-item : {o r : ℕ} → Stored g c done o r → Item g (a ++ t ∷ []) r (h .pos o) (suc (length a))
+  stored-item s = record {
+    there = s .there;
+    two = s .two;
+    predicted = pred-grows (t ∷ []) (h .row-true (live-set h (stored-stays s .live)) (s .left));
+    spans = done-span h small (pass .sound (s .completed));
+  }
+
+  -- Every ideal item that ends behind the token is stored.
+  item-stored : (r q : ℕ) → Item g (a ++ t ∷ []) r q (suc (length a)) → Found c′ (later h kept) (suc kept) r q
+  item-stored r q i =
+      let f : Pred g (a ++ t ∷ []) (ruleAt g r .first) q = Pred.first (says (i .there)) (i .predicted) in
+      let d : DoneAt g c t (h .pos) q (ruleAt g r .first) = span-done h (i .spans) refl f in
+      let s : Stored g c done (d .set) r = record {
+        there = i .there;
+        two = i .two;
+        completed = pass-all pass (d .done);
+        first = row-at h (t ∷ []) (d .live) (d .stands) f;
+        left = row-at h (t ∷ []) (d .live) (d .stands) (i .predicted);
+      } in
+      record { origin = d .set; item = next .new-items .1 s; stands = upTo-old (h .pos) (suc (length a)) (stored-stays s .within) ∙ d .stands }
+
+  -- Sets that stay stand where they stood, the new one behind the token.
+  old-stands : {s : ℕ} → s ≤ kept → later h kept s ≡ h .pos s
+  old-stands l = upTo-old (h .pos) (suc (length a)) l
+
+  new-stands : later h kept (suc kept) ≡ suc (length a)
+  new-stands = upTo-new (h .pos) (suc (length a)) (omega arith)
+
+  -- The positions rise.
+  rises : (s u : ℕ) → s < u → u ≤ suc kept → later h kept s < later h kept u
+  rises s u l m = next-cases kept u m
+      (λ k. let w = kept-within next in
+      let b = h .rising s u l (omega arith) in
+      let e = old-stands {s = s} (omega arith) in
+      let f = old-stands k in
+      omega arith)
+      (λ k. let w = kept-within next in
+      let b = set-inside {s = s} h (omega arith) in
+      let e = old-stands {s = s} (omega arith) in
+      rw k (rw new-stands (omega arith)))
+
+  -- The new set's items are what is stored.
+  is-stored : {s o r : ℕ} → s ≡ suc kept → c′ .item s o r → Stored g c done o r
+  is-stored {o = o} {r = r} e i = next .new-items .0 (subst (λ n. c′ .item n o r) e i)
+
+  -- Items lie behind their origins.
+  item-older : (s o r : ℕ) → s ≤ suc kept → c′ .item s o r → o < s
+  item-older s o r m i = next-cases kept s m
+      (λ l. let w = kept-within next in h .older (omega arith) (next .items l .0 i))
+      (λ e. let b = stored-stays (is-stored e i) .within in omega arith)
+
+  -- No item is wrong.
+  item-right : (s o r : ℕ) → s ≤ suc kept → c′ .item s o r → Item g (a ++ t ∷ []) r (later h kept o) (later h kept s)
+  item-right s o r m i = next-cases kept s m
+      (λ l. let w = kept-within next in
+      let j = next .items l .0 i in
+      let b = h .older (omega arith) j in
+      subst₂ (Item g (a ++ t ∷ []) r) (sym (old-stands (omega arith))) (sym (old-stands l)) (item-grows (t ∷ []) (h .item-true (omega arith) j)))
+      (λ e. let d = is-stored e i in
+      subst₂ (Item g (a ++ t ∷ []) r) (sym (old-stands (stored-stays d .within))) (sym new-stands ∙ ap (later h kept) (sym e)) (stored-item d))
+
+  -- No row has a wrong symbol.
+  row-right : (s x : ℕ) → s ≤ suc kept → c′ .row s x → Pred g (a ++ t ∷ []) x (later h kept s)
+  row-right s x m i = next-cases kept s m
+      (λ l. let w = kept-within next in
+      subst (Pred g (a ++ t ∷ []) x) (sym (old-stands l)) (pred-grows (t ∷ []) (h .row-true (omega arith) (kept-row-true next l i))))
+      (λ e. let d = next .new-row .0 (subst (λ n. c′ .row n x) e i) in
+      let j = item-right (suc kept) (d .origin) (d .rule) (omega arith) (d .item) in
+      rw e (reaches-pred (d .reaches) (item-predicts j)))
+
+  -- No item is missing in a live set.
+  item-complete : (s r q : ℕ) → Live c′ s → Item g (a ++ t ∷ []) r q (later h kept s) → Found c′ (later h kept) s r q
+  item-complete s r q l i = ⊎-elim
+      (λ e. rw e (item-stored r q (subst (Item g (a ++ t ∷ []) r q) new-stands (rw e at i))))
+      (λ y.
+      let f = item-at h (t ∷ []) (y .live) (sym (old-stands (y .within))) i in
+      let b = h .older (live-set h (y .live)) (f .item) in
+      let w = y .within in
+      record { origin = f .origin; item = next .items (y .within) .1 (f .item); stands = old-stands (omega arith) ∙ f .stands })
+      (live-cases l)
+
+  -- No symbol is missing in a live set's row.
+  row-complete : (s x : ℕ) → Live c′ s → Pred g (a ++ t ∷ []) x (later h kept s) → c′ .row s x
+  row-complete s x l d = ⊎-elim
+      (λ e. rw e (next .new-row .1 (pred-led item-stored (omega arith) d (ap (later h kept) e ∙ new-stands))))
+      (λ y. kept-row-there next (y .within) (y .whole) (row-at h (t ∷ []) (y .live) (sym (old-stands (y .within))) d))
+      (live-cases l)
+
+  -- THE INVARIANT GOES ON: the chart after a token holds for the tokens and it.
+  pub token : Holds g (a ++ t ∷ []) c′
+  token = record {
+    pos = later h kept;
+    rising = λ s u l m. rises s u l (let e = next .last in omega arith);
+    ends = ap (later h kept) (next .last) ∙ new-stands ∙ (let e = length-append a (t ∷ []) in omega arith);
+    older = λ {s} {o} {r} m i. item-older s o r (let e = next .last in omega arith) i;
+    item-true = λ {s} {o} {r} m i. item-right s o r (let e = next .last in omega arith) i;
+    row-true = λ {s} {x} m i. row-right s x (let e = next .last in omega arith) i;
+    item-there = λ {s} {r} {q} l i. item-complete s r q l i;
+    row-there = λ {s} {x} l d. row-complete s x l d;
+  }

@@ -1,0 +1,115 @@
+-- Marks, one a symbol.
+use mathlib.Core.Path.{_≡_, sym, ap, subst, _∙_}
+use mathlib.Core.Logic.{_⊎_, inl, inr, ⊎-elim}
+use mathlib.Core.Bool.{Bool, true, false}
+use mathlib.Core.List.{List}
+use Prim.Native.Nat.{ℕ, _+_, _≤_, _<_}
+use native.Mathlib.Decide.{ℕ-discrete, decLt}
+use native.Mathlib.Omega.{arith}
+use borrow.Author.Count.{below-more}
+use lib.ListN.{length, getD, set, replicate, length-set, length-replicate, getD-replicate, List·getD-eq-default}
+use lib.Seq.{getD-set-same, getD-set-other}
+use Rattle.laws.proofs.Decides.{true-false, false-true}
+use Rattle.grammar.specs.Accepted.{maxSymbols}
+use Rattle.grammar.specs.Checking.{Marked, TokensMarked, AllMarked, Low, Fires}
+use Rattle.grammar.specs.Rules.{none}
+use Rattle.grammar.specs.Decoded.{leftIn, firstIn, secondIn}
+use Rattle.laws.specs.Decides.{Decides}
+
+-- Nothing is marked at first.
+unmarked-at : (n a : ℕ) → Marked (replicate n false) a → ⊥
+unmarked-at n a m = elim (decLt a n) [
+  | yes l ↦ false-true (sym (getD-replicate n a false false l) ∙ m)
+  | no g ↦ false-true (sym (List·getD-eq-default (replicate n false) false {n = a} (out g)) ∙ m)
+]
+  where
+    out : (a < n → ⊥) → length (replicate n false) ≤ a
+    out g = omega (arith, length-replicate {A = Bool} n false)
+
+pub no-tokens : TokensMarked 0 (replicate maxSymbols false)
+no-tokens = record { long = length-replicate {A = Bool} maxSymbols false; token = λ a l. absurd (omega arith); no-other = λ a m. absurd (unmarked-at maxSymbols a m) }
+
+-- A mark that is set is there, and others are kept.
+pub mark-new : (marks : List Bool) (a : ℕ) → a < length marks → Marked (set marks a true) a
+mark-new marks a l = getD-set-same marks a true false l
+
+pub mark-kept : (marks : List Bool) (a b : ℕ) → Marked marks b → a < length marks → Marked (set marks a true) b
+mark-kept marks a b m l = elim (ℕ-discrete b a) [
+  | yes e ↦ subst (λ (x : ℕ). Marked (set marks a true) x) (sym e) (mark-new marks a l)
+  | no n ↦ getD-set-other marks a b true false n ∙ m
+]
+
+pub mark-old : (marks : List Bool) (a b : ℕ) → Marked (set marks a true) b → (b ≡ a) ⊎ Marked marks b
+mark-old marks a b m = elim (ℕ-discrete b a) [ yes e ↦ inl e | no n ↦ inr (sym (getD-set-other marks a b true false n) ∙ m) ]
+
+-- One token more.
+pub more-tokens : (marks : List Bool) (t : ℕ) → t < maxSymbols → TokensMarked t marks → TokensMarked (t + 1) (set marks t true)
+more-tokens marks t l h = record {
+  long = length-set marks t true ∙ h .long;
+  token = below-more _ _ (λ a m. mark-kept marks t a (h .token a m) (omega (arith, h .long))) (mark-new marks t (omega (arith, h .long)));
+  no-other = λ a m. ⊎-elim (λ (e : a ≡ t). omega arith) (λ (o : Marked marks a). up a (h .no-other a o)) (mark-old marks t a m);
+}
+  where
+    up : (a : ℕ) → a < t → a < t + 1
+    up a x = omega arith
+
+pub last-token : (marks : List Bool) (a t : ℕ) → TokensMarked a marks → a ≤ t → t ≤ a → TokensMarked t marks
+last-token marks a t h l m = subst (λ (x : ℕ). TokensMarked x marks) (omega arith) h
+
+-- All from `from` on are marked, one after the other.
+pub none-marked : (marks : List Bool) (from : ℕ) → AllMarked marks from from
+none-marked marks from = record { marked = λ a l m. absurd (omega arith) }
+
+pub more-marked : (marks : List Bool) (from a : ℕ) → AllMarked marks from a → Marked marks a → AllMarked marks from (a + 1)
+more-marked marks from a h m = record {
+  marked = λ b l u. elim (ℕ-discrete b a) [
+    | yes e ↦ subst (λ (x : ℕ). Marked marks x) (sym e) m
+    | no n ↦ h .marked b l (lower b u n)
+  ];
+}
+  where
+    lower : (b : ℕ) → b < a + 1 → (b ≡ a → ⊥) → b < a
+    lower b u n = omega arith
+
+pub last-marked : (marks : List Bool) (from a to : ℕ) → AllMarked marks from a → to ≤ a → AllMarked marks from to
+last-marked marks from a to h l = record { marked = λ b m u. h .marked b m (omega arith) }
+
+pub one-unmarked : (marks : List Bool) (from a to : ℕ) → from ≤ a → a < to → getD marks a false ≡ false → AllMarked marks from to → ⊥
+one-unmarked marks from a to l u m h = true-false (sym (h .marked a l u) ∙ m)
+
+-- A second symbol that is there is low.
+pub low-second : (words : List ℕ) (r c : ℕ) → Low words (r + 1) → c ≡ secondIn words r → (c ≡ none → ⊥) → c < maxSymbols
+low-second words r c h e n = ⊎-elim (λ (x : secondIn words r ≡ none). absurd (n (e ∙ x))) (λ (x : secondIn words r < maxSymbols). omega arith) (h .second r (omega arith))
+
+-- Rule `r` does not fire where its left side is marked or its first symbol is not.
+pub fires-not-left : (words : List ℕ) (marks : List Bool) (r a : ℕ) → a ≡ leftIn words r → getD marks a false ≡ true → Fires words marks r → ⊥
+fires-not-left words marks r a e m f = f .left (subst (λ (x : ℕ). Marked marks x) e m)
+
+pub fires-not-first : (words : List ℕ) (marks : List Bool) (r b : ℕ) → b ≡ firstIn words r → getD marks b false ≡ false → Fires words marks r → ⊥
+fires-not-first words marks r b e m f = true-false (sym (f .first) ∙ ap (λ (x : ℕ). getD marks x false) (sym e) ∙ m)
+
+module _ (words : List ℕ) (marks : List Bool) (r a b c : ℕ) (ea : a ≡ leftIn words r) (eb : b ≡ firstIn words r) (ec : c ≡ secondIn words r)
+    (ma : getD marks a false ≡ false) (mb : getD marks b false ≡ true) where
+  still : Marked marks (leftIn words r) → ⊥
+  still m = true-false (sym m ∙ ap (λ (x : ℕ). getD marks x false) (sym ea) ∙ ma)
+
+  first-marked : Marked marks (firstIn words r)
+  first-marked = subst (λ (x : ℕ). Marked marks x) eb mb
+
+  -- It fires where it has no second symbol, or where that is marked too.
+  pub fires-one : c ≡ none → Fires words marks r
+  fires-one e = record { left = still; first = first-marked; second = inl (sym ec ∙ e) }
+
+  pub fires-two : (c ≡ none → ⊥) → Decides (getD marks c false) (Fires words marks r)
+  fires-two n = record {
+    if-yes = λ m. record { left = still; first = first-marked; second = inr (subst (λ (x : ℕ). Marked marks x) ec m) };
+    if-no = λ m f. ⊎-elim (λ (e : secondIn words r ≡ none). n (ec ∙ e)) (λ (y : Marked marks (secondIn words r)). true-false (sym y ∙ ap (λ (x : ℕ). getD marks x false) (sym ec) ∙ m)) (f .second);
+  }
+
+-- Fewer rules of low symbols.
+pub low-less : (words : List ℕ) (count r : ℕ) → Low words count → r ≤ count → Low words r
+low-less words count r h l = record {
+  left = λ q m. h .left q (omega arith);
+  first = λ q m. h .first q (omega arith);
+  second = λ q m. h .second q (omega arith);
+}

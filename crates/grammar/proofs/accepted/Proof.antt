@@ -1,0 +1,56 @@
+use borrow.Author.Tests.{not-true, not-false}
+use Rattle.laws.proofs.Decides.{says-no, decides-map}
+use Rattle.grammar.proofs.Judging.{accepted-wraps, accepted-ruled, accepted-distinct, accepted-productive, low, judged}
+use borrow.Author.Needs.{needs}
+use Rattle.grammar.proofs.accepted.Statement.{statement}
+use Rattle.grammar.proofs.accepted.Tie as tie
+
+wraps-requires : tie.Need-wraps-requires
+wraps-requires c κs = search needs
+
+returns : tie.Need-returns
+returns c = says-no (λ h. c .before .wraps .ensures .if-no (not-true _ (c .if1 .taken)) (accepted-wraps _ _ _ _ (c .before .before .pre) h))
+
+ruled-requires : tie.Need-ruled-requires
+ruled-requires c κs = search needs
+
+returns-2 : tie.Need-returns-2
+returns-2 c = says-no (λ h. c .before .ruled .ensures .if-no (not-true _ (c .if2 .taken)) (accepted-ruled _ _ _ _ (c .before .before .before .before .pre) h))
+
+equal-pair-requires : tie.Need-equal-pair-requires
+equal-pair-requires c κs = search needs
+
+returns-3 : tie.Need-returns-3
+returns-3 c = says-no (λ h. accepted-distinct _ _ _ _ (c .before .before .before .before .before .before .pre) h (c .before .equal-pair .ensures .if-yes (c .if3 .taken)))
+
+all-productive-requires : tie.Need-all-productive-requires
+all-productive-requires c κs = (
+  search needs,
+  search needs,
+  search needs,
+  low _ _ _ _ (c .before .before .before .before .before .before .pre)
+      (c .before .before .before .before .before .wraps .ensures .if-yes (not-false _ (c .before .before .before .before .if1 .left)))
+      (c .before .before .before .ruled .ensures .if-yes (not-false _ (c .before .before .if2 .left))),
+)
+
+returns-4 : tie.Need-returns-4
+returns-4 c = decides-map
+    (judged _ _ _ _ (c .before .before .before .before .before .before .before .pre)
+    (c .before .before .before .before .before .before .wraps .ensures .if-yes (not-false _ (c .before .before .before .before .before .if1 .left)))
+    (c .before .before .before .before .ruled .ensures .if-yes (not-false _ (c .before .before .before .if2 .left)))
+    (c .before .before .equal-pair .ensures .if-no (c .before .if3 .left)))
+    (accepted-productive _ _ _ _ (c .before .before .before .before .before .before .before .pre))
+    (c .all-productive .ensures)
+
+pub accepted-spec : {M : Type 1} → statement M
+accepted-spec =
+    tie.close
+    (tie.spec
+    wraps-requires
+    returns
+    ruled-requires
+    returns-2
+    equal-pair-requires
+    returns-3
+    all-productive-requires
+    returns-4)

@@ -1,0 +1,58 @@
+use borrow.Author.Tests.{not-true, not-false}
+use Rattle.grammar.proofs.Judging.{formed}
+use Rattle.grammar.specs.Accepted.{Accepted}
+use Rattle.grammar.proofs.Verdicts.{verdict-one, verdict-two, verdict-zero, readable, not-sized, read-grammar}
+use mathlib.Core.Path.{subst, subst⁻¹}
+use native.Mathlib.Omega.{arith}
+use borrow.Author.Needs.{needs}
+use Rattle.grammar.proofs.check.Statement.{statement}
+use Rattle.grammar.proofs.check.Tie as tie
+
+malformed-requires : tie.Need-malformed-requires
+malformed-requires c κs = search needs
+
+returns : tie.Need-returns
+returns c = verdict-one _ (c .before .malformed .ensures .if-yes (c .if1 .taken))
+
+symbols-requires : tie.Need-symbols-requires
+symbols-requires c κs = formed _ (c .before .malformed .ensures .if-no (c .if1 .left)) .header
+
+tokens-requires : tie.Need-tokens-requires
+tokens-requires c κs = formed _ (c .before .before .malformed .ensures .if-no (c .before .if1 .left)) .header
+
+rule-count-requires : tie.Need-rule-count-requires
+rule-count-requires c κs = formed _ (c .before .before .before .malformed .ensures .if-no (c .before .before .if1 .left)) .header
+
+sized-requires : tie.Need-sized-requires
+sized-requires c κs = search needs
+
+returns-2 : tie.Need-returns-2
+returns-2 c = verdict-two _ (c .before .before .before .before .before .before .malformed .ensures .if-no (c .before .before .before .before .before .if1 .left)) (not-sized _ _ _ _ (record { symbols = c .before .before .before .before .symbols .ensures .0; tokens = c .before .before .before .tokens .ensures .0; rules = c .before .before .rule-count .ensures .0 }) (c .before .sized .ensures .if-no (not-true _ (c .if2 .taken))))
+
+decode-requires : tie.Need-decode-requires
+decode-requires c κs = readable _ (c .before .before .before .before .before .before .malformed .ensures .if-no (c .before .before .before .before .before .if1 .left)) (omega (arith, c .before .sized .ensures .if-yes (not-false _ (c .if2 .left)), c .before .before .rule-count .ensures))
+
+accepted-requires : tie.Need-accepted-requires
+accepted-requires c κs = c .before .before .before .sized .ensures .if-yes (not-false _ (c .before .before .if2 .left))
+
+returns-3 : tie.Need-returns-3
+returns-3 c = verdict-zero _ (c .before .before .before .before .before .before .before .before .before .before .malformed .ensures .if-no (c .before .before .before .before .before .before .before .before .before .if1 .left)) (subst Accepted (read-grammar _ _ _ _ _ (record { symbols = c .before .before .before .before .before .before .before .before .symbols .ensures .0; tokens = c .before .before .before .before .before .before .before .tokens .ensures .0; rules = c .before .before .before .before .before .before .rule-count .ensures .0 }) (c .before .before .before .decode .ensures)) (c .before .accepted .ensures .if-yes (c .if3 .taken)))
+
+returns-4 : tie.Need-returns-4
+returns-4 c = verdict-two _ (c .before .before .before .before .before .before .before .before .before .before .malformed .ensures .if-no (c .before .before .before .before .before .before .before .before .before .if1 .left)) (λ h. c .before .accepted .ensures .if-no (c .if3 .left) (subst⁻¹ Accepted (read-grammar _ _ _ _ _ (record { symbols = c .before .before .before .before .before .before .before .before .symbols .ensures .0; tokens = c .before .before .before .before .before .before .before .tokens .ensures .0; rules = c .before .before .before .before .before .before .rule-count .ensures .0 }) (c .before .before .before .decode .ensures)) h))
+
+pub check-spec : {M : Type 1} → statement M
+check-spec =
+    tie.close
+    (tie.spec
+    malformed-requires
+    returns
+    symbols-requires
+    tokens-requires
+    rule-count-requires
+    sized-requires
+    returns-2
+    decode-requires
+    accepted-requires
+    returns-3
+    returns-4)

@@ -1,0 +1,72 @@
+use Rattle.laws.proofs.Decides.{says-yes, says-no}
+use borrow.Author.Tests.{not-true, not-false}
+use Rattle.grammar.specs.Checking.{Ruled}
+use Rattle.grammar.proofs.Asked.{ruled-none, ruled-more, ruled-last}
+use borrow.Author.Needs.{needs}
+use native.Mathlib.Omega.{arith}
+use Prim.Native.Nat.{_-_, _≤_}
+use Rattle.grammar.proofs.conditions.ruled.Statement.{statement}
+use Rattle.grammar.proofs.conditions.ruled.Tie as tie
+
+abbrev Inv-loop : tie.InvT-loop
+Inv-loop rules n t count r₀ r = (1 ≤ r) × Ruled rules n t r
+
+abbrev μ-loop : tie.MeasureT-loop
+μ-loop rules n t count r₀ r = count - r
+
+loop-holds : tie.Need-loop-holds Inv-loop μ-loop
+loop-holds c = (omega arith, ruled-none _ _ _)
+
+drawn-requires : tie.Need-drawn-requires Inv-loop μ-loop
+drawn-requires c κs = search needs
+
+returns : tie.Need-returns Inv-loop μ-loop
+returns c = says-no (λ h. c .before .drawn .ensures .if-no (not-true _ (c .if1 .taken)) (h .drawn _ (omega arith) (c .before .before .loop-test .taken)))
+
+adjoins-requires : tie.Need-adjoins-requires Inv-loop μ-loop
+adjoins-requires c κs = search needs
+
+returns-2 : tie.Need-returns-2 Inv-loop μ-loop
+returns-2 c = says-no (λ h. c .before .adjoins .ensures .if-no (not-true _ (c .if2 .taken)) (h .adjoins _ (omega arith) (c .before .before .before .before .loop-test .taken)))
+
+precedes-requires : tie.Need-precedes-requires Inv-loop μ-loop
+precedes-requires c κs = search needs
+
+returns-3 : tie.Need-returns-3 Inv-loop μ-loop
+returns-3 c = says-no (λ h. c .before .precedes .ensures .if-no (not-true _ (c .if3 .taken)) (h .precedes _ (omega arith) (c .before .before .before .before .before .before .loop-test .taken)))
+
+add-r : tie.Need-add-r Inv-loop μ-loop
+add-r c = search needs
+
+loop-less : tie.Need-loop-less Inv-loop μ-loop
+loop-less c = search needs
+
+loop-again : tie.Need-loop-again Inv-loop μ-loop
+loop-again c = (
+  omega arith,
+  ruled-more _ _ _ _ (c .before .before .before .before .before .before .before .loop .inv .1)
+      (c .before .before .before .before .before .drawn .ensures .if-yes (not-false _ (c .before .before .before .before .if1 .left)))
+      (c .before .before .before .adjoins .ensures .if-yes (not-false _ (c .before .before .if2 .left)))
+      (c .before .precedes .ensures .if-yes (not-false _ (c .if3 .left))),
+)
+
+returns-4 : tie.Need-returns-4 Inv-loop μ-loop
+returns-4 c = says-yes (ruled-last _ _ _ _ _ (c .before .loop .inv .1) (c .loop-test .left))
+
+pub ruled-spec : {M : Type 1} → statement M
+ruled-spec =
+    tie.close
+    (tie.spec
+    Inv-loop
+    μ-loop
+    loop-holds
+    drawn-requires
+    returns
+    adjoins-requires
+    returns-2
+    precedes-requires
+    returns-3
+    add-r
+    loop-less
+    loop-again
+    returns-4)

@@ -1,0 +1,132 @@
+// What the check asks of the header's numbers, of rule 0 and of each other rule.
+ghost use mathlib.Core.Path.{_≡_};
+ghost use Prim.Native.Nat.{_+_, _≤_, _<_};
+ghost use Rattle.laws.specs.Decides.{Decides};
+ghost use Rattle.grammar.specs.Accepted.{maxRules, maxSymbols};
+ghost use Rattle.grammar.specs.Checking.{Sized, Wraps, Drawn, Adjoins, Precedes, Ruled, FoundLeft};
+use crate::rules::NONE;
+use crate::rules::RULES;
+use crate::rules::Rules;
+use crate::rules::first;
+use crate::rules::left;
+use crate::rules::second;
+
+// The most symbols.
+pub const SYMBOLS: usize = 128;
+
+// Whether T ≥ 1, T+3 ≤ N ≤ 128 and 1 ≤ R ≤ 512.
+pub fn sized(n: usize, t: usize, count: usize) -> bool
+    requires { ⌜ t < 65536 ⌝ }
+    ensures { λ r. ⌜ Decides r (Sized n t count) ⌝ }
+{
+    if t < 1 {
+        return false;
+    }
+    if n < t + 3 {
+        return false;
+    }
+    if SYMBOLS < n {
+        return false;
+    }
+    if count < 1 {
+        return false;
+    }
+    count <= RULES
+}
+
+// Whether rule 0 is W ::= S end with S a nonterminal.
+pub fn wraps(rules: &Rules, n: usize, t: usize) -> bool
+    requires { ⌜ t + 3 ≤ n ⌝ }
+    ensures { λ r. ⌜ Decides r (Wraps (now (rules .entry)) n t) ⌝ }
+{
+    if left(rules, 0) != n - 2 {
+        return false;
+    }
+    if second(rules, 0) != n - 1 {
+        return false;
+    }
+    let start = first(rules, 0);
+    if start < t {
+        return false;
+    }
+    start < n - 2
+}
+
+// Whether rule `r` has a nonterminal on the left and only symbols 0..N-3 on the right.
+fn drawn(rules: &Rules, n: usize, t: usize, r: usize) -> bool
+    requires { ⌜ (t + 3 ≤ n) × (r < maxRules) ⌝ }
+    ensures { λ s. ⌜ Decides s (Drawn (now (rules .entry)) n t r) ⌝ }
+{
+    let a = left(rules, r);
+    if a < t {
+        return false;
+    }
+    if n - 2 <= a {
+        return false;
+    }
+    if n - 2 <= first(rules, r) {
+        return false;
+    }
+    let c = second(rules, r);
+    if c == NONE {
+        return true;
+    }
+    c < n - 2
+}
+
+// The first rule below `end` with the left side `symbol`, or `end`.
+fn find_left(rules: &Rules, end: usize, symbol: usize) -> usize
+    requires { ⌜ end ≤ maxRules ⌝ }
+    ensures { λ r. ⌜ FoundLeft (now (rules .entry)) end symbol r ⌝ }
+{
+    let mut r = 0;
+    while r < end {
+        if left(rules, r) == symbol {
+            return r;
+        }
+        r += 1;
+    }
+    r
+}
+
+// Whether rule `r` goes on its left side's block or begins it.
+fn adjoins(rules: &Rules, r: usize) -> bool
+    requires { ⌜ (0 < r) × (r < maxRules) ⌝ }
+    ensures { λ s. ⌜ Decides s (Adjoins (now (rules .entry)) r) ⌝ }
+{
+    let a = left(rules, r);
+    if left(rules, r - 1) == a {
+        return true;
+    }
+    r <= find_left(rules, r, a)
+}
+
+// Whether no rule of B stands up to rule `r`, where that is A ::= B alone.
+fn precedes(rules: &Rules, r: usize) -> bool
+    requires { ⌜ r < maxRules ⌝ }
+    ensures { λ s. ⌜ Decides s (Precedes (now (rules .entry)) r) ⌝ }
+{
+    if second(rules, r) != NONE {
+        return true;
+    }
+    r < find_left(rules, r + 1, first(rules, r))
+}
+
+// Whether every rule but rule 0 is so.
+pub fn ruled(rules: &Rules, n: usize, t: usize, count: usize) -> bool
+    requires { ⌜ (t + 3 ≤ n) × (count ≤ maxRules) ⌝ }
+    ensures { λ r. ⌜ Decides r (Ruled (now (rules .entry)) n t count) ⌝ }
+{
+    for r in 1..count {
+        if !drawn(rules, n, t, r) {
+            return false;
+        }
+        if !adjoins(rules, r) {
+            return false;
+        }
+        if !precedes(rules, r) {
+            return false;
+        }
+    }
+    true
+}

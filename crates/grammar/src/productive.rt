@@ -1,0 +1,84 @@
+// Which symbols derive some string of tokens.
+ghost use mathlib.Core.Path.{_≡_};
+ghost use mathlib.Core.Bool.{true, false};
+ghost use Prim.Native.Nat.{ℕ, _+_, _≤_, _<_};
+ghost use lib.Dec.{ltb};
+ghost use lib.ListN.{length, getD};
+ghost use Rattle.laws.specs.Decides.{Decides};
+ghost use Rattle.grammar.specs.Accepted.{maxRules, maxSymbols};
+ghost use Rattle.grammar.specs.Decoded.{grammarIn};
+ghost use Rattle.grammar.specs.Checking.{Low, Fires, AllProductive, TokensMarked, AllMarked};
+use crate::conditions::SYMBOLS;
+use crate::rules::NONE;
+use crate::rules::Rules;
+use crate::rules::first;
+use crate::rules::left;
+use crate::rules::second;
+
+// A mark for each symbol.
+type Marks = [bool; SYMBOLS];
+
+// The tokens marked.
+fn mark_tokens(t: usize) -> Marks
+    requires { ⌜ t ≤ maxSymbols ⌝ }
+    ensures { λ r. ⌜ TokensMarked t r ⌝ }
+{
+    let mut marks = [false; SYMBOLS];
+    for a in 0..t {
+        marks[a] = true;
+    }
+    marks
+}
+
+// Whether rule `r` marks its left side: the right side is marked, and the left side is not yet.
+fn fires(rules: &Rules, marks: &Marks, r: usize) -> bool
+    requires { ⌜ (r < maxRules) × Low (now rules) (r + 1) ⌝ }
+    ensures { λ s. ⌜ Decides s (Fires (now (rules .entry)) (now (marks .entry)) r) ⌝ }
+{
+    if marks[left(rules, r)] {
+        return false;
+    }
+    if !marks[first(rules, r)] {
+        return false;
+    }
+    let c = second(rules, r);
+    if c == NONE {
+        return true;
+    }
+    marks[c]
+}
+
+// Whether all symbols from `from` up to `to` are marked.
+fn all_marked(marks: &Marks, from: usize, to: usize) -> bool
+    requires { ⌜ to ≤ maxSymbols ⌝ }
+    ensures { λ r. ⌜ Decides r (AllMarked (now (marks .entry)) from to) ⌝ }
+{
+    for a in from..to {
+        if !marks[a] {
+            return false;
+        }
+    }
+    true
+}
+
+// Whether every nonterminal derives some string of tokens: rounds over the rules, until a round marks nothing.
+pub fn all_productive(rules: &Rules, n: usize, t: usize, count: usize) -> bool
+    requires { ⌜ (t + 3 ≤ n) × (n ≤ maxSymbols) × (count ≤ maxRules) × Low (now rules) count ⌝ }
+    ensures { λ r. ⌜ Decides r (AllProductive (grammarIn (now (rules .entry)) n t count)) ⌝ }
+{
+    let mut marks = mark_tokens(t);
+    loop {
+        let mut marked = false;
+        for r in 0..count {
+            if !fires(rules, &marks, r) {
+                continue;
+            }
+            marks[left(rules, r)] = true;
+            marked = true;
+        }
+        if !marked {
+            break;
+        }
+    }
+    all_marked(&marks, t, n - 2)
+}

@@ -1,0 +1,46 @@
+-- Document 01's number and values determine the answer: two results that meet a promise agree.
+use mathlib.Core.Path.{_≡_, refl, ap, _∙_}
+use Rattle.node.specs.Answers.{answer, written, found, walked}
+use Rattle.node.specs.declared.Written.{Written}
+use Rattle.node.specs.declared.Written.the-variants.{Behind, Unfit, NoRoom}
+use Rattle.node.specs.declared.Found.{Found}
+use Rattle.node.specs.declared.Found.the-variants.{Whole, End, NoNode}
+use Rattle.node.specs.declared.Walked.{Walked}
+use Rattle.node.specs.declared.Walked.the-variants.{ToEnd, ToFault}
+
+pub writes-agree : (a b : Written) → written a ≡ written b → a ≡ b
+writes-agree (Behind p) (Behind q) e = let h : p ≡ q = cc in ap Behind h
+writes-agree (Behind p) Unfit e = cc
+writes-agree (Behind p) NoRoom e = cc
+writes-agree Unfit (Behind q) e = cc
+writes-agree Unfit Unfit e = refl
+writes-agree Unfit NoRoom e = cc
+writes-agree NoRoom (Behind q) e = cc
+writes-agree NoRoom Unfit e = cc
+writes-agree NoRoom NoRoom e = refl
+
+pub reads-agree : (a b : Found) → found a ≡ found b → a ≡ b
+reads-agree (Whole n p) (Whole m q) e =
+    let h : n ≡ m = cc in
+    let k : p ≡ q = cc in
+    ap (λ x. Whole x p) h ∙ ap (Whole m) k
+reads-agree (Whole n p) End e = cc
+reads-agree (Whole n p) NoNode e = cc
+reads-agree End (Whole m q) e = cc
+reads-agree End End e = refl
+reads-agree End NoNode e = cc
+reads-agree NoNode (Whole m q) e = cc
+reads-agree NoNode End e = cc
+reads-agree NoNode NoNode e = refl
+
+pub walks-agree : (a b : Walked) → walked a ≡ walked b → a ≡ b
+walks-agree (ToEnd c p) (ToEnd d q) e =
+    let h : c ≡ d = cc in
+    let k : p ≡ q = cc in
+    ap (λ x. ToEnd x p) h ∙ ap (ToEnd d) k
+walks-agree (ToEnd c p) (ToFault d q) e = cc
+walks-agree (ToFault c p) (ToEnd d q) e = cc
+walks-agree (ToFault c p) (ToFault d q) e =
+    let h : c ≡ d = cc in
+    let k : p ≡ q = cc in
+    ap (λ x. ToFault x p) h ∙ ap (ToFault d) k

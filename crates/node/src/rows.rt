@@ -1,0 +1,177 @@
+// The units of a node at a position: a function for each kind of node, a branch for each row of the table.
+ghost use mathlib.Core.Path.{_≡_};
+ghost use Prim.Native.Nat.{_<_};
+ghost use Rattle.node.specs.Choice.{bothBelow};
+ghost use Rattle.node.specs.Rows as U;
+use crate::Node;
+use crate::Right;
+use crate::Units;
+
+// Counts from COUNT_LIMIT on, actions from ACTION_LIMIT on and a present right factor NO_FACTOR are unfit.
+const COUNT_LIMIT: u32 = 0x1000_0000;
+
+const ACTION_LIMIT: u32 = 0x2000_0000;
+
+pub const NO_FACTOR: u32 = 0xFFFF_FFFF;
+
+// No row has room for a distance from here on.
+const FAR: usize = 8192;
+
+fn low(x: u32) -> u16
+    ensures { λ r. ⌜ r ≡ U.low x ⌝ }
+{
+    (x % 65536) as u16
+}
+
+fn high(x: u32) -> u16
+    ensures { λ r. ⌜ r ≡ U.high x ⌝ }
+{
+    (x / 65536) as u16
+}
+
+fn unfit_right(right: Right) -> bool
+    ensures { λ r. ⌜ r ≡ U.unfitRight right ⌝ }
+{
+    match right {
+        Right::At(factor) => factor == NO_FACTOR,
+        Right::Nothing => false,
+    }
+}
+
+fn unfit(node: Node) -> bool
+    ensures { λ r. ⌜ r ≡ U.unfit node ⌝ }
+{
+    match node {
+        Node::Sum {
+            count,
+            nonterminal: _,
+        } => COUNT_LIMIT <= count,
+        Node::Product {
+            action,
+            left: _,
+            right,
+        } => {
+            if ACTION_LIMIT <= action {
+                true
+            } else {
+                unfit_right(right)
+            }
+        }
+        Node::NullingLeaf { symbol: _ } => false,
+        Node::Evaluated { symbol: _ } => false,
+    }
+}
+
+// The distance from p back to a factor; FAR where there is none.
+fn distance(p: usize, factor: u32) -> usize
+    ensures { λ r. ⌜ r ≡ U.distance p factor ⌝ }
+{
+    let at = factor as usize;
+    if at <= p { p - at } else { FAR }
+}
+
+fn both_below(a: usize, a_limit: usize, b: usize, b_limit: usize) -> bool
+    ensures { λ r. ⌜ r ≡ bothBelow a «a_limit» b «b_limit» ⌝ }
+{
+    if a < a_limit { b < b_limit } else { false }
+}
+
+fn sum_row(count: u32, nonterminal: u32) -> Units
+    requires { ⌜ count < U.countLimit ⌝ }
+    ensures { λ r. ⌜ r ≡ U.sumRow count nonterminal ⌝ }
+{
+    if both_below(count as usize, 32, nonterminal as usize, 256) {
+        return Units::One((count * 256 + nonterminal) as u16);
+    }
+    Units::Four(
+        0xE000 + high(count),
+        low(count),
+        low(nonterminal),
+        high(nonterminal),
+    )
+}
+
+fn long_product(action: u32, left: u32, right: u32) -> Units
+    requires { ⌜ action < U.actionLimit ⌝ }
+    ensures { λ r. ⌜ r ≡ U.longProduct action left right ⌝ }
+{
+    Units::Six(
+        0xC000 + high(action),
+        low(action),
+        low(left),
+        high(left),
+        low(right),
+        high(right),
+    )
+}
+
+fn alone_row(p: usize, action: u32, left: u32) -> Units
+    requires { ⌜ action < U.actionLimit ⌝ }
+    ensures { λ r. ⌜ r ≡ U.aloneRow p action left ⌝ }
+{
+    let back = distance(p, left);
+    if both_below(back, 32, action as usize, 256) {
+        return Units::One((0x2000 + back * 256 + action as usize) as u16);
+    }
+    if both_below(back, 8192, action as usize, 65536) {
+        return Units::Two((0x4000 + back) as u16, action as u16);
+    }
+    long_product(action, left, NO_FACTOR)
+}
+
+fn pair_row(p: usize, action: u32, left: u32, right: u32) -> Units
+    requires { ⌜ action < U.actionLimit ⌝ }
+    ensures { λ r. ⌜ r ≡ U.pairRow p action left right ⌝ }
+{
+    if 65536 <= action {
+        return long_product(action, left, right);
+    }
+    let left_back = distance(p, left);
+    let right_back = distance(p, right);
+    if both_below(right_back, 32, left_back, 256) {
+        return Units::Two(
+            (0x6000 + right_back * 256 + left_back) as u16,
+            action as u16,
+        );
+    }
+    long_product(action, left, right)
+}
+
+fn product_row(p: usize, action: u32, left: u32, right: Right) -> Units
+    requires { ⌜ action < U.actionLimit ⌝ }
+    ensures { λ r. ⌜ r ≡ U.productRow p action left right ⌝ }
+{
+    match right {
+        Right::Nothing => alone_row(p, action, left),
+        Right::At(factor) => pair_row(p, action, left, factor),
+    }
+}
+
+// The two kinds of leaf differ in their heads: `short` for a symbol below 4096, `wide` for any other.
+fn leaf_row(short: u16, wide: u16, symbol: u32) -> Units
+    requires { ⌜ short < 0xF000 ⌝ }
+    ensures { λ r. ⌜ r ≡ U.leafRow short wide symbol ⌝ }
+{
+    if symbol < 4096 {
+        return Units::One(short + symbol as u16);
+    }
+    Units::Four(wide, 0, low(symbol), high(symbol))
+}
+
+pub fn units_of(p: usize, node: Node) -> Units
+    ensures { λ r. ⌜ r ≡ U.unitsOf p node ⌝ }
+{
+    if unfit(node) {
+        return Units::Unfit;
+    }
+    match node {
+        Node::Sum { count, nonterminal } => sum_row(count, nonterminal),
+        Node::Product {
+            action,
+            left,
+            right,
+        } => product_row(p, action, left, right),
+        Node::Evaluated { symbol } => leaf_row(0x8000, 0xA000, symbol),
+        Node::NullingLeaf { symbol } => leaf_row(0x9000, 0xA001, symbol),
+    }
+}

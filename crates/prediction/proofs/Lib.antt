@@ -1,0 +1,4 @@
+-- Laws of the prediction table.
+pub mod Cells
+pub mod Warshall
+pub mod Reaching

@@ -1,0 +1,2 @@
+-- How the prediction table comes about.
+pub mod Tables

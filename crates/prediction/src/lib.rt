@@ -1,0 +1,63 @@
+// The prediction table: row X below N holds X and every symbol reached from X by first symbols.
+ghost use mathlib.Core.Path.{_≡_};
+ghost use Prim.Native.Nat.{ℕ, _≤_, _<_};
+ghost use Rattle.bits.specs.Width.{rowWords};
+ghost use Rattle.grammar.specs.Accepted.{maxSymbols, maxRules};
+ghost use Rattle.grammar.specs.Decoded.{grammarIn};
+ghost use Rattle.grammar.specs.Prediction.{Predicts};
+ghost use Rattle.prediction.specs.Tables.{Within, Shape, Seeded, Closed, Low};
+use bits::Row;
+use bits::add;
+use bits::has;
+use bits::join;
+use grammar::rules::Rules;
+use grammar::rules::first;
+use grammar::rules::left;
+
+// A row for each symbol.
+pub type Table = [Row; 128];
+
+// The table with each symbol below `n` in its own row, and the first symbol of each rule in its left side's row.
+fn seed(rules: &Rules, n: usize, count: usize) -> Table
+    requires { ⌜ (count ≤ maxRules) × Within (now rules) n count ⌝ }
+    ensures { λ r. ⌜ Seeded (now (rules .entry)) rowWords n count r ⌝ }
+{
+    let mut table = [[0; 2]; 128];
+    for x in 0..n {
+        let row = table[x];
+        table[x] = add(row, x);
+    }
+    for r in 0..count {
+        let a = left(rules, r);
+        let row = table[a];
+        table[a] = add(row, first(rules, r));
+    }
+    table
+}
+
+// The closure, in Warshall's order: after turn `k` row `i` holds what is reached from `i` through symbols up to `k`.
+fn close(seed: Table, n: usize) -> Table
+    requires { ⌜ (n ≤ maxSymbols) × Shape rowWords seed × Low n seed ⌝ }
+    ensures { λ r. ⌜ Closed rowWords seed r ⌝ }
+{
+    let mut table = seed;
+    for k in 0..n {
+        for i in 0..n {
+            let row = table[i];
+            if !has(&row, k) {
+                continue;
+            }
+            let other = table[k];
+            table[i] = join(&row, &other);
+        }
+    }
+    table
+}
+
+// The prediction table of a grammar whose symbols are below `n`, whatever its number of tokens.
+pub fn table(rules: &Rules, n: usize, count: usize) -> Table
+    requires { ⌜ (count ≤ maxRules) × Within (now rules) n count ⌝ }
+    ensures { λ r. ⌜ ((t : ℕ) → Predicts (grammarIn (now (rules .entry)) n t count) rowWords r) ⌝ }
+{
+    close(seed(rules, n, count), n)
+}

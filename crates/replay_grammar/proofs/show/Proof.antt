@@ -1,0 +1,51 @@
+use Rattle.grammar.proofs.Verdicts.{accepted-file, accepted-words}
+use Rattle.prediction.proofs.Reaching.{accepted-within}
+use native.Mathlib.Omega.{arith}
+use mathlib.Core.Path.{refl}
+use borrow.Author.Needs.{needs}
+use Rattle.replay_grammar.proofs.show.Statement.{statement}
+use Rattle.replay_grammar.proofs.show.Tie as tie
+
+check-requires : tie.Need-check-requires
+check-requires c κs = search needs
+
+enum-told : tie.Need-enum-told
+enum-told c = search needs
+
+returns : tie.Need-returns
+returns c = search needs
+
+symbols-requires : tie.Need-symbols-requires
+symbols-requires c κs = accepted-file _ _ (c .before .before .check .ensures) (c .enum-told .given .1) .header
+
+rule-count-requires : tie.Need-rule-count-requires
+rule-count-requires c κs = accepted-file _ _ (c .before .before .before .check .ensures) (c .before .enum-told .given .1) .header
+
+decode-requires : tie.Need-decode-requires
+decode-requires c κs = (accepted-file _ _ (c .before .before .before .before .check .ensures) (c .before .before .enum-told .given .1) .whole, accepted-file _ _ (c .before .before .before .before .check .ensures) (c .before .before .enum-told .given .1) .few-rules)
+
+table-requires : tie.Need-table-requires
+table-requires c κs = (
+  omega (arith, accepted-file _ _ (c .before .before .before .before .before .before .check .ensures) (c .before .before .before .before .enum-told .given .1) .few-rules, c .before .before .rule-count .ensures),
+  accepted-within _ _ _ _ (accepted-words (c .before .before .before .before .before .before .before .before .args .file .now) _ _ _ _ (accepted-file _ _ (c .before .before .before .before .before .before .check .ensures) (c .before .before .before .before .enum-told .given .1)) (c .before .before .before .symbols .ensures .0) refl (c .before .before .rule-count .ensures .0) (c .before .decode .ensures)),
+)
+
+print-rows-requires : tie.Need-print-rows-requires
+print-rows-requires c κs = omega (arith, accepted-file _ _ (c .before .before .before .before .before .before .before .before .check .ensures) (c .before .before .before .before .before .before .enum-told .given .1) .accepted .few-symbols, c .before .before .before .before .before .symbols .ensures)
+
+returns-2 : tie.Need-returns-2
+returns-2 c = search needs
+
+pub show-spec : {M : Type 1} → statement M
+show-spec =
+    tie.close
+    (tie.spec
+    check-requires
+    enum-told
+    returns
+    symbols-requires
+    rule-count-requires
+    decode-requires
+    table-requires
+    print-rows-requires
+    returns-2)

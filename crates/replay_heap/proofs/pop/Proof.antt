@@ -1,0 +1,91 @@
+-- The queue's entries stay places of the items.
+use mathlib.Core.Path.{_∙_, sym, subst}
+use Prim.Native.Nat.{ℕ}
+use denote.Ref.{now}
+use Rattle.item.specs.Item.{keyAt}
+use Rattle.binary_heap.specs.Words.{Places}
+use Rattle.binary_heap.proofs.Kept.{kept-empty, kept-entry}
+use borrow.Author.Needs.{needs}
+use Rattle.replay_heap.proofs.pop.Statement.{statement}
+use Rattle.replay_heap.proofs.pop.Tie as tie
+use Rattle.replay_heap.proofs.pop.Reads as reads
+use Rattle.replay_heap.proofs.pop.Lts as lts
+use Rattle.binary_heap.proofs.pop.Reads as pop-reads
+use Rattle.numbers.proofs.read.Reads as read-reads
+use Rattle.replay_heap.proofs.differs.Reads as differs-reads
+use Rattle.replay_heap.proofs.refused.Reads as refused-reads
+use Rattle.std.proofs.num.wrapping_add_u64.Reads as wrapping-add-u64-reads
+
+-- src/main.rt:170:9
+read-requires : tie.Need-read-requires
+read-requires c κs = search needs
+
+-- src/main.rt:171:11
+pop-requires : tie.Need-pop-requires
+pop-requires c κs = search needs
+
+-- src/main.rt:172:25
+enum-known-entry : tie.Need-enum-known-entry
+enum-known-entry c = search needs
+
+-- src/main.rt:176:19
+wrapping-add-u64-requires : tie.Need-wrapping-add-u64-requires
+wrapping-add-u64-requires c κs = search needs
+
+-- src/main.rt:177:54
+differs-requires : tie.Need-differs-requires
+differs-requires c κs = search needs
+
+-- src/main.rt:177:24
+wrapping-add-u64-requires-2 : tie.Need-wrapping-add-u64-requires-2
+wrapping-add-u64-requires-2 c κs = search needs
+
+-- src/main.rt:179:26
+enum-told : tie.Need-enum-told
+enum-told c = search needs
+
+-- src/main.rt:179:26
+refused-requires : tie.Need-refused-requires
+refused-requires c κs = search needs
+
+-- src/main.rt:166:1
+same-length : tie.Need-same-length
+same-length c = search needs
+
+-- src/main.rt:166:1
+returns : tie.Need-returns
+returns c =
+    let start = c .before .before .before .before .before .before .before .before .before .before .before .before .before .before in
+    let called = c .before .before .before .before .before .before .before .before .pop in
+    kept-entry (keyAt (now (start .args .items))) (now (start .args .items)) (now (start .args .queue)) _ _ (start .pre) _ _
+    (sym (called .ensures .0) ∙ c .before .before .before .before .entry .given .1) (called .ensures .1)
+
+-- src/main.rt:166:1
+same-length-2 : tie.Need-same-length-2
+same-length-2 c = search needs
+
+-- src/main.rt:166:1
+returns-2 : tie.Need-returns-2
+returns-2 c =
+    let start = c .before .before .before .before .before .before .before .before .before .before .before in
+    let called = c .before .before .before .before .before .pop in
+    subst (λ (n : ℕ). Places (now (start .args .items)) (called .last .1 .0) n) (sym (c .refused .ensures))
+    (kept-empty (keyAt (now (start .args .items))) (now (start .args .items)) (now (start .args .queue)) _ _ (start .pre)
+    (sym (called .ensures .0) ∙ c .before .enum-told .given .1) (called .ensures .1))
+
+pub pop-spec : {M : Type 1} → statement M
+pop-spec =
+    tie.close
+    (tie.spec
+    read-requires
+    pop-requires
+    enum-known-entry
+    wrapping-add-u64-requires
+    differs-requires
+    wrapping-add-u64-requires-2
+    enum-told
+    refused-requires
+    same-length
+    returns
+    same-length-2
+    returns-2)
