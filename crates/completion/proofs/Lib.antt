@@ -2,5 +2,15 @@
 pub mod Pushes
 pub mod Soundness
 pub mod Waiting
+pub mod Entries
+pub mod Onward
+pub mod Through
+pub mod Charting
+pub mod Heaped
+pub mod Pending
+pub mod Once
+pub mod Distinct
+pub mod Refusals
+pub mod Beginning
 pub mod Searching
 pub mod Pairs

@@ -1,0 +1,221 @@
+-- A pass stays sound and charted through every step, and nothing that it had is touched.
+use mathlib.Core.Path.{_≡_, refl, sym, ap, _∙_, subst}
+use mathlib.Core.Bool.{Bool, true, false, _&&_, not, _||_}
+use mathlib.Core.List.{List}
+use Prim.Native.Nat.{ℕ, suc, _+_, _-_, _*_, _/_, _≤_, _<_}
+use native.Mathlib.Decide.{decLt, ℕ-discrete}
+use native.Mathlib.Omega.{arith}
+use lib.ListN.{length, getD}
+use lib.Dec.{eqb}
+use borrow.Author.Tests.{eqb-true, eqb-false, eq-eqb, not-true, not-false}
+use Rattle.laws.proofs.Turns.{until-keeps}
+use Rattle.laws.proofs.Tests.{either-way}
+use Rattle.laws.proofs.Counts.{Every}
+use Rattle.item.specs.Item.{Item, itemWords, itemAt, originAt, ruleAt, keyAt, stored}
+use Rattle.item.proofs.Words.{stored-item}
+use Rattle.binary_heap.proofs.PopLaws.{popped-every}
+use Rattle.grammar.specs.Rules.{Rule, none, noRule}
+use Rattle.parse.specs.WellFormed.{leftOf, secondOf}
+use Rattle.completion.specs.Pass.{Pass, refused, andThen, store, enqueue}
+use Rattle.completion.specs.Complete.{completeMedial, completeMedialItems, completeUnary, completeUnaryPredictions, completeBinary, completeBinaryPredictions, complete}
+use Rattle.completion.specs.Sums.{greatest, sumEnds, nextSummand, popSum, completeSum, rests, completeAllSums}
+use Rattle.completion.specs.Ready.{Sound, Charted}
+use Rattle.completion.proofs.Soundness.{store-sound, enqueue-sound, has-place}
+use Rattle.completion.proofs.Waiting.{store-place}
+use Rattle.completion.proofs.Entries.{entriesOf, storedPass, queuedPass, poppedPass, store-cases, enqueue-cases, then-cases, next-is, each-entry, every-entry, some-entries, popped-entries, popped-words}
+use Rattle.completion.proofs.Onward.{Onward, onward-refl, onward-trans, onward-store, onward-enqueue, onward-next}
+use Rattle.completion.proofs.Through.{Begins, Inside, medial-keeps, medial-items-keep, unary-goes, unary-predictions-go, binary-goes, binary-predictions-go, complete-cases}
+
+-- Popping the greatest entry keeps a pass sound.
+pub next-sound : (s : Pass) → Sound s → 0 < s .at .queued → Sound (nextSummand s)
+next-sound s sound some = next-is Sound s some done
+  where
+    places : Every (λ v. v < s .at .items) (entriesOf (poppedPass s))
+    places =
+        subst (Every (λ v. v < s .at .items)) (sym (popped-entries s (sound .queued-fit) some))
+        (popped-every (keyAt (s .items)) (entriesOf s) (some-entries s (sound .queued-fit) some) (λ v. v < s .at .items)
+        (every-entry s (sound .queued-fit) (λ v. v < s .at .items) (sound .entries)))
+
+    fits : poppedPass s .at .queued ≤ length (poppedPass s .queue)
+    fits = omega (arith, popped-words s (sound .queued-fit) some, sound .queued-fit)
+
+    done : Sound (poppedPass s)
+    done =
+        record {
+          few-items = sound .few-items;
+          items-fit = sound .items-fit;
+          queued-fit = fits;
+          entries = each-entry (poppedPass s) fits (λ v. v < s .at .items) places;
+        }
+
+-- An item of a rule and a set.
+pub record Charts (rs : List Rule) (starts : List ℕ) (i : Item) : Type 0 where
+  pub is-rule : i .rule < length rs
+  pub is-set : i .origin + 1 < length starts
+
+-- A pass whose new items are charted is charted, if it was.
+pub onward-charted : {rs : List Rule} {starts : List ℕ} {s t : Pass} → Charted rs starts s → Onward s t
+    → ((p : ℕ) → s .at .items ≤ p → p < t .at .items → Charts rs starts (itemAt (t .items) p)) → Charted rs starts t
+onward-charted {rs} {starts} {s} {t} charted onward new =
+    record {
+      rules = λ p there. each p there .is-rule;
+      origins = λ p there. each p there .is-set;
+      starts-fit = λ k. omega (arith, charted .starts-fit k, onward .more-items);
+      ordered = λ k p from up-to.
+          let one : secondOf rs (itemAt (t .items) p) ≡ secondOf rs (itemAt (s .items) p) =
+          ap (secondOf rs) (onward .same-items p (omega (arith, charted .starts-fit (k + 1)))) in
+          let next : secondOf rs (itemAt (t .items) (p + 1)) ≡ secondOf rs (itemAt (s .items) (p + 1)) =
+          ap (secondOf rs) (onward .same-items (p + 1) (omega (arith, charted .starts-fit (k + 1)))) in
+          omega (arith, charted .ordered k p from up-to);
+    }
+  where
+    each : (p : ℕ) → p < t .at .items → Charts rs starts (itemAt (t .items) p)
+    each p there =
+        elim (decLt p (s .at .items)) [
+          | yes old ↦
+              subst (Charts rs starts) (sym (onward .same-items p old))
+              (record { is-rule = charted .rules p old; is-set = charted .origins p old })
+          | no fresh ↦ new p (omega arith) there
+        ]
+
+-- The items behind those of `s` after `origin` and `rule` were stored: that one, or none.
+pub stored-new : (origin rule : ℕ) (s : Pass) → Sound s → (p : ℕ) → s .at .items ≤ p → p < store origin rule s .at .items
+    → itemAt (store origin rule s .items) p ≡ record { origin = origin; rule = rule }
+stored-new origin rule s sound p from =
+    store-cases (λ (t : Pass). p < t .at .items → itemAt (t .items) p ≡ record { origin = origin; rule = rule }) s origin rule
+    (λ place up-to.
+    let is : s .at .items ≡ p = omega arith in
+    subst (λ (p : ℕ). itemAt (storedPass origin rule s .items) p ≡ record { origin = origin; rule = rule }) is
+    (stored-item (s .items) (s .at .items) (record { origin = origin; rule = rule }) (omega arith)))
+    (λ up-to. absurd (omega arith))
+
+-- A pass behind `s` that is sound and charted.
+pub record Steady (rs : List Rule) (starts : List ℕ) (s t : Pass) : Type 0 where
+  pub onward : Onward s t
+  pub sound : Sound t
+  pub charted : Charted rs starts t
+
+pub steady-refl : (rs : List Rule) (starts : List ℕ) (s : Pass) → Sound s → Charted rs starts s → Steady rs starts s s
+steady-refl rs starts s sound charted = record { onward = onward-refl s; sound = sound; charted = charted }
+
+module _ (rs : List Rule) (starts : List ℕ) (s : Pass) where
+  -- What the steps do not lose.
+  pub steady-store : (k r : ℕ) (t : Pass) → k + 1 < length starts → r < length rs → Steady rs starts s t → Steady rs starts s (store k r t)
+  steady-store k r t set rule steady =
+      record {
+        onward = onward-trans (steady .onward) (onward-store k r t);
+        sound = store-sound k r t (steady .sound);
+        charted = onward-charted (steady .charted) (onward-store k r t)
+            (λ p from up-to.
+            subst (Charts rs starts) (sym (stored-new k r t (steady .sound) p from up-to)) (record { is-rule = rule; is-set = set }));
+      }
+
+  pub enqueue-items : (place : ℕ) (t : Pass) → enqueue place t .at .items ≡ t .at .items
+  enqueue-items place t = enqueue-cases (λ (u : Pass). u .at .items ≡ t .at .items) t place (λ free. refl) refl
+
+  pub steady-enqueue : (place : ℕ) (t : Pass) → place < t .at .items → Steady rs starts s t → Steady rs starts s (enqueue place t)
+  steady-enqueue place t there steady =
+      let onward : Onward t (enqueue place t) = onward-enqueue place t (steady .sound .queued-fit) in
+      record {
+        onward = onward-trans (steady .onward) onward;
+        sound = enqueue-sound place t (steady .sound) there;
+        charted = onward-charted (steady .charted) onward (λ p from up-to. absurd (omega (arith, enqueue-items place t)));
+      }
+
+  pub steady-next : (t : Pass) → 0 < t .at .queued → Steady rs starts s t → Steady rs starts s (nextSummand t)
+  unfolding nextSummand
+  steady-next t some steady =
+      let onward : Onward t (nextSummand t) = onward-next t (steady .sound .queued-fit) some in
+      record {
+        onward = onward-trans (steady .onward) onward;
+        sound = next-sound t (steady .sound) some;
+        charted = onward-charted (steady .charted) onward (λ p from up-to. absurd (omega arith));
+      }
+
+  -- Storing an item and queueing it.
+  pub steady-both : (k r : ℕ) (t : Pass) → k + 1 < length starts → r < length rs → Steady rs starts s t
+      → Steady rs starts s (andThen (store k r t) (enqueue (t .at .items)))
+  steady-both k r t set rule steady =
+      let there : Steady rs starts s (store k r t) = steady-store k r t set rule steady in
+      then-cases (Steady rs starts s) (store k r t) _ there (λ on. steady-enqueue (t .at .items) (store k r t) (store-place k r t on) there)
+
+  module _ (rows : List ℕ) (k x : ℕ) where
+    -- Completing keeps all of it.
+    pub steady-medial : (p : ℕ) (t : Pass) → Inside starts k p → Steady rs starts s t → Steady rs starts s (completeMedial rs x p t)
+    steady-medial = medial-keeps rs starts rows k x (Steady rs starts s) queueing
+      where
+        queueing : (p : ℕ) (t : Pass) → Inside starts k p → secondOf rs (itemAt (t .items) p) ≡ x → t .at .stopped ≡ 0 → Steady rs starts s t → Steady rs starts s (enqueue p t)
+        queueing p t inside second on steady = steady-enqueue p t (omega (arith, inside .up-to, steady .charted .starts-fit (k + 1))) steady
+
+    pub steady-medial-items : (t : Pass) → Steady rs starts s t → Steady rs starts s (completeMedialItems rs starts k x t)
+    steady-medial-items = medial-items-keep rs starts rows k x (Steady rs starts s)
+        (λ p t inside second on steady. steady-enqueue p t (omega (arith, inside .up-to, steady .charted .starts-fit (k + 1))) steady)
+
+    module _ (set : k + 1 < length starts) where
+      pub steady-unary : (r : ℕ) (t : Pass) → r < length rs → Steady rs starts s t → Steady rs starts s (completeUnary rs rows k x r t)
+      steady-unary = unary-goes rs starts rows k x (λ r t. Steady rs starts s t) (λ r t steady. steady)
+          (λ r t begins one on steady. steady-both k r t set (begins .is-rule) steady)
+
+      pub steady-unary-predictions : (t : Pass) → Steady rs starts s t → Steady rs starts s (completeUnaryPredictions rs rows k x t)
+      steady-unary-predictions = unary-predictions-go rs starts rows k x (λ r t. Steady rs starts s t) (λ r t steady. steady)
+          (λ r t begins one on steady. steady-both k r t set (begins .is-rule) steady)
+
+      pub steady-binary : (r : ℕ) (t : Pass) → r < length rs → Steady rs starts s t → Steady rs starts s (completeBinary rs rows k x r t)
+      steady-binary = binary-goes rs starts rows k x (λ r t. Steady rs starts s t) (λ r t steady. steady)
+          (λ r t begins two on steady. steady-store k r t set (begins .is-rule) steady)
+
+      pub steady-binary-predictions : (t : Pass) → Steady rs starts s t → Steady rs starts s (completeBinaryPredictions rs rows k x t)
+      steady-binary-predictions = binary-predictions-go rs starts rows k x (λ r t. Steady rs starts s t) (λ r t steady. steady)
+          (λ r t begins two on steady. steady-store k r t set (begins .is-rule) steady)
+
+      pub steady-complete : (t : Pass) → Steady rs starts s t → Steady rs starts s (complete rs starts rows k x t)
+      steady-complete t steady =
+          complete-cases rs starts rows k x (Steady rs starts s) t steady
+          (λ there.
+          steady-binary-predictions (completeUnaryPredictions rs rows k x (completeMedialItems rs starts k x t))
+          (steady-unary-predictions (completeMedialItems rs starts k x t) (steady-medial-items t steady)))
+
+  -- A sum that has not ended has a greatest entry, of its origin and left side.
+  pub goes-on-sum : (k x : ℕ) (t : Pass) → sumEnds rs k x t ≡ false → 0 < t .at .queued
+  goes-on-sum k x t = by-count (eqb (t .at .queued) 0) refl
+    where
+      by-count : (b : Bool) → eqb (t .at .queued) 0 ≡ b → (b || not (eqb (greatest t .origin) k && eqb (leftOf rs (greatest t)) x)) ≡ false → 0 < t .at .queued
+      by-count true none ends = absurd (let z : _≡_ {A = ℕ} 0 1 = cc in omega arith)
+      by-count false some ends = let not-none : t .at .queued ≡ 0 → ⊥ = eqb-false (t .at .queued) 0 some in omega arith
+
+  -- Popping a sum keeps all of it.
+  pub steady-pop : (k x : ℕ) (t : Pass) → Steady rs starts s t → Steady rs starts s (popSum rs k x t)
+  unfolding popSum
+  steady-pop k x t steady =
+      until-keeps (sumEnds rs k x) nextSummand (Steady rs starts s) (λ u goes. steady-next u (goes-on-sum k x u goes)) (t .at .queued) t steady
+
+  -- The greatest entry is a place of an item, with a set for its origin and a rule.
+  pub greatest-charts : (t : Pass) → 0 < t .at .queued → Steady rs starts s t → Charts rs starts (greatest t)
+  greatest-charts t some steady =
+      let there : getD (t .queue) 0 0 < t .at .items = steady .sound .entries 0 some in
+      record { is-rule = steady .charted .rules (getD (t .queue) 0 0) there; is-set = steady .charted .origins (getD (t .queue) 0 0) there }
+
+  -- A pass that does not rest was not refused, and its queue is not empty.
+  pub not-resting : (t : Pass) → rests t ≡ false → (t .at .stopped ≡ 0) × (0 < t .at .queued)
+  not-resting t = by-tests (eqb (t .at .stopped) 0) (eqb (t .at .queued) 0) refl refl
+    where
+      by-tests : (a b : Bool) → eqb (t .at .stopped) 0 ≡ a → eqb (t .at .queued) 0 ≡ b → (not a || b) ≡ false → (t .at .stopped ≡ 0) × (0 < t .at .queued)
+      by-tests true false on some goes =
+          let not-none : t .at .queued ≡ 0 → ⊥ = eqb-false (t .at .queued) 0 some in
+          (eqb-true (t .at .stopped) 0 on, omega arith)
+      by-tests true true on none goes = absurd (let z : _≡_ {A = ℕ} 0 1 = cc in omega arith)
+      by-tests false false off some goes = absurd (let z : _≡_ {A = ℕ} 0 1 = cc in omega arith)
+      by-tests false true off none goes = absurd (let z : _≡_ {A = ℕ} 0 1 = cc in omega arith)
+
+  module _ (rows : List ℕ) where
+    -- A sum keeps all of it, and so do all sums.
+    pub steady-sum : (t : Pass) → 0 < t .at .queued → Steady rs starts s t → Steady rs starts s (completeSum rs starts rows t)
+    unfolding completeSum
+    steady-sum t some steady =
+        steady-complete rows (greatest t .origin) (leftOf rs (greatest t)) (greatest-charts t some steady .is-set)
+        (popSum rs (greatest t .origin) (leftOf rs (greatest t)) t) (steady-pop (greatest t .origin) (leftOf rs (greatest t)) t steady)
+
+    pub steady-all-sums : (t : Pass) → Steady rs starts s t → Steady rs starts s (completeAllSums rs starts rows t)
+    unfolding completeAllSums
+    steady-all-sums t steady =
+        until-keeps rests (completeSum rs starts rows) (Steady rs starts s) (λ u goes. steady-sum u (not-resting u goes .1)) (length starts * length rs) t steady

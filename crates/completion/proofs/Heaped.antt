@@ -1,0 +1,164 @@
+-- The entries of the queue stay a heap through every step, and keep what each of them has.
+use mathlib.Core.Path.{_≡_, refl, sym, ap, _∙_, subst}
+use mathlib.Core.Bool.{true, false}
+use mathlib.Core.List.{List}
+use Prim.Native.Nat.{ℕ, suc, _+_, _-_, _/_, _≤_, _<_}
+use native.Mathlib.Omega.{arith}
+use lib.ListN.{length, getD}
+use Rattle.laws.proofs.Turns.{until-keeps}
+use Rattle.laws.proofs.Counts.{Every}
+use Rattle.item.specs.Item.{Item, itemAt, keyAt, keyOf}
+use Rattle.binary_heap.specs.Sift.{entryAt, parent}
+use Rattle.binary_heap.specs.Heap.{Heap}
+use Rattle.binary_heap.proofs.PushLaws.{pushed-heap, pushed-every}
+use Rattle.binary_heap.proofs.PopLaws.{popped-heap, popped-every}
+use Rattle.grammar.specs.Rules.{Rule, none, noRule}
+use Rattle.parse.specs.WellFormed.{secondOf}
+use Rattle.completion.specs.Pass.{Pass, refused, andThen, store, enqueue}
+use Rattle.completion.specs.Complete.{completeMedialItems, completeUnaryPredictions, completeBinaryPredictions, complete}
+use Rattle.completion.specs.Sums.{sumEnds, nextSummand, popSum}
+use Rattle.completion.specs.Ready.{Sound, Charted}
+use Rattle.completion.proofs.Waiting.{store-place}
+use Rattle.completion.proofs.Entries.{entriesOf, storedPass, queuedPass, poppedPass, store-cases, enqueue-cases, then-cases, next-is, every-entry, some-entries, queued-entries, popped-entries}
+use Rattle.completion.proofs.Onward.{Onward, onward-key, onward-store}
+use Rattle.completion.proofs.Through.{Begins, Inside, medial-items-keep, unary-predictions-go, binary-predictions-go, complete-cases}
+use Rattle.completion.proofs.Charting.{Steady, steady-refl, steady-store, steady-enqueue, steady-next, stored-new, goes-on-sum}
+
+-- A heap by one key is a heap by another that gives its entries the same.
+pub heap-same-keys : (key key′ : ℕ → ℕ) (h : List ℕ) → Every (λ v. key′ v ≡ key v) h → Heap key h → Heap key′ h
+heap-same-keys key key′ h same heap = record {
+  ordered = λ pos under there. omega (arith, heap .ordered pos under there, same .each pos there, same .each (parent pos) (omega arith));
+}
+
+-- The entries of a sound pass are places of its items.
+pub sound-entries : (s : Pass) → Sound s → Every (λ v. v < s .at .items) (entriesOf s)
+sound-entries s sound = every-entry s (sound .queued-fit) (λ v. v < s .at .items) (sound .entries)
+
+-- The entries are a heap by the items' keys, and the item of each has `Q`.
+pub record Ordered (Q : Item → Type 0) (s : Pass) : Type 0 where
+  pub heap : Heap (keyAt (s .items)) (entriesOf s)
+  pub each : Every (λ v. Q (itemAt (s .items) v)) (entriesOf s)
+
+module _ (Q : Item → Type 0) (s : Pass) (sound : Sound s) (ordered : Ordered Q s) where
+  -- Items stored behind change no entry's key.
+  pub ordered-store : (origin rule : ℕ) → Ordered Q (store origin rule s)
+  ordered-store origin rule = record { heap = heap; each = each }
+    where
+      same : entriesOf (store origin rule s) ≡ entriesOf s
+      same = store-cases (λ (t : Pass). entriesOf t ≡ entriesOf s) s origin rule (λ place. refl) refl
+
+      onward : Onward s (store origin rule s)
+      onward = onward-store origin rule s
+
+      heap : Heap (keyAt (store origin rule s .items)) (entriesOf (store origin rule s))
+      heap =
+          subst (Heap (keyAt (store origin rule s .items))) (sym same)
+          (heap-same-keys (keyAt (s .items)) (keyAt (store origin rule s .items)) (entriesOf s)
+          (record { each = λ i there. onward-key onward (getD (entriesOf s) i 0) (sound-entries s sound .each i there) }) (ordered .heap))
+
+      each : Every (λ v. Q (itemAt (store origin rule s .items) v)) (entriesOf (store origin rule s))
+      each =
+          subst (Every (λ v. Q (itemAt (store origin rule s .items) v))) (sym same)
+          (record {
+            each = λ i there.
+                subst Q (sym (onward .same-items (getD (entriesOf s) i 0) (sound-entries s sound .each i there))) (ordered .each .each i there);
+          })
+
+  pub ordered-enqueue : (place : ℕ) → Q (itemAt (s .items) place) → Ordered Q (enqueue place s)
+  ordered-enqueue place new = enqueue-cases (Ordered Q) s place (λ free. done) (record { heap = ordered .heap; each = ordered .each })
+    where
+      done : Ordered Q (queuedPass place s)
+      done =
+          record {
+            heap =
+                subst (Heap (keyAt (s .items))) (sym (queued-entries s (sound .queued-fit) place))
+                (pushed-heap (keyAt (s .items)) (entriesOf s) place (ordered .heap));
+            each =
+                subst (Every (λ v. Q (itemAt (s .items) v))) (sym (queued-entries s (sound .queued-fit) place))
+                (pushed-every (keyAt (s .items)) (entriesOf s) place (λ v. Q (itemAt (s .items) v)) (ordered .each) new);
+          }
+
+  pub ordered-next : 0 < s .at .queued → Ordered Q (nextSummand s)
+  ordered-next some = next-is (Ordered Q) s some done
+    where
+      done : Ordered Q (poppedPass s)
+      done =
+          record {
+            heap =
+                subst (Heap (keyAt (s .items))) (sym (popped-entries s (sound .queued-fit) some))
+                (popped-heap (keyAt (s .items)) (entriesOf s) (some-entries s (sound .queued-fit) some) (ordered .heap));
+            each =
+                subst (Every (λ v. Q (itemAt (s .items) v))) (sym (popped-entries s (sound .queued-fit) some))
+                (popped-every (keyAt (s .items)) (entriesOf s) (some-entries s (sound .queued-fit) some) (λ v. Q (itemAt (s .items) v)) (ordered .each));
+          }
+
+-- A pass behind `s` that is sound and charted, whose entries are a heap and have `Q`.
+pub record Heaped (rs : List Rule) (starts : List ℕ) (Q : Item → Type 0) (s t : Pass) : Type 0 where
+  pub steady : Steady rs starts s t
+  pub ordered : Ordered Q t
+
+module _ (rs : List Rule) (starts : List ℕ) (Q : Item → Type 0) (s : Pass) where
+  pub heaped-store : (k r : ℕ) (t : Pass) → k + 1 < length starts → r < length rs → Heaped rs starts Q s t → Heaped rs starts Q s (store k r t)
+  heaped-store k r t set rule heaped =
+      record {
+        steady = steady-store rs starts s k r t set rule (heaped .steady);
+        ordered = ordered-store Q t (heaped .steady .sound) (heaped .ordered) k r;
+      }
+
+  pub heaped-enqueue : (place : ℕ) (t : Pass) → place < t .at .items → Q (itemAt (t .items) place) → Heaped rs starts Q s t
+      → Heaped rs starts Q s (enqueue place t)
+  heaped-enqueue place t there new heaped =
+      record {
+        steady = steady-enqueue rs starts s place t there (heaped .steady);
+        ordered = ordered-enqueue Q t (heaped .steady .sound) (heaped .ordered) place new;
+      }
+
+  pub heaped-next : (t : Pass) → 0 < t .at .queued → Heaped rs starts Q s t → Heaped rs starts Q s (nextSummand t)
+  heaped-next t some heaped =
+      record {
+        steady = steady-next rs starts s t some (heaped .steady);
+        ordered = ordered-next Q t (heaped .steady .sound) (heaped .ordered) some;
+      }
+
+  pub heaped-both : (k r : ℕ) (t : Pass) → k + 1 < length starts → r < length rs → Q (record { origin = k; rule = r }) → Heaped rs starts Q s t
+      → Heaped rs starts Q s (andThen (store k r t) (enqueue (t .at .items)))
+  heaped-both k r t set rule new heaped =
+      let there : Heaped rs starts Q s (store k r t) = heaped-store k r t set rule heaped in
+      then-cases (Heaped rs starts Q s) (store k r t) _ there
+      (λ on.
+      let place : t .at .items < store k r t .at .items = store-place k r t on in
+      heaped-enqueue (t .at .items) (store k r t) place
+      (subst Q (sym (stored-new k r t (heaped .steady .sound) (t .at .items) (omega arith) place)) new) there)
+
+  -- Popping keeps it.
+  pub heaped-pop : (k x : ℕ) (t : Pass) → Heaped rs starts Q s t → Heaped rs starts Q s (popSum rs k x t)
+  unfolding popSum
+  heaped-pop k x t heaped =
+      until-keeps (sumEnds rs k x) nextSummand (Heaped rs starts Q s) (λ u goes. heaped-next u (goes-on-sum rs starts s k x u goes)) (t .at .queued) t heaped
+
+  -- Completing keeps it, if what a completion of set `k` and symbol `x` queues has `Q`.
+  module _ (rows : List ℕ) (k x : ℕ) (set : k + 1 < length starts) (charted : Charted rs starts s)
+      (of-set : (p : ℕ) → Inside starts k p → secondOf rs (itemAt (s .items) p) ≡ x → Q (itemAt (s .items) p))
+      (of-rule : (r : ℕ) → Begins rs rows k x r → getD rs r noRule .second ≡ none → Q (record { origin = k; rule = r })) where
+    pub heaped-medial-items : (t : Pass) → Heaped rs starts Q s t → Heaped rs starts Q s (completeMedialItems rs starts k x t)
+    heaped-medial-items = medial-items-keep rs starts rows k x (Heaped rs starts Q s)
+        (λ p t inside second on heaped.
+        let old : p < s .at .items = omega (arith, inside .up-to, charted .starts-fit (k + 1)) in
+        let same : itemAt (t .items) p ≡ itemAt (s .items) p = heaped .steady .onward .same-items p old in
+        heaped-enqueue p t (omega (arith, heaped .steady .onward .more-items))
+        (subst Q (sym same) (of-set p inside (sym (ap (secondOf rs) same) ∙ second))) heaped)
+
+    pub heaped-unary-predictions : (t : Pass) → Heaped rs starts Q s t → Heaped rs starts Q s (completeUnaryPredictions rs rows k x t)
+    heaped-unary-predictions = unary-predictions-go rs starts rows k x (λ r t. Heaped rs starts Q s t) (λ r t heaped. heaped)
+        (λ r t begins one on heaped. heaped-both k r t set (begins .is-rule) (of-rule r begins one) heaped)
+
+    pub heaped-binary-predictions : (t : Pass) → Heaped rs starts Q s t → Heaped rs starts Q s (completeBinaryPredictions rs rows k x t)
+    heaped-binary-predictions = binary-predictions-go rs starts rows k x (λ r t. Heaped rs starts Q s t) (λ r t heaped. heaped)
+        (λ r t begins two on heaped. heaped-store k r t set (begins .is-rule) heaped)
+
+    pub heaped-complete : (t : Pass) → Heaped rs starts Q s t → Heaped rs starts Q s (complete rs starts rows k x t)
+    heaped-complete t heaped =
+        complete-cases rs starts rows k x (Heaped rs starts Q s) t heaped
+        (λ there.
+        heaped-binary-predictions (completeUnaryPredictions rs rows k x (completeMedialItems rs starts k x t))
+        (heaped-unary-predictions (completeMedialItems rs starts k x t) (heaped-medial-items t heaped)))
