@@ -14,3 +14,4 @@ pub mod Refusals
 pub mod Beginning
 pub mod Searching
 pub mod Pairs
+pub mod Passed
