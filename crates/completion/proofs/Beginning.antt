@@ -16,7 +16,7 @@ use Rattle.parse.specs.declared.State.{State}
 use Rattle.parse.specs.Words.{Words, startOf, maxItems, maxSets, within, itemRoom, setRoom}
 use Rattle.parse.specs.WellFormed.{WellFormed, InSet, Fits, secondOf}
 use Rattle.completion.specs.Pass.{Pass, passOf}
-use Rattle.completion.specs.Ready.{RulesFit, Rowed, Sound, Charted}
+use Rattle.completion.specs.Ready.{RulesFit, IsSet, Rowed, Sound, Charted}
 use Rattle.completion.proofs.Onward.{SpareQueue}
 use Rattle.completion.proofs.Through.{Inside}
 use Rattle.completion.proofs.Pending.{Grounds, Pending}
@@ -92,9 +92,9 @@ module _ {n : ℕ} {rs : List Rule} {st : State} {v : Words} (well : WellFormed 
         | no there ↦ omega arith
       ]
 
-  -- The latest set has a row, and a start behind its own.
-  pub latest-set : st .set + 1 < length (v .starts)
-  latest-set = omega (arith, rowed .sets, well .set-fits)
+  -- Every set up to the latest is one.
+  pub is-set : (k : ℕ) → k ≤ st .set → IsSet (v .starts) k
+  is-set k there = record { there = omega (arith, rowed .sets, well .set-fits); upwards = well .never-falls k there }
 
   few-sets : st .set < maxSets
   few-sets = omega (arith, rowed .few-sets, well .set-fits)
@@ -121,7 +121,7 @@ module _ {n : ℕ} {rs : List Rule} {st : State} {v : Words} (well : WellFormed 
         charted = record {
           rules = λ p there. fits-at p (set-of p there) .is-rule;
           origins = λ p there.
-              let of : OfSet st v p = set-of p there in omega (arith, fits-at p of .earlier, of .is-set, latest-set);
+              let of : OfSet st v p = set-of p there in is-set (itemAt (v .items) p .origin) (omega (arith, fits-at p of .earlier, of .is-set));
           starts-fit = start-fits;
           ordered = begins-ordered;
         };

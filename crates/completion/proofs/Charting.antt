@@ -19,7 +19,7 @@ use Rattle.parse.specs.WellFormed.{leftOf, secondOf}
 use Rattle.completion.specs.Pass.{Pass, refused, andThen, store, enqueue}
 use Rattle.completion.specs.Complete.{completeMedial, completeMedialItems, completeUnary, completeUnaryPredictions, completeBinary, completeBinaryPredictions, complete}
 use Rattle.completion.specs.Sums.{greatest, sumEnds, nextSummand, popSum, completeSum, rests, completeAllSums}
-use Rattle.completion.specs.Ready.{Sound, Charted}
+use Rattle.completion.specs.Ready.{IsSet, Sound, Charted}
 use Rattle.completion.proofs.Soundness.{store-sound, enqueue-sound, has-place}
 use Rattle.completion.proofs.Waiting.{store-place}
 use Rattle.completion.proofs.Entries.{entriesOf, storedPass, queuedPass, poppedPass, store-cases, enqueue-cases, then-cases, next-is, each-entry, every-entry, some-entries, popped-entries, popped-words}
@@ -51,7 +51,7 @@ next-sound s sound some = next-is Sound s some done
 -- An item of a rule and a set.
 pub record Charts (rs : List Rule) (starts : List ℕ) (i : Item) : Type 0 where
   pub is-rule : i .rule < length rs
-  pub is-set : i .origin + 1 < length starts
+  pub is-set : IsSet starts (i .origin)
 
 -- A pass whose new items are charted is charted, if it was.
 pub onward-charted : {rs : List Rule} {starts : List ℕ} {s t : Pass} → Charted rs starts s → Onward s t
@@ -100,7 +100,7 @@ steady-refl rs starts s sound charted = record { onward = onward-refl s; sound =
 
 module _ (rs : List Rule) (starts : List ℕ) (s : Pass) where
   -- What the steps do not lose.
-  pub steady-store : (k r : ℕ) (t : Pass) → k + 1 < length starts → r < length rs → Steady rs starts s t → Steady rs starts s (store k r t)
+  pub steady-store : (k r : ℕ) (t : Pass) → IsSet starts k → r < length rs → Steady rs starts s t → Steady rs starts s (store k r t)
   steady-store k r t set rule steady =
       record {
         onward = onward-trans (steady .onward) (onward-store k r t);
@@ -133,7 +133,7 @@ module _ (rs : List Rule) (starts : List ℕ) (s : Pass) where
       }
 
   -- Storing an item and queueing it.
-  pub steady-both : (k r : ℕ) (t : Pass) → k + 1 < length starts → r < length rs → Steady rs starts s t
+  pub steady-both : (k r : ℕ) (t : Pass) → IsSet starts k → r < length rs → Steady rs starts s t
       → Steady rs starts s (andThen (store k r t) (enqueue (t .at .items)))
   steady-both k r t set rule steady =
       let there : Steady rs starts s (store k r t) = steady-store k r t set rule steady in
@@ -151,7 +151,7 @@ module _ (rs : List Rule) (starts : List ℕ) (s : Pass) where
     steady-medial-items = medial-items-keep rs starts rows k x (Steady rs starts s)
         (λ p t inside second on steady. steady-enqueue p t (omega (arith, inside .up-to, steady .charted .starts-fit (k + 1))) steady)
 
-    module _ (set : k + 1 < length starts) where
+    module _ (set : IsSet starts k) where
       pub steady-unary : (r : ℕ) (t : Pass) → r < length rs → Steady rs starts s t → Steady rs starts s (completeUnary rs rows k x r t)
       steady-unary = unary-goes rs starts rows k x (λ r t. Steady rs starts s t) (λ r t steady. steady)
           (λ r t begins one on steady. steady-both k r t set (begins .is-rule) steady)

@@ -16,7 +16,7 @@ use Rattle.parse.specs.WellFormed.{leftOf, ruleOf, secondOf}
 use Rattle.completion.specs.Pass.{Pass, andThen, store, enqueue}
 use Rattle.completion.specs.Complete.{completeMedialItems, completeUnaryPredictions, completeBinaryPredictions, complete}
 use Rattle.completion.specs.Sums.{greatest, nextSummand, sumEnds, popSum, completeSum, rests, completeAllSums}
-use Rattle.completion.specs.Ready.{Sound, Charted}
+use Rattle.completion.specs.Ready.{IsSet, Sound, Charted}
 use Rattle.completion.proofs.Waiting.{store-place}
 use Rattle.completion.proofs.Entries.{entriesOf, entries-length, each-entry, then-cases, store-cases}
 use Rattle.completion.proofs.Onward.{Onward, onward-store, onward-enqueue}
@@ -115,7 +115,7 @@ record Storing (rs : List Rule) (starts : List ℕ) (s : Pass) (k x : ℕ) (Used
   pub has : from ≤ t .at .items
   pub of-pair : OfPair rs k x Used from t
 
-module _ (rs : List Rule) (starts rows : List ℕ) (s : Pass) (k x : ℕ) (set : k + 1 < length starts) where
+module _ (rs : List Rule) (starts rows : List ℕ) (s : Pass) (k x : ℕ) (set : IsSet starts k) where
   -- Medial items are queued, and none is stored.
   pub medial-items-none : (t : Pass) → completeMedialItems rs starts k x t .at .items ≡ t .at .items
   medial-items-none t =
@@ -223,7 +223,7 @@ record Unmet (rs : List Rule) (e old k x : ℕ) (s : Pass) : Type 0 where
   pub distinct : (p q : ℕ) → old ≤ p → p < q → q < s .at .items → itemAt (s .items) p ≡ itemAt (s .items) q → ⊥
 
 module _ {rs : List Rule} {starts rows : List ℕ} (grounds : Grounds rs starts rows) (s : Pass) (pending : Pending rs starts s) (e old k x : ℕ)
-    (set : k + 1 < length starts) (latest : k ≤ e) (unmet : Unmet rs e old k x s) where
+    (set : IsSet starts k) (latest : k ≤ e) (unmet : Unmet rs e old k x s) where
   -- Completing a pair that was not completed yet stores items that were not stored yet.
   fresh-complete : (u : Pass) → Heaped rs starts (Lower rs k x) s u → u .at .items ≡ s .at .items → Fresh rs e old (complete rs starts rows k x u)
   fresh-complete u heaped same =
@@ -271,7 +271,7 @@ module _ {rs : List Rule} {starts rows : List ℕ} (grounds : Grounds rs starts 
 
 module _ {rs : List Rule} {starts rows : List ℕ} (grounds : Grounds rs starts rows) (e : ℕ) where
   -- The first completion of a pass stores fresh items.
-  pub fresh-first : (x : ℕ) (s : Pass) → Pending rs starts s → s .at .queued ≡ 0 → e + 1 < length starts
+  pub fresh-first : (x : ℕ) (s : Pass) → Pending rs starts s → s .at .queued ≡ 0 → IsSet starts e
       → Fresh rs e (s .at .items) (complete rs starts rows e x s)
   fresh-first x s pending nothing set =
       fresh-complete grounds s pending e (s .at .items) e x set (omega arith)
@@ -329,7 +329,7 @@ module _ {rs : List Rule} {starts rows : List ℕ} (grounds : Grounds rs starts 
         (length starts * length rs) s (record { pending = pending; fresh = fresh }) .fresh
 
   -- The items that a pass stores, behind those of the sets, are distinct and of origins up to the latest set.
-  pub pass-fresh : (x : ℕ) (s : Pass) → Pending rs starts s → s .at .queued ≡ 0 → e + 1 < length starts
+  pub pass-fresh : (x : ℕ) (s : Pass) → Pending rs starts s → s .at .queued ≡ 0 → IsSet starts e
       → Fresh rs e (s .at .items) (completeAllSums rs starts rows (complete rs starts rows e x s))
   pass-fresh x s pending nothing set =
       fresh-all-sums (s .at .items) (complete rs starts rows e x s) (first-pending grounds s pending e x set nothing)

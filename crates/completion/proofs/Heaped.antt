@@ -17,7 +17,7 @@ use Rattle.parse.specs.WellFormed.{secondOf}
 use Rattle.completion.specs.Pass.{Pass, refused, andThen, store, enqueue}
 use Rattle.completion.specs.Complete.{completeMedialItems, completeUnaryPredictions, completeBinaryPredictions, complete}
 use Rattle.completion.specs.Sums.{sumEnds, nextSummand, popSum}
-use Rattle.completion.specs.Ready.{Sound, Charted}
+use Rattle.completion.specs.Ready.{IsSet, Sound, Charted}
 use Rattle.completion.proofs.Waiting.{store-place}
 use Rattle.completion.proofs.Entries.{entriesOf, storedPass, queuedPass, poppedPass, store-cases, enqueue-cases, then-cases, next-is, every-entry, some-entries, queued-entries, popped-entries}
 use Rattle.completion.proofs.Onward.{Onward, onward-key, onward-store}
@@ -98,7 +98,7 @@ pub record Heaped (rs : List Rule) (starts : List ℕ) (Q : Item → Type 0) (s 
   pub ordered : Ordered Q t
 
 module _ (rs : List Rule) (starts : List ℕ) (Q : Item → Type 0) (s : Pass) where
-  pub heaped-store : (k r : ℕ) (t : Pass) → k + 1 < length starts → r < length rs → Heaped rs starts Q s t → Heaped rs starts Q s (store k r t)
+  pub heaped-store : (k r : ℕ) (t : Pass) → IsSet starts k → r < length rs → Heaped rs starts Q s t → Heaped rs starts Q s (store k r t)
   heaped-store k r t set rule heaped =
       record {
         steady = steady-store rs starts s k r t set rule (heaped .steady);
@@ -120,7 +120,7 @@ module _ (rs : List Rule) (starts : List ℕ) (Q : Item → Type 0) (s : Pass) w
         ordered = ordered-next Q t (heaped .steady .sound) (heaped .ordered) some;
       }
 
-  pub heaped-both : (k r : ℕ) (t : Pass) → k + 1 < length starts → r < length rs → Q (record { origin = k; rule = r }) → Heaped rs starts Q s t
+  pub heaped-both : (k r : ℕ) (t : Pass) → IsSet starts k → r < length rs → Q (record { origin = k; rule = r }) → Heaped rs starts Q s t
       → Heaped rs starts Q s (andThen (store k r t) (enqueue (t .at .items)))
   heaped-both k r t set rule new heaped =
       let there : Heaped rs starts Q s (store k r t) = heaped-store k r t set rule heaped in
@@ -137,7 +137,7 @@ module _ (rs : List Rule) (starts : List ℕ) (Q : Item → Type 0) (s : Pass) w
       until-keeps (sumEnds rs k x) nextSummand (Heaped rs starts Q s) (λ u goes. heaped-next u (goes-on-sum rs starts s k x u goes)) (t .at .queued) t heaped
 
   -- Completing keeps it, if what a completion of set `k` and symbol `x` queues has `Q`.
-  module _ (rows : List ℕ) (k x : ℕ) (set : k + 1 < length starts) (charted : Charted rs starts s)
+  module _ (rows : List ℕ) (k x : ℕ) (set : IsSet starts k) (charted : Charted rs starts s)
       (of-set : (p : ℕ) → Inside starts k p → secondOf rs (itemAt (s .items) p) ≡ x → Q (itemAt (s .items) p))
       (of-rule : (r : ℕ) → Begins rs rows k x r → getD rs r noRule .second ≡ none → Q (record { origin = k; rule = r })) where
     pub heaped-medial-items : (t : Pass) → Heaped rs starts Q s t → Heaped rs starts Q s (completeMedialItems rs starts k x t)

@@ -15,3 +15,4 @@ pub mod Beginning
 pub mod Searching
 pub mod Pairs
 pub mod Summing
+pub mod Passed

@@ -16,6 +16,7 @@ use Rattle.parse.specs.WellFormed.{leftOf}
 use Rattle.completion.specs.Pass.{Pass}
 use Rattle.completion.specs.Complete.{complete}
 use Rattle.completion.specs.Sums.{greatest, completeSum, rests, completeAllSums}
+use Rattle.completion.specs.Ready.{IsSet}
 use Rattle.completion.proofs.Entries.{entriesOf, each-entry}
 use Rattle.completion.proofs.Charting.{Charts, not-resting, greatest-charts}
 use Rattle.completion.proofs.Heaped.{Ordered, Heaped}
@@ -194,7 +195,7 @@ module _ {rs : List Rule} {starts rows : List ℕ} (grounds : Grounds rs starts 
       (next some)))
 
   -- The first pair of a pass, and those that its sums complete, fall strictly.
-  pub pass-falls : (n k x : ℕ) (s : Pass) → Pending rs starts s → s .at .queued ≡ 0 → k + 1 < length starts
+  pub pass-falls : (n k x : ℕ) (s : Pass) → Pending rs starts s → s .at .queued ≡ 0 → IsSet starts k
       → Falling rs (record { set = k; symbol = x } ∷ pairsCompleted rs starts rows n (complete rs starts rows k x s))
   pass-falls n k x s pending none set =
       let after : Pending rs starts (complete rs starts rows k x s) = first-pending grounds s pending k x set none in

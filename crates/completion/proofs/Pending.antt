@@ -21,7 +21,7 @@ use Rattle.parse.specs.WellFormed.{leftOf}
 use Rattle.completion.specs.Pass.{Pass}
 use Rattle.completion.specs.Complete.{complete}
 use Rattle.completion.specs.Sums.{greatest, sumEnds, nextSummand, popSum, completeSum, rests, completeAllSums}
-use Rattle.completion.specs.Ready.{RulesFit, Rowed, Sound, Charted}
+use Rattle.completion.specs.Ready.{IsSet, RulesFit, Rowed, Sound, Charted}
 use Rattle.completion.proofs.Entries.{entriesOf, entries-length, entry-at, each-entry}
 use Rattle.completion.proofs.Onward.{Onward}
 use Rattle.completion.proofs.Through.{Begins, Inside}
@@ -131,7 +131,7 @@ module _ {rs : List Rule} {starts : List ℕ} (s : Pass) (pending : Pending rs s
       }
 
 module _ {rs : List Rule} {starts rows : List ℕ} (grounds : Grounds rs starts rows) (s : Pass) (pending : Pending rs starts s) (k x : ℕ)
-    (set : k + 1 < length starts) where
+    (set : IsSet starts k) where
   -- Completing a pair queues only what is below it.
   pub complete-lower : (t : Pass) → Heaped rs starts (Lower rs k x) s t → Heaped rs starts (Lower rs k x) s (complete rs starts rows k x t)
   complete-lower =
@@ -266,7 +266,7 @@ left-few {rs} {starts} s pending =
     elim (decLt 0 (s .at .queued)) [
       | yes some ↦
           (let charts : Charts rs starts (greatest s) = greatest-charts rs starts s s some (pending-steady s pending) in
-          omega (arith, left-some rs s some, rank-few (length starts) (length rs) (greatest s .origin) (greatest s .rule) (charts .is-set) (charts .is-rule)))
+          omega (arith, left-some rs s some, rank-few (length starts) (length rs) (greatest s .origin) (greatest s .rule) (charts .is-set .there) (charts .is-rule)))
       | no none ↦ omega (arith, left-none rs s (omega arith))
     ]
 

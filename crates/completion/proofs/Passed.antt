@@ -1,0 +1,96 @@
+-- Steps 2 and 3 as a whole: what a pass leaves.
+use mathlib.Core.Path.{_≡_, refl, sym, ap, ap₂, _∙_, subst}
+use mathlib.Core.List.{List}
+use Prim.Native.Nat.{ℕ, _+_, _*_, _/_, _≤_, _<_}
+use native.Mathlib.Omega.{arith}
+use lib.ListN.{length, getD}
+use Rattle.item.specs.Item.{Item, itemWords, itemAt, originAt, ruleAt}
+use Rattle.bits.specs.Width.{rowWords}
+use Rattle.grammar.specs.Rules.{Rule, Grammar}
+use Rattle.grammar.specs.Accepted.{Accepted, maxRules}
+use Rattle.parse.specs.declared.State.{State}
+use Rattle.parse.specs.Words.{Words, maxItems, maxSets}
+use Rattle.parse.specs.WellFormed.{WellFormed, placing, secondOf}
+use Rattle.completion.specs.Pass.{Pass, itemsFull, queueFull}
+use Rattle.completion.specs.Complete.{complete}
+use Rattle.completion.specs.Sums.{completeAllSums}
+use Rattle.completion.specs.Ready.{IsSet, Rowed, Sound, Charted}
+use Rattle.completion.proofs.Onward.{Onward, SpareQueue}
+use Rattle.completion.proofs.Charting.{Steady, steady-all-sums}
+use Rattle.completion.proofs.Heaped.{Heaped}
+use Rattle.completion.proofs.Pending.{Grounds, Pending, first-lower, first-pending}
+use Rattle.completion.proofs.Distinct.{Fresh, pass-fresh}
+use Rattle.completion.proofs.Refusals.{Stops, Ends, on, stops-complete, all-sums-end}
+use Rattle.completion.proofs.Beginning.{beginning, accepted-grounds, begins-pending, is-set}
+
+-- Pass `t` is what steps 2 and 3 made of pass `s`, with `e` the latest set.
+pub record Passed (rs : List Rule) (starts : List ℕ) (e : ℕ) (s t : Pass) : Type 0 where
+  -- nothing that was there is touched; counts and entries are in bounds; items are of rules and sets
+  pub onward : Onward s t
+  pub sound : Sound t
+  pub charted : Charted rs starts t
+  -- the new items are distinct, and of sets up to the latest
+  pub origins : (p : ℕ) → s .at .items ≤ p → p < t .at .items → originAt (t .items) p ≤ e
+  pub distinct : (p q : ℕ) → s .at .items ≤ p → p < q → q < t .at .items → itemAt (t .items) p ≡ itemAt (t .items) q → ⊥
+  -- the queue is empty, or a push met full items or a full queue
+  pub ends : Ends t
+
+-- A pass from a pending one with an empty queue.
+pub pass-done : {rs : List Rule} {starts rows : List ℕ} → Grounds rs starts rows → (e x : ℕ) → IsSet starts e → (s : Pass) → Pending rs starts s
+    → s .at .queued ≡ 0 → s .at .stopped ≡ 0 → Passed rs starts e s (completeAllSums rs starts rows (complete rs starts rows e x s))
+pass-done {rs} {starts} {rows} grounds e x set s pending nothing going =
+    by-parts (completeAllSums rs starts rows (complete rs starts rows e x s))
+    (steady-all-sums rs starts s rows (complete rs starts rows e x s) (first-lower grounds s pending e x set nothing .steady))
+    (pass-fresh grounds e x s pending nothing set)
+    (all-sums-end grounds (complete rs starts rows e x s) (first-pending grounds s pending e x set nothing)
+    (stops-complete rs starts rows e x s (on going)))
+  where
+    by-parts : (t : Pass) → Steady rs starts s t → Fresh rs e (s .at .items) t → Ends t → Passed rs starts e s t
+    by-parts t steady fresh ends =
+        record {
+          onward = steady .onward;
+          sound = steady .sound;
+          charted = steady .charted;
+          origins = fresh .origins;
+          distinct = fresh .distinct;
+          ends = ends;
+        }
+
+module _ {rs : List Rule} {starts : List ℕ} {e : ℕ} {s t : Pass} (passed : Passed rs starts e s t) where
+  -- No two new items have one place in the order of a set.
+  pub passed-apart : length rs ≤ maxRules → e < maxSets → (p q : ℕ) → s .at .items ≤ p → p < q → q < t .at .items
+      → placing rs (itemAt (t .items) p) ≡ placing rs (itemAt (t .items) q) → ⊥
+  passed-apart few-rules few-sets p q from less there same =
+      passed .distinct p q from less there
+      (ap₂ (λ (o r : ℕ). let i : Item = record { origin = o; rule = r } in i) (apart .0) (apart .1))
+    where
+      apart : (originAt (t .items) p ≡ originAt (t .items) q) × (ruleAt (t .items) p ≡ ruleAt (t .items) q)
+      apart =
+          let rule-p : ruleAt (t .items) p < length rs = passed .charted .rules p (omega arith) in
+          let rule-q : ruleAt (t .items) q < length rs = passed .charted .rules q there in
+          let origin-p : originAt (t .items) p ≤ e = passed .origins p from (omega arith) in
+          let origin-q : originAt (t .items) q ≤ e = passed .origins q (omega arith) there in
+          omega arith
+
+  -- Where no push was refused the queue's words are 0 again.
+  pub passed-queue : SpareQueue s → t .at .stopped ≡ 0 → (i : ℕ) → getD (t .queue) i 0 ≡ 0
+  passed-queue spare going i = passed .onward .spare-queue spare .spare i (omega (arith, by-end (passed .ends)))
+    where
+      by-end : Ends t → t .at .queued ≡ 0
+      by-end (Ends.empty still none) = none
+      by-end (Ends.full-items stopped full) = absurd (omega arith)
+      by-end (Ends.full-queue stopped full) = absurd (omega arith)
+
+  -- Item words behind the new items are 0, if those behind the old were.
+  pub passed-spare : ((i : ℕ) → itemWords * s .at .items ≤ i → getD (s .items) i 0 ≡ 0) → (i : ℕ) → itemWords * t .at .items ≤ i → getD (t .items) i 0 ≡ 0
+  passed-spare spare i behind = passed .onward .same-spare i behind ∙ spare i (omega (arith, passed .onward .more-items))
+
+-- A token's pass on any well-formed state of an accepted grammar.
+pub token-passed : (g : Grammar) → Accepted g → {n : ℕ} {st : State} {v : Words} → WellFormed n (g .rules) st v
+    → length (v .items) ≤ itemWords * maxItems → Rowed (v .starts) (v .rows) → (x : ℕ)
+    → Passed (g .rules) (v .starts) (st .set) (beginning st v)
+    (completeAllSums (g .rules) (v .starts) (v .rows) (complete (g .rules) (v .starts) (v .rows) (st .set) x (beginning st v)))
+token-passed g accepted {n} {st} {v} well few-items rowed x =
+    pass-done (accepted-grounds g accepted (v .starts) (v .rows) rowed) (st .set) x
+    (is-set well (accepted .few-rules) few-items rowed (st .set) (omega arith)) (beginning st v)
+    (begins-pending well (accepted .few-rules) few-items rowed) refl refl
