@@ -17,7 +17,12 @@ use Rattle.grammar.specs.Rules.{Rule, noRule}
 use Rattle.parse.specs.WellFormed.{leftOf}
 use Rattle.completion.specs.Pass.{Pass, passOf}
 use Rattle.completion.specs.Ready.{Sound, RulesRead}
-use Rattle.completion.specs.Sums.{greatest, sumEnds, nextSummand, popSum}
+use Rattle.completion.specs.Complete.{complete}
+use Rattle.completion.specs.Sums.{greatest, sumEnds, nextSummand, popSum, completeSum}
+
+-- What is not 0 is above it.
+pub nonzero : (n : ℕ) → (n ≡ 0 → ⊥) → 0 < n
+nonzero n some = omega arith
 
 module _ (rs : List Rule) (k x : ℕ) (s : Pass) where
   -- A sum ends at an empty queue.
@@ -72,3 +77,12 @@ sum-turn rs k x s next on some step =
 pub read-next : (rs : List Rule) (s : Pass) → RulesRead rs s → 0 < s .at .queued → Sound (nextSummand s) → RulesRead rs (nextSummand s)
 unfolding nextSummand
 read-next rs s read some sound = record { sound = sound; few-rules = read .few-rules; rules = read .rules }
+
+-- One sum, and then its pair, as the code goes about it.
+pub sum-is : (rs : List Rule) (starts rows : List ℕ) (k x : ℕ) (s popped result : Pass) → k ≡ greatest s .origin → x ≡ leftOf rs (greatest s)
+    → popped ≡ popSum rs k x s → result ≡ complete rs starts rows k x popped → result ≡ completeSum rs starts rows s
+unfolding completeSum
+sum-is rs starts rows k x s popped result set symbol pops completes =
+    completes
+    ∙ ap (λ (u : Pass). complete rs starts rows k x u) pops
+    ∙ ap₂ (λ (k x : ℕ). complete rs starts rows k x (popSum rs k x s)) set symbol
