@@ -1,1 +1,2 @@
 // Steps 4 to 6: the new items become a set.
+pub mod sort;

@@ -1,0 +1,6 @@
+-- Laws of steps 4 to 6.
+pub mod Placed
+pub mod Ordering
+pub mod Placing
+pub mod Inserting
+pub mod Sorting
