@@ -4,3 +4,5 @@ pub mod Ordering
 pub mod Placing
 pub mod Inserting
 pub mod Sorting
+pub mod Padded
+pub mod Dropping

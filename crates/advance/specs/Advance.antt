@@ -43,6 +43,10 @@ predictions rs table (i ∷ is) = union (predictions rs table is) (getD table (s
 abbrev pub padded : ℕ → List ℕ → List ℕ
 padded size words = words ++ replicate (size - length words) 0
 
+-- The words before the place `from`, then items, then 0.
+abbrev pub ending : List ℕ → ℕ → List Item → List ℕ
+ending words from is = padded (length words) (take (itemWords * from) words ++ flat is)
+
 -- The state and the words when `new` is the latest set, behind the sets up to `kept`, with the row `row`.
 abbrev pub nextState : ℕ → Words → List Item → State
 nextState kept v new = record { set = kept + 1; items = startOf v (kept + 1) + length new }
@@ -50,7 +54,7 @@ nextState kept v new = record { set = kept + 1; items = startOf v (kept + 1) + l
 abbrev pub nextWords : ℕ → ℕ → Words → List Item → List ℕ → Words
 nextWords e m v new row =
     record {
-      items = padded (length (v .items)) (take (itemWords * startOf v (lastKept e m + 1)) (v .items) ++ flat new);
+      items = ending (v .items) (startOf v (lastKept e m + 1)) new;
       starts = padded (length (v .starts)) (take (lastKept e m + 2) (v .starts) ++ (nextState (lastKept e m) v new .items ∷ []));
       rows = padded (length (v .rows)) (keptRows e m (v .rows) ++ row);
       queue = replicate (length (v .queue)) 0;
