@@ -6,3 +6,5 @@ pub mod Inserting
 pub mod Sorting
 pub mod Padded
 pub mod Dropping
+pub mod Pruning
+pub mod Predicting

@@ -74,6 +74,19 @@ padded-set size words x l =
         ∙ List·getD-eq-default words 0 {n = i} (omega arith)
         ∙ sym (List·getD-eq-default (words ++ (x ∷ [])) 0 {n = i} (omega (arith, length-append words (x ∷ []))))
 
+-- 0s behind words that have 0 behind them.
+pub padded-zeros : (size : ℕ) (words : List ℕ) (n : ℕ) → length words + n ≤ size → padded size (words ++ replicate n 0) ≡ padded size words
+padded-zeros size words n l =
+    padded-ext size words (padded size (words ++ replicate n 0)) (omega arith)
+    (padded-length size (words ++ replicate n 0) (omega (arith, length-append words (replicate n 0), length-replicate {A = ℕ} n 0)))
+    (λ i m.
+    padded-word size (words ++ replicate n 0) i
+    ∙ ap (λ (k : ℕ). getD (words ++ replicate k 0) i 0) n-is
+    ∙ padded-word (length words + n) words i)
+  where
+    n-is : n ≡ length words + n - length words
+    n-is = omega arith
+
 -- The first words, up to a place, are those before a stretch of items and the items.
 pub take-items : (words : List ℕ) (from n : ℕ) → itemWords * (from + n) ≤ length words
     → take (itemWords * (from + n)) words ≡ take (itemWords * from) words ++ flat (itemsFrom words from n)

@@ -6,7 +6,7 @@ use native.Mathlib.Decide.{decLt, ℕ-discrete}
 use native.Mathlib.Numerals.{add-one}
 use native.Mathlib.Omega.{arith}
 use lib.ListN.{length, getD, set, take, drop, length-append, length-drop, length-set, List·getD-append}
-use lib.Seq.{ext-getD, length-take-le, getD-take, getD-drop, getD-append-add, getD-set-same, getD-set-other}
+use lib.Seq.{ext-getD, length-take-le, getD-take, getD-drop, getD-append-add, getD-set-same, getD-set-other, getD-at}
 use Rattle.item.specs.Item.{Item, itemWords, itemAt, originAt, ruleAt, flat, stored, HasPlace}
 use Rattle.item.proofs.Words.{flat-length, item-of-flat, stored-length, stored-other, stored-item, stored-item-other}
 use Rattle.advance.specs.NewItems.{itemsFrom, placed}
@@ -168,3 +168,43 @@ placed-over words from at to is js runs on there few long =
 
     room : itemWords * to ≤ length old
     room = omega (arith, whole)
+
+-- One item more behind the stretch.
+pub placed-more : (words : List ℕ) (from to : ℕ) (is : List Item) (i : Item) → from ≤ to → itemWords * (to + 1) ≤ length words → length is ≡ to - from
+    → stored (placed words from to is) to i ≡ placed words from (to + 1) (is ++ (i ∷ []))
+placed-more words from to is i runs there long =
+    placed-ext words from (to + 1) (is ++ (i ∷ [])) (omega arith) there (omega (arith, length-append is (i ∷ []))) (stored old to i)
+    (stored-length old to i ∙ whole)
+    (λ k h. stored-other old to i k (λ e. omega arith) (λ e. omega arith) ∙ placed-below words from to is runs (omega arith) long k h)
+    (λ k h. stored-other old to i k (λ e. omega arith) (λ e. omega arith) ∙ placed-above words from to is runs (omega arith) long k (omega arith))
+    (λ q h. at q (decLt q (length is)) (omega (arith, length-append is (i ∷ []))))
+  where
+    old : List ℕ
+    old = placed words from to is
+
+    whole : length old ≡ length words
+    whole = placed-length words from to is runs (omega arith) long
+
+    at : (q : ℕ) → Dec (q < length is) → q < length is + 1 → itemAt (stored old to i) (from + q) ≡ getD (is ++ (i ∷ [])) q noItem
+    at q (yes l) b =
+        stored-item-other old to i (from + q) (λ e. omega arith)
+        ∙ placed-at words from to is runs (omega arith) long q l
+        ∙ sym (List·getD-append is (i ∷ []) noItem q l)
+    at q (no n) b =
+        let here : from + q ≡ to = omega arith in
+        ap (itemAt (stored old to i)) here
+        ∙ stored-item old to i (omega (arith, whole))
+        ∙ sym (getD-at is i [] noItem q (omega arith))
+
+-- The first of the items up to a place, and the others.
+pub items-down : (words : List ℕ) (p to : ℕ) → 0 < p → p ≤ to → itemsFrom words (p - 1) (to - (p - 1)) ≡ itemAt words (p - 1) ∷ itemsFrom words p (to - p)
+unfolding itemsFrom
+items-down words p to l m =
+    let more : to - (p - 1) ≡ suc (to - p) = omega arith in
+    let next : p - 1 + 1 ≡ p = omega arith in
+    ap (itemsFrom words (p - 1)) more ∙ ap (λ (q : ℕ). itemAt words (p - 1) ∷ itemsFrom words q (to - p)) next
+
+-- No items.
+pub items-none : (words : List ℕ) (from n : ℕ) → n ≡ 0 → itemsFrom words from n ≡ []
+unfolding itemsFrom
+items-none words from n e = ap (itemsFrom words from) e

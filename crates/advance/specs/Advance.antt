@@ -1,4 +1,5 @@
 -- Steps 5 and 6: sets that nothing can reach are dropped, and the new items become the latest set.
+use mathlib.Core.Path.{_≡_}
 use mathlib.Core.Bool.{Bool, true, false}
 use mathlib.Core.List.{List, [], _∷_, _++_}
 use Prim.Native.Nat.{ℕ, zero, suc, _+_, _-_, _*_, _/_, max}
@@ -46,6 +47,13 @@ padded size words = words ++ replicate (size - length words) 0
 -- The words before the place `from`, then items, then 0.
 abbrev pub ending : List ℕ → ℕ → List Item → List ℕ
 ending words from is = padded (length words) (take (itemWords * from) words ++ flat is)
+
+-- Step 5, of sets 0..e: the new items `new` stand from `start` on, behind the sets that are kept, and every other word is 0.
+pub record Pruned (e m : ℕ) (items starts rows : List ℕ) (new : List Item) (start : ℕ) (items′ starts′ rows′ : List ℕ) : Type 0 where
+  pub start-is : start ≡ getD starts (lastKept e m + 1) 0
+  pub items-are : items′ ≡ ending items start new
+  pub starts-are : starts′ ≡ padded (length starts) (take (lastKept e m + 2) starts)
+  pub rows-are : rows′ ≡ padded (length rows) (keptRows e m rows)
 
 -- The state and the words when `new` is the latest set, behind the sets up to `kept`, with the row `row`.
 abbrev pub nextState : ℕ → Words → List Item → State

@@ -2,3 +2,4 @@
 pub mod NewItems
 pub mod Order
 pub mod Advance
+pub mod Ready

@@ -1,10 +1,10 @@
--- `advance::clear::clear_rows` meets its contract. The invariant: the words from `from` up to `i` are 0.
+-- `advance::words::clear_rows` meets its contract. The invariant: the words from `from` up to `i` are 0.
 use Prim.Native.Nat.{_-_}
 use native.Mathlib.Omega.{arith}
 use borrow.Author.Needs.{needs}
 use Rattle.advance.proofs.Padded.{Clearing, clearing-start, clearing-next, clearing-ends}
-use Rattle.advance.proofs.clear.clear_rows.Statement.{statement}
-use Rattle.advance.proofs.clear.clear_rows.Tie as tie
+use Rattle.advance.proofs.words.clear_rows.Statement.{statement}
+use Rattle.advance.proofs.words.clear_rows.Tie as tie
 
 abbrev Inv-loop : tie.InvT-loop
 Inv-loop words₀ from to i₀ words i = Clearing words₀ from to i words
