@@ -8,3 +8,5 @@ pub mod Padded
 pub mod Dropping
 pub mod Pruning
 pub mod Predicting
+pub mod Following
+pub mod Advancing

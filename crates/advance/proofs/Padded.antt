@@ -14,7 +14,7 @@ use Rattle.advance.specs.Advance.{padded, ending}
 use Rattle.advance.proofs.Placed.{items-count, placed-self}
 
 -- A word of 0s is 0, there or not.
-zeros-word : (n i : ℕ) → _≡_ {A = ℕ} (getD (replicate n 0) i 0) 0
+pub zeros-word : (n i : ℕ) → _≡_ {A = ℕ} (getD (replicate n 0) i 0) 0
 zeros-word n i = elim (decLt i n) [ yes l ↦ getD-replicate n i 0 0 l | no m ↦ List·getD-eq-default (replicate n 0) 0 {n = i} (omega (arith, length-replicate {A = ℕ} n 0)) ]
 
 -- They have the size asked for.

@@ -69,10 +69,10 @@ kept-pruned e m l = rw (lastKept, lt-ltb 1 (e - m) l) refl
 pub kept-all : (e m : ℕ) → e - m ≤ 1 → lastKept e m ≡ e
 kept-all e m l = rw (lastKept, le-ltb 1 (e - m) l) refl
 
-rows-pruned : (e m : ℕ) (rows : List ℕ) → 1 < e - m → keptRows e m rows ≡ take (rowWords * (m + 1)) rows ++ replicate rowWords 0
+pub rows-pruned : (e m : ℕ) (rows : List ℕ) → 1 < e - m → keptRows e m rows ≡ take (rowWords * (m + 1)) rows ++ replicate rowWords 0
 rows-pruned e m rows l = rw (keptRows, lt-ltb 1 (e - m) l) refl
 
-rows-all : (e m : ℕ) (rows : List ℕ) → e - m ≤ 1 → keptRows e m rows ≡ take (rowWords * (e + 1)) rows
+pub rows-all : (e m : ℕ) (rows : List ℕ) → e - m ≤ 1 → keptRows e m rows ≡ take (rowWords * (e + 1)) rows
 rows-all e m rows l = rw (keptRows, le-ltb 1 (e - m) l) refl
 
 -- The items of a stretch are copied down, one after the other.
