@@ -34,7 +34,7 @@ use Rattle.advance.proofs.Following.{ending-length, ending-at, ending-b
 
 module _ (rs : List Rule) where
   -- The two ways of an item.
-  binary-cases : (P : List Item → Type 0) (i : Item) (is : List Item)
+  pub binary-cases : (P : List Item → Type 0) (i : Item) (is : List Item)
       → (secondOf rs i ≡ none → P (binary rs is)) → ((secondOf rs i ≡ none → ⊥) → P (i ∷ binary rs is)) → P (binary rs (i ∷ is))
   unfolding binary
   binary-cases P i is out in′ = elim (ℕ-discrete (secondOf rs i) none) [

@@ -108,7 +108,7 @@ pub kept-low : (e m : ℕ) → m ≤ e → lastKept e m ≤ e
 kept-low e m l = elim (decLt 1 (e - m)) [ yes a ↦ omega (arith, kept-pruned e m a) | no a ↦ omega (arith, kept-all e m (omega arith)) ]
 
 -- A row for each set that is kept.
-kept-rows-length : (e m : ℕ) (rows : List ℕ) → m ≤ e → rowWords * (e + 1) ≤ length rows → length (keptRows e m rows) ≡ rowWords * (lastKept e m + 1)
+pub kept-rows-length : (e m : ℕ) (rows : List ℕ) → m ≤ e → rowWords * (e + 1) ≤ length rows → length (keptRows e m rows) ≡ rowWords * (lastKept e m + 1)
 kept-rows-length e m rows l fits = elim (decLt 1 (e - m)) [
   | yes a ↦ ap length (rows-pruned e m rows a) ∙ omega (arith, length-append (take (rowWords * (m + 1)) rows) (replicate rowWords 0), length-take-le (rowWords * (m + 1)) rows (omega arith), kept-pruned e m a)
   | no a ↦ ap length (rows-all e m rows (omega arith)) ∙ length-take-le (rowWords * (e + 1)) rows fits ∙ omega (arith, kept-all e m (omega arith))

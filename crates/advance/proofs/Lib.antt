@@ -10,3 +10,5 @@ pub mod Pruning
 pub mod Predicting
 pub mod Following
 pub mod Advancing
+pub mod Keeping
+pub mod Steps

@@ -136,14 +136,18 @@ module _ (w : List ℕ) (from to base : ℕ) (low : base ≤ from) (runs : from 
         all : q ≡ to - from
         all = omega (arith, s .few)
 
-module _ (e : ℕ) (items starts rows : List ℕ) (from to m : ℕ) (h : Prunable e items starts rows from to m) where
-  below : (d k : ℕ) → k + d ≡ e + 1 → getD starts k 0 ≤ getD starts (e + 1) 0
-  below zero k a = let here : k ≡ e + 1 = omega arith in omega (arith, ap (λ (j : ℕ). getD starts j 0) here)
-  below (suc d) k a = omega (arith, h .never-falls k (omega arith), below d (k + 1) (omega arith))
+-- Starts that never fall are no higher than the last.
+pub last-greatest : (starts : List ℕ) (e : ℕ) → ((k : ℕ) → k ≤ e → getD starts k 0 ≤ getD starts (k + 1) 0) → (k : ℕ) → k ≤ e + 1 → getD starts k 0 ≤ getD starts (e + 1) 0
+last-greatest starts e falls k l = up (e + 1 - k) k (omega arith)
+  where
+    up : (d k : ℕ) → k + d ≡ e + 1 → getD starts k 0 ≤ getD starts (e + 1) 0
+    up zero k a = let here : k ≡ e + 1 = omega arith in omega (arith, ap (λ (j : ℕ). getD starts j 0) here)
+    up (suc d) k a = omega (arith, falls k (omega arith), up d (k + 1) (omega arith))
 
+module _ (e : ℕ) (items starts rows : List ℕ) (from to m : ℕ) (h : Prunable e items starts rows from to m) where
   -- No set starts behind the new items.
   pub start-below : (k : ℕ) → k ≤ e + 1 → getD starts k 0 ≤ from
-  start-below k l = omega (arith, below (e + 1 - k) k (omega arith), h .last-start)
+  start-below k l = omega (arith, last-greatest starts e (h .never-falls) k l, h .last-start)
 
   abbrev new : List Item
   new = itemsFrom items from (to - from)
