@@ -1,17 +1,16 @@
 -- Steps 4 to 6 together.
-use mathlib.Core.Path.{_≡_, refl, sym, ap, ap₂, _∙_, subst}
+use mathlib.Core.Path.{_≡_, refl, sym, ap, ap₂, _∙_}
 use mathlib.Core.Bool.{true, false}
 use mathlib.Core.List.{List, [], _∷_, _++_, append-nil}
-use Prim.Native.Nat.{ℕ, zero, suc, _+_, _-_, _*_, _/_, _≤_, _<_, max}
-use native.Mathlib.Decide.{decLt, ℕ-discrete}
+use Prim.Native.Nat.{ℕ, zero, suc, _+_, _-_, _*_, _/_, _≤_, _<_}
+use native.Mathlib.Decide.{ℕ-discrete}
 use native.Mathlib.Omega.{arith}
-use lib.Dec.{ltb, eqb}
-use lib.ListN.{length, getD, take, length-take}
+use lib.ListN.{length, getD, take}
 use lib.Seq.{ext-getD, length-take-le, getD-take}
 use borrow.Author.Tests.{lt-ltb, le-ltb, eq-eqb, ne-eqb}
 use Rattle.laws.specs.Records as records
 use Rattle.bits.specs.Width.{rowWords}
-use Rattle.item.specs.Item.{Item, itemWords, itemAt, ruleAt, flat}
+use Rattle.item.specs.Item.{Item, itemWords, itemAt, flat}
 use Rattle.grammar.specs.Rules.{Rule, none}
 use Rattle.grammar.specs.Accepted.{maxSymbols}
 use Rattle.grammar.specs.Decoded.{secondIn, rulesIn}
@@ -21,13 +20,12 @@ use Rattle.parse.specs.Words.{Words, startOf}
 use Rattle.parse.specs.WellFormed.{secondOf}
 use Rattle.advance.specs.declared.Advanced.{Advanced}
 use Rattle.advance.specs.NewItems.{itemsFrom, sorted, binary, newItems}
-use Rattle.advance.specs.Order.{All, Stored}
+use Rattle.advance.specs.Order.{All}
 use Rattle.advance.specs.Advance.{highest, greatestOrigin, lastKept, predictions, padded, ending, nextState, nextWords, Follows, newOf, reachOf, keptOf, hasRoom, advanceAnswer, advanceWords, withoutNew, Advances}
-use Rattle.advance.specs.Ready.{Shape, Followable, Ready}
-use Rattle.advance.proofs.Placed.{noItem, items-count, items-at}
+use Rattle.advance.specs.Ready.{Followable, Ready}
+use Rattle.advance.proofs.Placed.{noItem, items-count}
 use Rattle.advance.proofs.Placing.{second-in}
-use Rattle.advance.proofs.Ordering.{all-at, all-map, all-both, sorted-length, sorted-all}
-use Rattle.advance.proofs.Padded.{padded-length}
+use Rattle.advance.proofs.Ordering.{all-at, all-both, sorted-length, sorted-all}
 use Rattle.advance.proofs.Sorting.{items-all}
 use Rattle.advance.proofs.Pruning.{start-below}
 use Rattle.advance.proofs.Following.{ending-length, ending-at, ending-before, ending-behind, items-ending, kept-low}

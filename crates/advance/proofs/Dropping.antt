@@ -4,12 +4,10 @@ use mathlib.Core.List.{List, [], _∷_, _++_}
 use Prim.Native.Nat.{ℕ, zero, suc, _+_, _-_, _*_, _≤_, _<_}
 use native.Mathlib.Decide.{decLt}
 use native.Mathlib.Omega.{arith}
-use lib.Dec.{eqb}
-use lib.ListN.{length, getD, take, length-append, length-take}
+use lib.ListN.{length, getD, take}
 use lib.Seq.{ext-getD, length-take-le, getD-take, take-append-le, take-take}
 use borrow.Author.Tests.{eq-eqb, ne-eqb}
 use Rattle.item.specs.Item.{Item, itemWords, itemAt, ruleAt, flat}
-use Rattle.item.proofs.Words.{flat-length}
 use Rattle.grammar.specs.Rules.{Rule, none}
 use Rattle.grammar.specs.Decoded.{secondIn, rulesIn}
 use Rattle.parse.specs.Tells.{Clear}
@@ -17,7 +15,7 @@ use Rattle.parse.specs.WellFormed.{secondOf, placing}
 use Rattle.advance.specs.NewItems.{itemsFrom, placed, sorted, binary, newItems}
 use Rattle.advance.specs.Order.{All, NeverFalls, Stored}
 use Rattle.advance.specs.Advance.{padded, ending}
-use Rattle.advance.proofs.Placed.{noItem, items-count, items-at, placed-length, placed-at, placed-below, placed-above, items-placed}
+use Rattle.advance.proofs.Placed.{noItem, items-count, items-at, placed-length, placed-at, placed-above, items-placed}
 use Rattle.advance.proofs.Placing.{Narrow, narrow-item, second-in}
 use Rattle.advance.proofs.Ordering.{all-at, sorted-length, sorted-all, sorted-never-falls, never-falls-at, second-never-falls}
 use Rattle.advance.proofs.Padded.{take-items}

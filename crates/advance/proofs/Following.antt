@@ -1,16 +1,16 @@
 -- Steps 5 and 6: the new items become the latest set.
-use mathlib.Core.Path.{_≡_, refl, sym, ap, ap₂, _∙_, subst}
-use mathlib.Core.Logic.{_⊎_, inl, inr, ⊎-elim}
+use mathlib.Core.Path.{_≡_, refl, sym, ap, ap₂, _∙_}
+use mathlib.Core.Logic.{_⊎_, inl, inr}
 use mathlib.Core.List.{List, [], _∷_, _++_, append-nil}
-use Prim.Native.Nat.{ℕ, zero, suc, _+_, _-_, _*_, _≤_, _<_}
+use Prim.Native.Nat.{ℕ, _+_, _-_, _*_, _≤_, _<_}
 use native.Mathlib.Decide.{decLt}
 use native.Mathlib.Omega.{arith}
-use lib.ListN.{length, getD, set, take, drop, replicate, length-append, length-take, length-drop, length-replicate, List·getD-append, List·getD-eq-default}
+use lib.ListN.{length, getD, set, take, replicate, length-append, length-take, length-drop, length-replicate, List·getD-append, List·getD-eq-default}
 use lib.Seq.{ext-getD, length-take-le, getD-take, getD-append-add}
-use Rattle.laws.specs.Bits.{union, rowOf, withRow}
+use Rattle.laws.specs.Bits.{rowOf, withRow}
 use Rattle.laws.proofs.Bits.{union-wide, row-word, with-row-ext}
 use Rattle.bits.specs.Width.{rowWords}
-use Rattle.item.specs.Item.{Item, itemWords, itemAt, ruleAt, flat}
+use Rattle.item.specs.Item.{Item, itemWords, itemAt, flat}
 use Rattle.item.proofs.Words.{flat-length, item-of-flat}
 use Rattle.grammar.specs.Rules.{Rule}
 use Rattle.grammar.specs.Accepted.{maxSymbols}
@@ -18,12 +18,12 @@ use Rattle.grammar.specs.Decoded.{secondIn, rulesIn}
 use Rattle.parse.specs.Words.{Words, maxItems}
 use Rattle.parse.specs.WellFormed.{secondOf}
 use Rattle.advance.specs.NewItems.{itemsFrom}
-use Rattle.advance.specs.Order.{All, Stored}
+use Rattle.advance.specs.Order.{All}
 use Rattle.advance.specs.Advance.{lastKept, keptRows, predictions, padded, ending, Pruned, Follows}
 use Rattle.advance.specs.Ready.{Shape, Predictable, Followable}
 use Rattle.advance.proofs.Placed.{noItem, items-count, items-at, items-are, item-eq, behind-words}
 use Rattle.advance.proofs.Placing.{second-in}
-use Rattle.advance.proofs.Padded.{zeros-word, padded-length, padded-word, padded-ext, padded-set}
+use Rattle.advance.proofs.Padded.{zeros-word, padded-length, padded-word, padded-set}
 use Rattle.advance.proofs.Pruning.{kept-pruned, kept-all, rows-pruned, rows-all, start-below}
 use Rattle.advance.proofs.Sorting.{items-all}
 

@@ -1,12 +1,12 @@
 -- A well formed state is well formed after steps 5 and 6.
-use mathlib.Core.Path.{_≡_, refl, sym, ap, ap₂, _∙_, subst}
+use mathlib.Core.Path.{_≡_, sym, ap, ap₂, _∙_, subst}
 use mathlib.Core.List.{List, [], _∷_, _++_}
-use Prim.Native.Nat.{ℕ, zero, suc, _+_, _-_, _*_, _/_, _%_, _≤_, _<_, max}
-use native.Mathlib.Decide.{decLt, ℕ-discrete}
+use Prim.Native.Nat.{ℕ, suc, _+_, _-_, _*_, _/_, _%_, _≤_, _<_, max}
+use native.Mathlib.Decide.{decLt}
 use native.Mathlib.Omega.{arith}
 use lib.ListN.{length, getD, take, drop, replicate, length-append, length-take, List·getD-append, List·getD-eq-default}
 use lib.Seq.{length-take-le, getD-take, getD-append-add, getD-at}
-use Rattle.laws.specs.Bits.{wordBits, bit, Holds, Below, rowOf}
+use Rattle.laws.specs.Bits.{wordBits, bit, Below, rowOf}
 use Rattle.laws.proofs.Bits.{row-word, zeros-hold}
 use Rattle.bits.specs.Width.{rowWords}
 use Rattle.item.specs.Item.{Item, itemWords, itemAt}
@@ -14,10 +14,10 @@ use Rattle.grammar.specs.Rules.{Rule, none}
 use Rattle.parse.specs.declared.State.{State}
 use Rattle.parse.specs.Words.{Words, startOf}
 use Rattle.parse.specs.WellFormed.{secondOf, placing, Fits, InSet, WellFormed}
-use Rattle.advance.specs.Order.{All, Rises}
-use Rattle.advance.specs.Advance.{highest, greatestOrigin, lastKept, keptRows, padded, ending, nextState, nextWords, withoutNew}
+use Rattle.advance.specs.Order.{All}
+use Rattle.advance.specs.Advance.{highest, greatestOrigin, lastKept, keptRows, nextState, nextWords, withoutNew}
 use Rattle.advance.proofs.Placed.{noItem, item-eq}
-use Rattle.advance.proofs.Ordering.{all-at, all-map, rises-at}
+use Rattle.advance.proofs.Ordering.{Rises, all-at, all-map, rises-at}
 use Rattle.advance.proofs.Padded.{zeros-word, padded-length, padded-word, front-word}
 use Rattle.advance.proofs.Pruning.{kept-pruned, kept-all, rows-pruned, rows-all, last-greatest}
 use Rattle.advance.proofs.Following.{ending-length, ending-at, ending-before, ending-behind, kept-low, kept-rows-length}

@@ -1,16 +1,16 @@
 -- Words, and 0 behind them.
-use mathlib.Core.Path.{_≡_, refl, sym, ap, ap₂, _∙_, subst}
+use mathlib.Core.Path.{_≡_, refl, sym, ap, _∙_}
 use mathlib.Core.List.{List, [], _∷_, _++_, append-assoc}
-use Prim.Native.Nat.{ℕ, zero, suc, _+_, _-_, _*_, _≤_, _<_}
+use Prim.Native.Nat.{ℕ, zero, _+_, _-_, _*_, _≤_, _<_}
 use native.Mathlib.Decide.{decLt, ℕ-discrete}
 use native.Mathlib.Omega.{arith}
 use lib.ListN.{length, getD, set, take, drop, replicate, length-append, length-take, length-replicate, length-set, getD-replicate, List·getD-append, List·getD-eq-default}
-use lib.Seq.{ext-getD, length-take-le, getD-take, getD-append-add, getD-set-same, getD-set-other, take-at, set-at}
-use Rattle.item.specs.Item.{Item, itemWords, flat}
+use lib.Seq.{ext-getD, length-take-le, getD-take, getD-append-add, getD-set-same, getD-set-other, take-at}
+use Rattle.item.specs.Item.{itemWords, flat}
 use Rattle.item.proofs.Words.{flat-length}
 use Rattle.parse.specs.Tells.{Clear}
 use Rattle.advance.specs.NewItems.{itemsFrom}
-use Rattle.advance.specs.Advance.{padded, ending}
+use Rattle.advance.specs.Advance.{padded}
 use Rattle.advance.proofs.Placed.{items-count, placed-self}
 
 -- A word of 0s is 0, there or not.
@@ -50,10 +50,6 @@ pub clear-padded : (words : List ℕ) (n : ℕ) → n ≤ length words → Clear
 clear-padded words n l c =
     padded-ext (length words) (take n words) words (omega (arith, length-take-le n words l)) refl
     (λ i m. elim (decLt i n) [ yes b ↦ sym (getD-take n words i 0 b) | no b ↦ c .zero i (omega arith) ∙ sym (front-word n words i (omega arith)) ])
-
--- Words with 0 behind them are 0 from there on.
-pub padded-clear : (size : ℕ) (words : List ℕ) (n : ℕ) → length words ≤ n → Clear (padded size words) n
-padded-clear size words n l = record { zero = λ i m. padded-word size words i ∙ List·getD-eq-default words 0 {n = i} (omega arith) }
 
 -- Another word is stored behind.
 pub padded-set : (size : ℕ) (words : List ℕ) (x : ℕ) → length words < size → set (padded size words) (length words) x ≡ padded size (words ++ (x ∷ []))

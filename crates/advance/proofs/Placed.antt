@@ -3,11 +3,10 @@ use mathlib.Core.Path.{_≡_, refl, sym, ap, _∙_}
 use mathlib.Core.List.{List, [], _∷_, _++_}
 use Prim.Native.Nat.{ℕ, zero, suc, _+_, _-_, _*_, _/_, _%_, _≤_, _<_}
 use native.Mathlib.Decide.{decLt, ℕ-discrete}
-use native.Mathlib.Numerals.{add-one}
 use native.Mathlib.Omega.{arith}
 use lib.ListN.{length, getD, set, take, drop, length-append, length-drop, length-set, List·getD-append}
 use lib.Seq.{ext-getD, length-take-le, getD-take, getD-drop, getD-append-add, getD-set-same, getD-set-other, getD-at}
-use Rattle.item.specs.Item.{Item, itemWords, itemAt, originAt, ruleAt, flat, stored, HasPlace}
+use Rattle.item.specs.Item.{Item, itemWords, itemAt, originAt, ruleAt, flat, stored}
 use Rattle.item.proofs.Words.{flat-length, item-of-flat, stored-length, stored-other, stored-item, stored-item-other}
 use Rattle.advance.specs.NewItems.{itemsFrom, placed}
 
@@ -34,15 +33,6 @@ pub items-are : (words : List ℕ) (from : ℕ) (is : List Item) → ((q : ℕ) 
 items-are words from is h =
     ext-getD noItem (itemsFrom words from (length is)) is (items-count words from (length is))
     (λ q l. items-at words from (length is) q (omega (arith, items-count words from (length is))) ∙ h q (omega (arith, items-count words from (length is))))
-
--- Equal items at a stretch of places of two lists of words.
-pub items-same : (words words′ : List ℕ) (from from′ n : ℕ) → ((q : ℕ) → q < n → itemAt words (from + q) ≡ itemAt words′ (from′ + q))
-    → itemsFrom words from n ≡ itemsFrom words′ from′ n
-items-same words words′ from from′ n h =
-    ext-getD noItem (itemsFrom words from n) (itemsFrom words′ from′ n) (items-count words from n ∙ sym (items-count words′ from′ n))
-    (λ q l.
-    let few : q < n = omega (arith, items-count words from n) in
-    items-at words from n q few ∙ h q few ∙ sym (items-at words′ from′ n q few))
 
 -- An item is its words.
 pub item-eq : (words words′ : List ℕ) (p p′ : ℕ) → originAt words p ≡ originAt words′ p′ → ruleAt words p ≡ ruleAt words′ p′ → itemAt words p ≡ itemAt words′ p′

@@ -1,20 +1,20 @@
 -- Step 6: the rows of the items' seconds are joined into the new set's row.
-use mathlib.Core.Path.{_≡_, refl, sym, ap, ap₂, _∙_, subst}
-use mathlib.Core.List.{List, [], _∷_, _++_, append-assoc}
-use Prim.Native.Nat.{ℕ, zero, suc, _+_, _-_, _*_, _≤_, _<_}
+use mathlib.Core.Path.{_≡_, refl, sym, ap, ap₂, _∙_}
+use mathlib.Core.List.{List, [], _++_, append-assoc}
+use Prim.Native.Nat.{ℕ, _+_, _-_, _*_, _≤_, _<_}
 use native.Mathlib.Omega.{arith}
 use lib.ListN.{length, getD, take, drop, replicate, length-append, length-take, length-drop}
 use lib.Seq.{length-take-le, take-at, drop-at}
 use Rattle.laws.specs.Bits.{union, rowOf, withRow}
 use Rattle.laws.proofs.Bits.{union-wide, row-word, with-row-ext}
 use Rattle.bits.specs.Width.{rowWords}
-use Rattle.item.specs.Item.{Item, itemWords, itemAt, ruleAt}
+use Rattle.item.specs.Item.{itemAt, ruleAt}
 use Rattle.grammar.specs.Rules.{Rule}
-use Rattle.grammar.specs.Accepted.{maxSymbols, maxRules}
+use Rattle.grammar.specs.Accepted.{maxSymbols}
 use Rattle.grammar.specs.Decoded.{secondIn, rulesIn}
 use Rattle.parse.specs.WellFormed.{secondOf}
 use Rattle.advance.specs.NewItems.{itemsFrom}
-use Rattle.advance.specs.Advance.{predictions, padded}
+use Rattle.advance.specs.Advance.{predictions}
 use Rattle.advance.specs.Ready.{Predictable}
 use Rattle.advance.proofs.Placed.{items-down, items-none}
 use Rattle.advance.proofs.Dropping.{second-read}
@@ -78,10 +78,7 @@ module _ (rules : List ℕ) (count : ℕ) (table : List (List ℕ)) (w rows₀ :
       predicting-length = ap length (s .are) ∙ with-row-length rowWords rows₀ k (h .row-there) (union-from p) (s .wide)
 
       module _ (l : from < p) (word r symbol : ℕ) (e : word ≡ ruleAt w (p - 1)) (f : r ≡ word) (g : symbol ≡ secondIn rules r) where
-        -- The item before it has a rule, and a second with a row.
-        pub predicting-rule : r < maxRules
-        predicting-rule = omega (arith, h .held .rules (p - 1) (omega arith) (omega (arith, s .below)), h .held .few)
-
+        -- The second of the item before it has a row.
         pub predicting-symbol : symbol < maxSymbols
         predicting-symbol = omega (arith, h .seconds (p - 1) (omega arith) (omega (arith, s .below)), g ∙ ap (secondIn rules) (f ∙ e))
 

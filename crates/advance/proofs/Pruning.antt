@@ -1,15 +1,13 @@
 -- Step 5: the greatest origin, the sets that are kept, and the new items moved behind them.
-use mathlib.Core.Path.{_≡_, refl, sym, ap, ap₂, _∙_, subst}
-use mathlib.Core.Bool.{true, false}
-use mathlib.Core.List.{List, [], _∷_, _++_, append-assoc}
+use mathlib.Core.Path.{_≡_, refl, sym, ap, ap₂, _∙_}
+use mathlib.Core.List.{List, _∷_, _++_, append-assoc}
 use Prim.Native.Nat.{ℕ, zero, suc, _+_, _-_, _*_, _≤_, _<_, max}
 use native.Mathlib.Omega.{arith}
-use lib.Dec.{ltb}
-use lib.ListN.{length, getD, take, drop, replicate, length-append, length-replicate}
+use lib.ListN.{length, getD, take, replicate, length-append}
 use lib.Seq.{length-take-le, take-at}
 use borrow.Author.Tests.{lt-ltb, le-ltb}
 use Rattle.bits.specs.Width.{rowWords}
-use Rattle.item.specs.Item.{Item, itemWords, itemAt, stored, flat, HasPlace}
+use Rattle.item.specs.Item.{Item, itemWords, itemAt, stored, flat}
 use Rattle.item.proofs.Words.{flat-length}
 use Rattle.parse.specs.Tells.{Clear}
 use Rattle.advance.specs.NewItems.{itemsFrom, placed}
@@ -162,8 +160,8 @@ module _ (e : ℕ) (items starts rows : List ℕ) (from to m : ℕ) (h : Prunabl
   }
 
   -- Where sets are dropped set m+1 is the last, ..
-  pub base-below : 1 < e - m → {base : ℕ} → base ≡ getD starts (m + 1 + 1) 0 → base ≤ from
-  base-below l b = omega (arith, b, start-below (m + 1 + 1) (omega arith))
+  pub base-below : 1 < e - m → {base : ℕ} → base ≡ getD starts (m + 2) 0 → base ≤ from
+  base-below l b = omega (arith, b, start-below (m + 2) (omega arith))
 
   -- .. and the starts and rows of the others are cleared, and so is row m+1.
   rows-cleared : 1 < e - m → padded (length rows) (take (rowWords * (m + 1)) rows) ≡ padded (length rows) (keptRows e m rows)
@@ -172,14 +170,20 @@ module _ (e : ℕ) (items starts rows : List ℕ) (from to m : ℕ) (h : Prunabl
       (omega (arith, length-take-le (rowWords * (m + 1)) rows (omega (arith, h .rows-there)), h .rows-there)))
       ∙ ap (padded (length rows)) (sym (rows-pruned e m rows l))
 
-  pub sets-dropped : 1 < e - m → {base : ℕ} {items′ starts′ rows′ : List ℕ} → base ≡ getD starts (m + 1 + 1) 0
+  pub sets-dropped : 1 < e - m → {base : ℕ} {items′ starts′ rows′ : List ℕ} → base ≡ getD starts (m + 2) 0
       → items′ ≡ ending items base new
-      → starts′ ≡ padded (length starts) (take (m + 1 + 2) starts)
+      → starts′ ≡ padded (length starts) (take (m + 3) starts)
       → rows′ ≡ padded (length rows) (take (rowWords * (m + 1)) rows)
       → Pruned e m items starts rows new base items′ starts′ rows′
   sets-dropped l b i s r = record {
-    start-is = b ∙ ap (λ (k : ℕ). getD starts (k + 1) 0) (sym (kept-pruned e m l));
+    start-is = b ∙ ap (λ (k : ℕ). getD starts k 0) second;
     items-are = i;
-    starts-are = s ∙ ap (λ (k : ℕ). padded (length starts) (take (k + 2) starts)) (sym (kept-pruned e m l));
+    starts-are = s ∙ ap (λ (k : ℕ). padded (length starts) (take k starts)) third;
     rows-are = r ∙ rows-cleared l;
   }
+    where
+      second : m + 2 ≡ lastKept e m + 1
+      second = omega (arith, kept-pruned e m l)
+
+      third : m + 3 ≡ lastKept e m + 2
+      third = omega (arith, kept-pruned e m l)

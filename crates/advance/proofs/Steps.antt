@@ -1,12 +1,12 @@
 -- What a caller of steps 4 to 6 cites: they may be called on a well formed state, and leave one.
-use mathlib.Core.Path.{_≡_, refl, sym, ap, ap₂, _∙_, subst}
+use mathlib.Core.Path.{_≡_, sym, ap, ap₂, _∙_}
 use mathlib.Core.Bool.{true}
-use mathlib.Core.List.{List, [], _∷_, _++_, append-nil}
+use mathlib.Core.List.{List, [], _++_, append-nil}
 use Prim.Native.Nat.{ℕ, zero, suc, _+_, _-_, _*_, _/_, _≤_, _<_}
 use native.Mathlib.Omega.{arith}
 use lib.ListN.{length, getD, take, replicate}
 use borrow.Author.Tests.{ltb-true}
-use Rattle.laws.specs.Bits.{Below, union}
+use Rattle.laws.specs.Bits.{Below}
 use Rattle.laws.specs.Records as records
 use Rattle.laws.proofs.Bits.{union-below}
 use Rattle.bits.specs.Width.{rowWords}
@@ -21,16 +21,16 @@ use Rattle.parse.specs.Tells.{Clear}
 use Rattle.parse.specs.Words.{Words, maxItems, maxSets}
 use Rattle.parse.specs.WellFormed.{secondOf, placing, WellFormed}
 use Rattle.advance.specs.NewItems.{itemsFrom, sorted, binary}
-use Rattle.advance.specs.Order.{All, Rises, Apart, Stored}
-use Rattle.advance.specs.Advance.{predictions, padded, ending, nextState, nextWords, newOf, reachOf, keptOf, hasRoom, withoutNew}
+use Rattle.advance.specs.Order.{All, Stored}
+use Rattle.advance.specs.Advance.{predictions, padded, nextState, nextWords, newOf, reachOf, keptOf, hasRoom, withoutNew}
 use Rattle.advance.specs.Ready.{Shape, Ready}
 use Rattle.advance.proofs.Placing.{second-in}
-use Rattle.advance.proofs.Ordering.{all-map, all-both, sorted-rises, same-placing}
+use Rattle.advance.proofs.Ordering.{Rises, Apart, all-both, sorted-rises, same-placing}
 use Rattle.advance.proofs.Padded.{zeros-word, clear-padded}
 use Rattle.advance.proofs.Sorting.{items-all}
 use Rattle.advance.proofs.Following.{predictions-wide}
 use Rattle.advance.proofs.Advancing.{binary-cases, binary-all, binary-second, new-all, new-few}
-use Rattle.advance.proofs.Keeping.{Newcomer, Keepable, below-zeros, well-formed-again}
+use Rattle.advance.proofs.Keeping.{Newcomer, below-zeros, well-formed-again}
 
 -- Words that differ from those of the sets in the new items alone are, without these, those words.
 pub without-new : (s : State) (v₀ v : Words) → itemWords * s .items ≤ length (v₀ .items) → Clear (v₀ .items) (itemWords * s .items)

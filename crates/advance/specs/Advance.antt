@@ -2,7 +2,7 @@
 use mathlib.Core.Path.{_≡_}
 use mathlib.Core.Bool.{Bool, true, false}
 use mathlib.Core.List.{List, [], _∷_, _++_}
-use Prim.Native.Nat.{ℕ, zero, suc, _+_, _-_, _*_, _/_, max}
+use Prim.Native.Nat.{ℕ, _+_, _-_, _*_, _/_, max}
 use lib.ListN.{length, getD, take, replicate}
 use lib.Dec.{ltb}
 use Rattle.laws.specs.Bits.{union}
@@ -49,6 +49,10 @@ padded size words = words ++ replicate (size - length words) 0
 -- The words before the place `from`, then items, then 0.
 abbrev pub ending : List ℕ → ℕ → List Item → List ℕ
 ending words from is = padded (length words) (take (itemWords * from) words ++ flat is)
+
+-- The lent words that steps 4 to 6 touch. The queue is empty by then.
+abbrev pub lent : List ℕ → List ℕ → List ℕ → Words
+lent items starts rows = record { items = items; starts = starts; rows = rows; queue = [] }
 
 -- Step 5, of sets 0..e: the new items `new` stand from `start` on, behind the sets that are kept, and every other word is 0.
 pub record Pruned (e m : ℕ) (items starts rows : List ℕ) (new : List Item) (start : ℕ) (items′ starts′ rows′ : List ℕ) : Type 0 where

@@ -1,10 +1,8 @@
 // Steps 4 to 6: the new items become a set.
-ghost use mathlib.Core.List.{[]};
 ghost use Prim.Native.Nat.{_-_};
 ghost use Rattle.grammar.specs.Decoded.{rulesIn};
-ghost use Rattle.parse.specs.Words.{Words};
 ghost use Rattle.advance.specs.NewItems.{itemsFrom};
-ghost use Rattle.advance.specs.Advance.{predictions, Follows, Advances};
+ghost use Rattle.advance.specs.Advance.{predictions, lent, Follows, Advances};
 ghost use Rattle.advance.specs.Ready.{Followable, Ready};
 use crate::predict::Table;
 use crate::predict::prediction_pass;
@@ -44,7 +42,7 @@ fn next_set(
     m: usize,
 ) -> State
     requires { ⌜ Followable (now rules) count (now table) e (now items) (now starts) (now rows) from to m ⌝ }
-    ensures { λ r. ⌜ Follows e m (record { items = now (items .entry); starts = now (starts .entry); rows = now (rows .entry); queue = [] }) (itemsFrom (now (items .entry)) from (to - from)) (predictions (rulesIn (now (rules .entry)) count) (now (table .entry)) (itemsFrom (now (items .entry)) from (to - from))) r (record { items = now (items .exit); starts = now (starts .exit); rows = now (rows .exit); queue = [] }) ⌝ }
+    ensures { λ r. ⌜ Follows e m (lent (now (items .entry)) (now (starts .entry)) (now (rows .entry))) (itemsFrom (now (items .entry)) from (to - from)) (predictions (rulesIn (now (rules .entry)) count) (now (table .entry)) (itemsFrom (now (items .entry)) from (to - from))) r (lent (now (items .exit)) (now (starts .exit)) (now (rows .exit))) ⌝ }
 {
     let kept = last_kept(e, m);
     let start = remove_unreachable_sets(e, items, starts, rows, from, to, m);
@@ -68,8 +66,8 @@ pub fn advance(
     rows: &mut [u64],
     to: usize,
 ) -> Advanced
-    requires { ⌜ Ready (now rules) count (now table) state (record { items = now items; starts = now starts; rows = now rows; queue = [] }) to ⌝ }
-    ensures { λ r. ⌜ Advances (rulesIn (now (rules .entry)) count) (now (table .entry)) state (record { items = now (items .entry); starts = now (starts .entry); rows = now (rows .entry); queue = [] }) to r (record { items = now (items .exit); starts = now (starts .exit); rows = now (rows .exit); queue = [] }) ⌝ }
+    requires { ⌜ Ready (now rules) count (now table) state (lent (now items) (now starts) (now rows)) to ⌝ }
+    ensures { λ r. ⌜ Advances (rulesIn (now (rules .entry)) count) (now (table .entry)) state (lent (now (items .entry)) (now (starts .entry)) (now (rows .entry))) to r (lent (now (items .exit)) (now (starts .exit)) (now (rows .exit))) ⌝ }
 {
     let e = state.set;
     let from = state.items;

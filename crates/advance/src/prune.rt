@@ -88,10 +88,10 @@ pub fn remove_unreachable_sets(
     if e - m <= 1 {
         return from;
     }
-    let kept = m + 1;
-    let base = wide(starts[kept + 1]);
+    // The items of set m+1 end at start m+2. Its row is cleared with those behind it.
+    let base = wide(starts[m + 2]);
     move_items(items, from, to, base);
-    clear_words(starts, kept + 2, e + 2);
-    clear_rows(rows, WIDTH * kept, WIDTH * (e + 1));
+    clear_words(starts, m + 3, e + 2);
+    clear_rows(rows, WIDTH * (m + 1), WIDTH * (e + 1));
     base
 }

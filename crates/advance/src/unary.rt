@@ -1,6 +1,6 @@
 // Step 4: sort the new items, and drop those with no second, which then stand last.
 ghost use mathlib.Core.Path.{_≡_};
-ghost use Prim.Native.Nat.{_+_, _-_, _*_, _≤_, _<_};
+ghost use Prim.Native.Nat.{_+_, _-_, _*_, _≤_};
 ghost use lib.ListN.{length};
 ghost use Rattle.item.specs.Item.{itemWords};
 ghost use Rattle.grammar.specs.Decoded.{rulesIn};

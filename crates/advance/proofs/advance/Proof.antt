@@ -1,7 +1,6 @@
 -- `advance::advance` meets its contract.
 use mathlib.Core.Path.{_∙_}
 use native.Mathlib.Omega.{arith}
-use borrow.Author.Needs.{needs}
 use Rattle.advance.proofs.Advancing.{reach-asks, clear-asks, reaches, kept-below, refuses, next-asks, advances}
 use Rattle.advance.proofs.advance.Statement.{statement}
 use Rattle.advance.proofs.advance.Tie as tie

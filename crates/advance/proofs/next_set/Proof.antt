@@ -3,7 +3,7 @@ use mathlib.Core.Path.{_∙_}
 use native.Mathlib.Omega.{arith}
 use lib.ListN.{length-set}
 use borrow.Author.Needs.{needs}
-use Rattle.advance.proofs.Following.{start-low, end-fits, starts-long, follows-asks, follows}
+use Rattle.advance.proofs.Following.{end-fits, starts-long, follows-asks, follows}
 use Rattle.advance.proofs.next_set.Statement.{statement}
 use Rattle.advance.proofs.next_set.Tie as tie
 

@@ -1,9 +1,8 @@
 -- `advance::predict::prediction_pass` meets its contract. The invariant: the rows of the items from place `p` on are joined.
-use mathlib.Core.Path.{_∙_}
 use Prim.Native.Nat.{_-_}
 use native.Mathlib.Omega.{arith}
 use borrow.Author.Needs.{needs}
-use Rattle.advance.proofs.Predicting.{Predicting, predicting-start, predicting-length, predicting-rule, predicting-symbol, predicting-wide, predicting-next, predicting-ends}
+use Rattle.advance.proofs.Predicting.{Predicting, predicting-start, predicting-length, predicting-symbol, predicting-wide, predicting-next, predicting-ends}
 use Rattle.advance.proofs.predict.prediction_pass.Statement.{statement}
 use Rattle.advance.proofs.predict.prediction_pass.Tie as tie
 

@@ -1,6 +1,4 @@
 -- `advance::prune::remove_unreachable_sets` meets its contract.
-use mathlib.Core.Path.{_∙_}
-use native.Mathlib.Omega.{arith}
 use borrow.Author.Needs.{needs}
 use Rattle.advance.proofs.Pruning.{all-kept, base-below, sets-dropped}
 use Rattle.advance.proofs.prune.remove_unreachable_sets.Statement.{statement}
@@ -11,9 +9,6 @@ sub-if1 c = search needs
 
 returns : tie.Need-returns
 returns c = all-kept _ _ _ _ _ _ _ (c .before .before .before .before .pre) (c .if1 .taken)
-
-add-kept : tie.Need-add-kept
-add-kept c = search needs
 
 add-wide : tie.Need-add-wide
 add-wide c = search needs
@@ -39,11 +34,14 @@ add-clear-words-2 c = search needs
 clear-words-requires : tie.Need-clear-words-requires
 clear-words-requires c κs = search needs
 
+add-clear-rows : tie.Need-add-clear-rows
+add-clear-rows c = search needs
+
 mul-clear-rows : tie.Need-mul-clear-rows
 mul-clear-rows c = search needs
 
-add-clear-rows : tie.Need-add-clear-rows
-add-clear-rows c = search needs
+add-clear-rows-2 : tie.Need-add-clear-rows-2
+add-clear-rows-2 c = search needs
 
 mul-clear-rows-2 : tie.Need-mul-clear-rows-2
 mul-clear-rows-2 c = search needs
@@ -69,7 +67,6 @@ remove-unreachable-sets-spec =
     (tie.spec
     sub-if1
     returns
-    add-kept
     add-wide
     mul-wide
     slice-read-wide
@@ -78,8 +75,9 @@ remove-unreachable-sets-spec =
     add-clear-words
     add-clear-words-2
     clear-words-requires
-    mul-clear-rows
     add-clear-rows
+    mul-clear-rows
+    add-clear-rows-2
     mul-clear-rows-2
     clear-rows-requires
     same-length

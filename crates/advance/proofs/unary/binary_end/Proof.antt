@@ -1,5 +1,5 @@
 -- `advance::unary::binary_end` meets its contract. The invariant: from place `end` on no item has a second.
-use mathlib.Core.Path.{_≡_, sym, ap, _∙_}
+use mathlib.Core.Path.{_≡_, _∙_}
 use Prim.Native.Nat.{_-_}
 use native.Mathlib.Omega.{arith}
 use denote.Ref.{now}

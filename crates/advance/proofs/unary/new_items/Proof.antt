@@ -1,9 +1,8 @@
 -- `advance::unary::new_items` meets its contract.
 use mathlib.Core.Path.{ap, _∙_}
 use mathlib.Core.List.{List}
-use Prim.Native.Nat.{ℕ, _+_}
+use Prim.Native.Nat.{_+_}
 use lib.ListN.{length}
-use denote.Ref.{now}
 use borrow.Author.Needs.{needs}
 use Rattle.item.specs.Item.{Item}
 use Rattle.advance.proofs.Dropping.{sorted-asks, sorted-new, sorted-ending}
