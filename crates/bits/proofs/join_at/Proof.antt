@@ -1,3 +1,4 @@
+-- `bits::join_at` meets its contract. The invariant, `Joined`: the words passed are joined, and every other word is as it was.
 use Rattle.bits.specs.Width.{rowWords}
 use Rattle.bits.proofs.Joining.{Joined, none-joined, more-joined, all-joined}
 use borrow.Author.Needs.{needs}
@@ -51,7 +52,11 @@ loop-less : tie.Need-loop-less Inv-loop μ-loop
 loop-less c = search needs
 
 loop-again : tie.Need-loop-again Inv-loop μ-loop
-loop-again c = more-joined rowWords _ _ _ (c .before .before .before .before .pre .0) _ _ (c .before .before .before .loop .inv) (c .before .before .loop-test .taken)
+loop-again c =
+    let at-loop-test = c .before .before in
+    let at-loop = c .before .before .before in
+    let start = c .before .before .before .before in
+    more-joined rowWords _ _ _ (start .pre .0) _ _ (at-loop .loop .inv) (at-loop-test .loop-test .taken)
 
 same-length : tie.Need-same-length Inv-loop μ-loop
 same-length c = search needs
