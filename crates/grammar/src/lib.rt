@@ -5,6 +5,7 @@ ghost use Rattle.grammar.specs.Answers.{Verdict, numberOf};
 ghost use Rattle.grammar.specs.Checking.{Sized};
 ghost use Rattle.grammar.specs.Decoded.{grammarIn};
 
+pub mod chains;
 mod conditions;
 pub mod file;
 mod pairs;
