@@ -4,23 +4,17 @@ ghost use Prim.Native.Nat.{ℕ, _≤_, _<_};
 ghost use Rattle.grammar.specs.Accepted.{maxRules, maxSymbols};
 ghost use Rattle.grammar.specs.Chains.{Chained, headIn, nextIn};
 ghost use Rattle.grammar.specs.Decoded.{firstIn};
-use crate::rules::RULES;
+use crate::limits::LINKS;
+use crate::limits::RULES;
 use crate::rules::Rules;
 use crate::rules::first;
+use crate::rules::wide;
 
-// A word for each rule, then one for each symbol.
-pub const LINKS: usize = 640;
-
+// The chains: a word for each rule, then one for each symbol.
 pub type Chains = [u16; LINKS];
 
 // What stands where a chain ends.
 pub const END: u16 = 65535;
-
-fn wide(word: u16) -> usize
-    ensures { λ r. ⌜ (r ≡ word) × (r < 65536) ⌝ }
-{
-    word as usize
-}
 
 // The chains of the first `count` rules, made from the last rule to the first.
 pub fn chains(rules: &Rules, count: usize) -> Chains

@@ -8,6 +8,7 @@ ghost use Rattle.grammar.specs.Decoded.{grammarIn};
 pub mod chains;
 mod conditions;
 pub mod file;
+pub mod limits;
 mod pairs;
 mod productive;
 pub mod rules;
