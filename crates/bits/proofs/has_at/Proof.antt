@@ -2,7 +2,7 @@
 use Rattle.bits.specs.Width.{rowWords}
 use lib.Dec.{eqb}
 use Rattle.laws.specs.Bits.{bit}
-use Rattle.laws.proofs.Bits.{row-word}
+use Rattle.laws.proofs.Rows.{row-word}
 use mathlib.Core.Path.{sym, ap}
 use Prim.Native.Nat.{ℕ, _/_, _%_}
 use native.Mathlib.Omega.{arith}
