@@ -288,7 +288,7 @@ left-falls {rs} {starts} {rows} grounds s pending some = by-count (completeSum r
                 left-some rs s some,
                 left-some rs t more,
                 rank-falls (length rs) (greatest s .origin) (greatest s .rule) (greatest t .origin) (greatest t .rule)
-                (greatest-charts rs starts s t more (heaped .steady) .is-rule) (lower .up-to) (lower .below (greatest s .rule) (charts .is-rule) refl),
+                    (greatest-charts rs starts s t more (heaped .steady) .is-rule) (lower .up-to) (lower .below (greatest s .rule) (charts .is-rule) refl),
               ))
           | no none ↦ omega (arith, left-none rs t (omega arith), left-some rs s some)
         ]

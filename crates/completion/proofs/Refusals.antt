@@ -33,43 +33,51 @@ pub data Stops (s : Pass) : Type 0 where
 module _ (s : Pass) where
   -- A store is refused with 7 exactly where the items are full, and else goes on.
   pub store-refuses : (origin rule : ℕ) → (store origin rule s .at .stopped ≡ itemsFull) ↔ (length (s .items) / itemWords ≤ s .at .items)
-  store-refuses origin rule =
-      ((λ stopped.
-      elim (decLt (s .at .items) (length (s .items) / itemWords)) [
-        | yes place ↦ absurd (let on : store origin rule s .at .stopped ≡ 0 = ap (λ (t : Pass). t .at .stopped) (store-done s origin rule place) in omega arith)
-        | no full ↦ omega arith
-      ]), λ full. ap (λ (t : Pass). t .at .stopped) (store-refused s origin rule full))
+  store-refuses origin rule = (
+    (λ stopped.
+        elim (decLt (s .at .items) (length (s .items) / itemWords)) [
+          | yes place ↦ absurd (let on : store origin rule s .at .stopped ≡ 0 = ap (λ (t : Pass). t .at .stopped) (store-done s origin rule place) in omega arith)
+          | no full ↦ omega arith
+        ]),
+    λ full. ap (λ (t : Pass). t .at .stopped) (store-refused s origin rule full),
+  )
 
   pub store-takes : (origin rule : ℕ) → (store origin rule s .at .stopped ≡ 0) ↔ (s .at .items < length (s .items) / itemWords)
-  store-takes origin rule =
-      ((λ on.
-      elim (decLt (s .at .items) (length (s .items) / itemWords)) [
-        | yes place ↦ place
-        | no full ↦
-            absurd (
-            let stopped : store origin rule s .at .stopped ≡ itemsFull = ap (λ (t : Pass). t .at .stopped) (store-refused s origin rule (omega arith)) in
-            omega arith)
-      ]), λ place. ap (λ (t : Pass). t .at .stopped) (store-done s origin rule place))
+  store-takes origin rule = (
+    (λ on.
+        elim (decLt (s .at .items) (length (s .items) / itemWords)) [
+          | yes place ↦ place
+          | no full ↦
+              absurd (
+              let stopped : store origin rule s .at .stopped ≡ itemsFull = ap (λ (t : Pass). t .at .stopped) (store-refused s origin rule (omega arith)) in
+              omega arith)
+        ]),
+    λ place. ap (λ (t : Pass). t .at .stopped) (store-done s origin rule place),
+  )
 
   -- A push is refused with 8 exactly where the queue is full, and else goes on.
   pub enqueue-refuses : (place : ℕ) → (enqueue place s .at .stopped ≡ queueFull) ↔ (length (s .queue) ≤ s .at .queued)
-  enqueue-refuses place =
-      ((λ stopped.
-      elim (decLt (s .at .queued) (length (s .queue))) [
-        | yes free ↦ absurd (let on : enqueue place s .at .stopped ≡ 0 = ap (λ (t : Pass). t .at .stopped) (enqueue-done s place free) in omega arith)
-        | no full ↦ omega arith
-      ]), λ full. ap (λ (t : Pass). t .at .stopped) (enqueue-refused s place full))
+  enqueue-refuses place = (
+    (λ stopped.
+        elim (decLt (s .at .queued) (length (s .queue))) [
+          | yes free ↦ absurd (let on : enqueue place s .at .stopped ≡ 0 = ap (λ (t : Pass). t .at .stopped) (enqueue-done s place free) in omega arith)
+          | no full ↦ omega arith
+        ]),
+    λ full. ap (λ (t : Pass). t .at .stopped) (enqueue-refused s place full),
+  )
 
   pub enqueue-takes : (place : ℕ) → (enqueue place s .at .stopped ≡ 0) ↔ (s .at .queued < length (s .queue))
-  enqueue-takes place =
-      ((λ on.
-      elim (decLt (s .at .queued) (length (s .queue))) [
-        | yes free ↦ free
-        | no full ↦
-            absurd (
-            let stopped : enqueue place s .at .stopped ≡ queueFull = ap (λ (t : Pass). t .at .stopped) (enqueue-refused s place (omega arith)) in
-            omega arith)
-      ]), λ free. ap (λ (t : Pass). t .at .stopped) (enqueue-done s place free))
+  enqueue-takes place = (
+    (λ on.
+        elim (decLt (s .at .queued) (length (s .queue))) [
+          | yes free ↦ free
+          | no full ↦
+              absurd (
+              let stopped : enqueue place s .at .stopped ≡ queueFull = ap (λ (t : Pass). t .at .stopped) (enqueue-refused s place (omega arith)) in
+              omega arith)
+        ]),
+    λ free. ap (λ (t : Pass). t .at .stopped) (enqueue-done s place free),
+  )
 
   -- So a store and a push leave a pass going on, or refused by what is full.
   pub stops-store : (origin rule : ℕ) → Stops (store origin rule s)

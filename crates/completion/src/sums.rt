@@ -5,13 +5,21 @@ ghost use Rattle.grammar.specs.Decoded.{rulesIn};
 ghost use Rattle.completion.specs.Pass.{passOf};
 ghost use Rattle.completion.specs.Ready.{RulesFit, Rowed, Sound, Charted, RulesRead};
 ghost use Rattle.completion.specs.Sums.{sumEnds, nextSummand, popSum, completeSum};
-use binary_heap::Popped;
 use crate::Progress;
 use crate::complete;
+use binary_heap::Popped;
 use grammar::rules::Rules;
 
 // Whether the queue is empty, or its greatest entry is of another origin or left side.
-fn sum_ends(rules: &Rules, count: usize, items: &[u32], queue: &[u32], k: usize, x: usize, at: Progress) -> bool
+fn sum_ends(
+    rules: &Rules,
+    count: usize,
+    items: &[u32],
+    queue: &[u32],
+    k: usize,
+    x: usize,
+    at: Progress,
+) -> bool
     requires { ⌜ RulesRead (rulesIn (now rules) count) (passOf at (now items) (now queue)) ⌝ }
     ensures { λ r. ⌜ r ≡ sumEnds (rulesIn (now (rules .entry)) count) k x (passOf at (now (items .entry)) (now (queue .entry))) ⌝ }
 {
@@ -47,7 +55,15 @@ fn next_summand(items: &[u32], queue: &mut [u32], at: Progress) -> Progress
 }
 
 // Takes all entries of origin `k` and left side `x` off the queue, which are its greatest.
-fn pop_sum(rules: &Rules, count: usize, items: &[u32], queue: &mut [u32], k: usize, x: usize, at: Progress) -> Progress
+fn pop_sum(
+    rules: &Rules,
+    count: usize,
+    items: &[u32],
+    queue: &mut [u32],
+    k: usize,
+    x: usize,
+    at: Progress,
+) -> Progress
     requires { ⌜ RulesRead (rulesIn (now rules) count) (passOf at (now items) (now queue)) ⌝ }
     ensures { λ r. ⌜ passOf r (now (items .entry)) (now (queue .exit)) ≡ popSum (rulesIn (now (rules .entry)) count) k x (passOf at (now (items .entry)) (now (queue .entry))) ⌝ }
 {
@@ -59,7 +75,15 @@ fn pop_sum(rules: &Rules, count: usize, items: &[u32], queue: &mut [u32], k: usi
 }
 
 // Takes one sum off the queue, and completes its pair.
-fn complete_sum(rules: &Rules, count: usize, items: &mut [u32], starts: &[u32], rows: &[u64], queue: &mut [u32], at: Progress) -> Progress
+fn complete_sum(
+    rules: &Rules,
+    count: usize,
+    items: &mut [u32],
+    starts: &[u32],
+    rows: &[u64],
+    queue: &mut [u32],
+    at: Progress,
+) -> Progress
     requires { ⌜ RulesFit (rulesIn (now rules) count) × Rowed (now starts) (now rows) ⌝ }
     requires { ⌜ Sound (passOf at (now items) (now queue)) × Charted (rulesIn (now rules) count) (now starts) (passOf at (now items) (now queue)) × (0 < at .queued) ⌝ }
     ensures { λ r. ⌜ passOf r (now (items .exit)) (now (queue .exit)) ≡ completeSum (rulesIn (now (rules .entry)) count) (now (starts .entry)) (now (rows .entry)) (passOf at (now (items .entry)) (now (queue .entry))) ⌝ }

@@ -2,6 +2,8 @@
 use mathlib.Core.Bool.{Bool, true, false}
 use Prim.Native.Nat.{ℕ}
 use Rattle.parse.specs.declared.State.{State}
+use Rattle.parse.specs.Words.{Words}
+use Rattle.recognizer.specs.Steps.{Outcome}
 use Rattle.recognizer.specs.declared.Refusal.{Refusal}
 use Rattle.recognizer.specs.declared.Refusal.the-variants.{Malformed, Broken, NoSets, IllFormed, NoToken, NotPredicted, ItemsFull, QueueFull, SetsFull}
 use Rattle.recognizer.specs.declared.Answer.{Answer}
@@ -39,3 +41,7 @@ abbrev pub saysYes : Finished → Bool
 saysYes says.Yes = true
 saysYes says.No = false
 saysYes (says.Refused r) = false
+
+-- What an answer of start or token comes to, with the words as they are left.
+abbrev pub outcomeOf : Answer → Words → Outcome
+outcomeOf a w = record { number = numberOf a; state = stateOf a; words = w }

@@ -1,5 +1,6 @@
 -- What the buyer must believe of a parse: the steps of a token, what each call answers and leaves, and how a parse comes about.
 pub mod Steps
 pub mod Answers
+pub mod Steppable
 pub mod Calls
 pub mod Histories

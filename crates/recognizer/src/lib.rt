@@ -1,5 +1,15 @@
 // The calls on a parse: start, token, run, finished, latest set.
+mod step;
+mod within;
+
 use parse::State;
+
+// The numbers of symbols, ordinary tokens and rules of a grammar.
+pub struct Sizes {
+    pub symbols: usize,
+    pub tokens: usize,
+    pub rules: usize,
+}
 
 // Why a call is refused.
 pub enum Refusal {
