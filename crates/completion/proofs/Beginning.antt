@@ -1,11 +1,11 @@
 -- The pass of a token on a well-formed state of an accepted grammar begins pending.
-use mathlib.Core.Path.{_≡_, refl, sym, ap, _∙_, subst}
-use mathlib.Core.List.{List, []}
-use Prim.Native.Nat.{ℕ, zero, suc, _+_, _-_, _*_, _/_, _≤_, _<_, min}
+use mathlib.Core.Path.{_≡_, sym, ap, subst}
+use mathlib.Core.List.{List}
+use Prim.Native.Nat.{ℕ, zero, suc, _+_, _-_, _*_, _/_, _≤_, _<_}
 use native.Mathlib.Decide.{decLt}
 use native.Mathlib.Numerals.{add-one}
 use native.Mathlib.Omega.{arith}
-use lib.ListN.{length, getD, take, length-take, List·getD-eq-default}
+use lib.ListN.{length, getD, length-take, List·getD-eq-default}
 use Rattle.laws.specs.Bits.{wordBits}
 use Rattle.bits.specs.Width.{rowWords}
 use Rattle.item.specs.Item.{itemWords, itemAt, keyAt}
@@ -16,7 +16,7 @@ use Rattle.parse.specs.declared.State.{State}
 use Rattle.parse.specs.Words.{Words, startOf, maxItems, maxSets, within, itemRoom, setRoom}
 use Rattle.parse.specs.WellFormed.{WellFormed, InSet, Fits, secondOf}
 use Rattle.completion.specs.Pass.{Pass, passOf}
-use Rattle.completion.specs.Ready.{RulesFit, IsSet, Rowed, Sound, Charted}
+use Rattle.completion.specs.Ready.{RulesFit, IsSet, Rowed}
 use Rattle.completion.proofs.Onward.{SpareQueue}
 use Rattle.completion.proofs.Through.{Inside}
 use Rattle.completion.proofs.Pending.{Grounds, Pending}

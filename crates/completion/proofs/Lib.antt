@@ -2,7 +2,10 @@
 pub mod Pushes
 pub mod Soundness
 pub mod Waiting
+pub mod Searching
+pub mod Pairs
 pub mod Entries
+pub mod Turning
 pub mod Onward
 pub mod Through
 pub mod Charting
@@ -12,6 +15,4 @@ pub mod Once
 pub mod Distinct
 pub mod Refusals
 pub mod Beginning
-pub mod Searching
-pub mod Pairs
 pub mod Passed

@@ -1,11 +1,10 @@
 -- What no step of a pass changes: the items that are there, the words behind them, and the numbers of words.
-use mathlib.Core.Path.{_≡_, refl, sym, ap, _∙_, subst}
-use mathlib.Core.List.{List}
-use Prim.Native.Nat.{ℕ, _+_, _-_, _*_, _/_, _≤_, _<_}
-use native.Mathlib.Decide.{decLt, ℕ-discrete}
+use mathlib.Core.Path.{_≡_, refl, ap, _∙_, subst}
+use Prim.Native.Nat.{ℕ, _-_, _*_, _≤_, _<_}
+use native.Mathlib.Decide.{decLt}
 use native.Mathlib.Omega.{arith}
 use lib.ListN.{length, getD}
-use Rattle.item.specs.Item.{itemWords, itemAt, keyAt, keyOf, stored}
+use Rattle.item.specs.Item.{itemWords, itemAt, keyAt, keyOf}
 use Rattle.item.proofs.Words.{stored-length, stored-item-other, stored-other}
 use Rattle.completion.specs.Pass.{Pass, refused, store, enqueue, itemsFull, queueFull}
 use Rattle.completion.specs.Sums.{nextSummand}
