@@ -19,7 +19,7 @@ use Rattle.completion.specs.Pass.{Pass, passOf}
 use Rattle.completion.specs.Ready.{RulesFit, IsSet, Rowed}
 use Rattle.completion.proofs.Onward.{SpareQueue}
 use Rattle.completion.proofs.Through.{Inside}
-use Rattle.completion.proofs.Pending.{Grounds, Pending}
+use Rattle.completion.proofs.Grounds.{Grounds, Pending}
 
 -- The rules of an accepted grammar fit.
 pub accepted-rules-fit : (g : Grammar) → Accepted g → RulesFit (g .rules)
@@ -125,7 +125,8 @@ module _ {n : ℕ} {rs : List Rule} {st : State} {v : Words} (well : WellFormed 
           starts-fit = start-fits;
           ordered = begins-ordered;
         };
-        earlier = λ k p inside. well .fit k p (inside-set k p inside) (record { from = inside .from; up-to = inside .up-to }) .earlier;
+        earlier = λ k p from up-to.
+            well .fit k p (inside-set k p (record { from = from; up-to = up-to })) (record { from = from; up-to = up-to }) .earlier;
         heap = empty-heap (keyAt (v .items));
       }
 

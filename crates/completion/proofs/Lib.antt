@@ -10,6 +10,7 @@ pub mod Onward
 pub mod Through
 pub mod Charting
 pub mod Heaped
+pub mod Grounds
 pub mod Pending
 pub mod Once
 pub mod Distinct

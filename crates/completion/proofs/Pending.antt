@@ -13,7 +13,6 @@ use Rattle.laws.specs.Turns.{until}
 use Rattle.laws.proofs.Turns.{until-keeps, until-rests, until-turns, until-ends, until-enough}
 use Rattle.laws.proofs.Counts.{Every}
 use Rattle.item.specs.Item.{Item, itemAt, originAt, keyAt, keyOf}
-use Rattle.binary_heap.specs.Heap.{Heap}
 use Rattle.binary_heap.proofs.Top.{top-greatest}
 use Rattle.grammar.specs.Rules.{Rule, none, noRule}
 use Rattle.grammar.specs.Accepted.{maxRules}
@@ -21,30 +20,13 @@ use Rattle.parse.specs.WellFormed.{leftOf}
 use Rattle.completion.specs.Pass.{Pass}
 use Rattle.completion.specs.Complete.{complete}
 use Rattle.completion.specs.Sums.{greatest, sumEnds, nextSummand, popSum, completeSum, rests, completeAllSums}
-use Rattle.completion.specs.Ready.{IsSet, RulesFit, Rowed, Sound, Charted}
+use Rattle.completion.specs.Ready.{IsSet}
+use Rattle.completion.proofs.Grounds.{Grounds, Pending}
 use Rattle.completion.proofs.Turning.{sum-goes, sum-ended, not-resting, goes}
 use Rattle.completion.proofs.Entries.{entriesOf, entries-length, entry-at, each-entry}
-use Rattle.completion.proofs.Through.{Begins, Inside}
+use Rattle.completion.proofs.Through.{Begins}
 use Rattle.completion.proofs.Charting.{Charts, Steady, steady-refl, steady-next, greatest-charts}
 use Rattle.completion.proofs.Heaped.{Heaped, heaped-pop, heaped-complete}
-
--- What the sums of a pass rest on and no step changes: the rules of an accepted grammar, and a start for each row.
-pub record Grounds (rs : List Rule) (starts rows : List ℕ) : Type 0 where
-  pub rules-fit : RulesFit rs
-  pub rowed : Rowed starts rows
-  -- rules of one left side are adjacent
-  pub adjacent :
-      (q r s : ℕ) → q < r → r < s → s < length rs → getD rs q noRule .left ≡ getD rs s noRule .left → getD rs q noRule .left ≡ getD rs r noRule .left
-  -- where A ::= B alone, every rule of B has a higher number
-  pub unary-below :
-      (r s : ℕ) → r < length rs → s < length rs → getD rs r noRule .second ≡ none → getD rs s noRule .left ≡ getD rs r noRule .first → r < s
-
--- A pass with sums to come: sound and charted, each item of set `k` with an origin below `k`, its entries a heap.
-pub record Pending (rs : List Rule) (starts : List ℕ) (s : Pass) : Type 0 where
-  pub sound : Sound s
-  pub charted : Charted rs starts s
-  pub earlier : (k p : ℕ) → Inside starts k p → originAt (s .items) p < k
-  pub heap : Heap (keyAt (s .items)) (entriesOf s)
 
 -- An item comes below the pair of set `k` and symbol `x`: its origin is not above `k`, and it is below every rule of `x` at `k`.
 pub record Lower (rs : List Rule) (k x : ℕ) (i : Item) : Type 0 where
@@ -123,10 +105,10 @@ module _ {rs : List Rule} {starts : List ℕ} (s : Pass) (pending : Pending rs s
       record {
         sound = heaped .steady .sound;
         charted = heaped .steady .charted;
-        earlier = λ k p inside.
+        earlier = λ k p from up-to.
             let same : originAt (t .items) p ≡ originAt (s .items) p =
-            ap (λ (i : Item). i .origin) (heaped .steady .onward .same-items p (omega (arith, inside .up-to, pending .charted .starts-fit (k + 1)))) in
-            omega (arith, pending .earlier k p inside);
+            ap (λ (i : Item). i .origin) (heaped .steady .onward .same-items p (omega (arith, pending .charted .starts-fit (k + 1)))) in
+            omega (arith, pending .earlier k p from up-to);
         heap = heaped .ordered .heap;
       }
 
@@ -138,7 +120,7 @@ module _ {rs : List Rule} {starts rows : List ℕ} (grounds : Grounds rs starts 
       heaped-complete rs starts (Lower rs k x) s rows k x set (pending .charted)
       (λ p inside second.
       lower-earlier (grounds .rules-fit .few-rules)
-      (pending .charted .rules p (omega (arith, inside .up-to, pending .charted .starts-fit (k + 1)))) (pending .earlier k p inside))
+      (pending .charted .rules p (omega (arith, inside .up-to, pending .charted .starts-fit (k + 1)))) (pending .earlier k p (inside .from) (inside .up-to)))
       (λ r begins one. lower-unary grounds begins one)
 
   -- The first completion of a pass, from an empty queue.
