@@ -16,4 +16,7 @@ pub mod Once
 pub mod Distinct
 pub mod Refusals
 pub mod Beginning
+pub mod Searching
+pub mod Pairs
+pub mod Summing
 pub mod Passed

@@ -46,3 +46,9 @@ pub record Charted (rs : List Rule) (starts : List ℕ) (s : Pass) : Type 0 wher
 pub record Rowed (starts rows : List ℕ) : Type 0 where
   pub few-sets : length rows ≤ rowWords * maxSets
   pub sets : length starts ≡ length rows / rowWords + 1
+
+-- The entries are places of items, and the rules of items are rules.
+pub record RulesRead (rs : List Rule) (s : Pass) : Type 0 where
+  pub sound : Sound s
+  pub few-rules : length rs ≤ maxRules
+  pub rules : (p : ℕ) → p < s .at .items → ruleAt (s .items) p < length rs

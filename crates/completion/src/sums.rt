@@ -1,1 +1,78 @@
-// Completed items by origin and left side.
+// Completed items by origin and left side: greatest first, and each pair is completed when its last summand has come off.
+ghost use mathlib.Core.Path.{_≡_};
+ghost use Prim.Native.Nat.{ℕ, _<_};
+ghost use Rattle.grammar.specs.Decoded.{rulesIn};
+ghost use Rattle.completion.specs.Pass.{passOf};
+ghost use Rattle.completion.specs.Ready.{RulesFit, Rowed, Sound, Charted, RulesRead};
+ghost use Rattle.completion.specs.Sums.{sumEnds, nextSummand, popSum, completeSum};
+use binary_heap::Popped;
+use crate::Progress;
+use crate::complete;
+use grammar::rules::Rules;
+
+// Whether the queue is empty, or its greatest entry is of another origin or left side.
+fn sum_ends(rules: &Rules, count: usize, items: &[u32], queue: &[u32], k: usize, x: usize, at: Progress) -> bool
+    requires { ⌜ RulesRead (rulesIn (now rules) count) (passOf at (now items) (now queue)) ⌝ }
+    ensures { λ r. ⌜ r ≡ sumEnds (rulesIn (now (rules .entry)) count) k x (passOf at (now (items .entry)) (now (queue .entry))) ⌝ }
+{
+    if at.queued == 0 {
+        return true;
+    }
+    let top = wide(queue[0]);
+    if wide(item::origin(items, top)) != k {
+        return true;
+    }
+    if grammar::rules::left(rules, wide(item::rule(items, top))) != x {
+        return true;
+    }
+    false
+}
+
+// Takes the greatest entry off the queue.
+fn next_summand(items: &[u32], queue: &mut [u32], at: Progress) -> Progress
+    requires { ⌜ Sound (passOf at (now items) (now queue)) × (0 < at .queued) ⌝ }
+    ensures { λ r. ⌜ passOf r (now (items .entry)) (now (queue .exit)) ≡ nextSummand (passOf at (now (items .entry)) (now (queue .entry))) ⌝ }
+{
+    let stopped = at.stopped;
+    let stored = at.items;
+    let queued = at.queued;
+    match binary_heap::pop(items, queue, queued) {
+        Popped::Empty => at,
+        Popped::Entry { entry: _, left } => Progress {
+            stopped: stopped,
+            items: stored,
+            queued: left,
+        },
+    }
+}
+
+// Takes all entries of origin `k` and left side `x` off the queue, which are its greatest.
+fn pop_sum(rules: &Rules, count: usize, items: &[u32], queue: &mut [u32], k: usize, x: usize, at: Progress) -> Progress
+    requires { ⌜ RulesRead (rulesIn (now rules) count) (passOf at (now items) (now queue)) ⌝ }
+    ensures { λ r. ⌜ passOf r (now (items .entry)) (now (queue .exit)) ≡ popSum (rulesIn (now (rules .entry)) count) k x (passOf at (now (items .entry)) (now (queue .entry))) ⌝ }
+{
+    let mut now = at;
+    while !sum_ends(rules, count, items, queue, k, x, now) {
+        now = next_summand(items, queue, now);
+    }
+    now
+}
+
+// Takes one sum off the queue, and completes its pair.
+fn complete_sum(rules: &Rules, count: usize, items: &mut [u32], starts: &[u32], rows: &[u64], queue: &mut [u32], at: Progress) -> Progress
+    requires { ⌜ RulesFit (rulesIn (now rules) count) × Rowed (now starts) (now rows) ⌝ }
+    requires { ⌜ Sound (passOf at (now items) (now queue)) × Charted (rulesIn (now rules) count) (now starts) (passOf at (now items) (now queue)) × (0 < at .queued) ⌝ }
+    ensures { λ r. ⌜ passOf r (now (items .exit)) (now (queue .exit)) ≡ completeSum (rulesIn (now (rules .entry)) count) (now (starts .entry)) (now (rows .entry)) (passOf at (now (items .entry)) (now (queue .entry))) ⌝ }
+{
+    let top = wide(queue[0]);
+    let k = wide(item::origin(items, top));
+    let x = grammar::rules::left(rules, wide(item::rule(items, top)));
+    let popped = pop_sum(rules, count, items, queue, k, x, at);
+    complete(rules, count, items, starts, rows, queue, k, x, popped)
+}
+
+fn wide(word: u32) -> usize
+    ensures { λ r. ⌜ r ≡ word ⌝ }
+{
+    word as usize
+}

@@ -1,0 +1,56 @@
+use Rattle.completion.proofs.Summing.{popped-entry}
+use Rattle.completion.proofs.Soundness.{sound-places}
+use Rattle.binary_heap.proofs.Answers.{pop-empty-tells}
+use Rattle.completion.specs.Pass.{passOf}
+use Rattle.grammar.specs.Decoded.{leftIn, rulesIn}
+use native.Mathlib.Omega.{arith}
+use lib.ListN.{length, getD}
+use Prim.Native.Nat.{ℕ, _+_, _-_, _≤_, _<_}
+use mathlib.Core.List.{List}
+use mathlib.Core.Path.{_≡_, refl, sym, ap, _∙_, subst}
+use borrow.Author.Needs.{needs}
+use Rattle.completion.proofs.sums.next_summand.Statement.{statement}
+use Rattle.completion.proofs.sums.next_summand.Tie as tie
+use Rattle.completion.proofs.sums.next_summand.Reads as reads
+use Rattle.completion.proofs.sums.next_summand.Lts as lts
+use Rattle.binary_heap.proofs.pop.Reads as pop-reads
+
+-- src/sums.rt:39:11
+pop-requires : tie.Need-pop-requires
+pop-requires c κs =
+    let a = c .before .before .before .args in
+    sound-places (passOf (a .at) (a .items .now) (a .queue .now)) (c .before .before .before .pre .0)
+
+-- src/sums.rt:40:26
+enum-told : tie.Need-enum-told
+enum-told c = search needs
+
+-- src/sums.rt:41:35
+enum-known-left : tie.Need-enum-known-left
+enum-known-left c = search needs
+
+-- src/sums.rt:32:1
+same-length : tie.Need-same-length
+same-length c = search needs
+
+-- src/sums.rt:32:1
+returns : tie.Need-returns
+returns c =
+    let a = c .before .before .before .before .before .before .before .before .args in
+    let none : a .at .queued ≡ 0 = pop-empty-tells (a .queue .now) (a .at .queued) (sym (c .before .before .before .before .pop .ensures .0) ∙ c .enum-told .given .1) in
+    absurd (omega (arith, c .before .before .before .before .before .before .before .before .pre .1))
+
+-- src/sums.rt:32:1
+same-length-2 : tie.Need-same-length-2
+same-length-2 c = search needs
+
+-- src/sums.rt:32:1
+returns-2 : tie.Need-returns-2
+returns-2 c =
+    let a = c .before .before .before .before .before .before .before .before .before .args in
+    popped-entry (passOf (a .at) (a .items .now) (a .queue .now)) _ _ (c .before .before .before .before .before .pop .last .1 .0) (sym (c .before .before .before .before .before .pop .ensures .0) ∙ c .before .left .given .1) (c .before .before .before .before .before .pop .ensures .1)
+
+pub next-summand-spec : {M : Type 1} → statement M
+next-summand-spec =
+    tie.close
+    (tie.spec pop-requires enum-told enum-known-left same-length returns same-length-2 returns-2)

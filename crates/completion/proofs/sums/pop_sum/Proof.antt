@@ -1,0 +1,105 @@
+use Rattle.completion.specs.Pass.{Pass}
+use mathlib.Core.Bool.{true, false}
+use mathlib.Core.List.{[]}
+use Rattle.completion.proofs.Summing.{sum-turn, read-next}
+use Rattle.completion.proofs.Charting.{next-sound, goes-on-sum}
+use Rattle.completion.specs.Sums.{sumEnds, nextSummand, popSum}
+use Rattle.completion.specs.Ready.{RulesRead}
+use Rattle.laws.proofs.Turns.{until-rests}
+use Rattle.laws.specs.Turns.{until}
+use borrow.Author.Tests.{not-true, not-false}
+use Rattle.completion.specs.Pass.{passOf}
+use Rattle.grammar.specs.Decoded.{leftIn, rulesIn}
+use borrow.Author.Needs.{needs}
+use native.Mathlib.Omega.{arith}
+use lib.ListN.{length, getD}
+use Prim.Native.Nat.{ℕ, _+_, _-_, _≤_, _<_}
+use mathlib.Core.List.{List}
+use mathlib.Core.Path.{_≡_, refl, sym, ap, _∙_, subst}
+use Rattle.completion.proofs.sums.pop_sum.Statement.{statement}
+use Rattle.completion.proofs.sums.pop_sum.Tie as tie
+use Rattle.completion.proofs.sums.pop_sum.Reads as reads
+use Rattle.completion.proofs.sums.pop_sum.Lts as lts
+use Rattle.completion.proofs.sums.next_summand.Reads as next-summand-reads
+use Rattle.completion.proofs.sums.sum_ends.Reads as sum-ends-reads
+
+abbrev Inv-loop : tie.InvT-loop
+Inv-loop rules count items queue₀ k x now₀ queue now =
+    (until (now .queued) (sumEnds (rulesIn rules count) k x) nextSummand (passOf now items queue) ≡ popSum (rulesIn rules count) k x (passOf now₀ items queue₀))
+    × RulesRead (rulesIn rules count) (passOf now items queue)
+    × (length queue ≡ length queue₀)
+
+abbrev μ-loop : tie.MeasureT-loop
+μ-loop rules count items queue₀ k x now₀ queue now = now .queued
+
+-- src/sums.rt:55:5
+loop-holds : tie.Need-loop-holds Inv-loop μ-loop
+unfolding popSum
+loop-holds c = (refl, c .before .before .pre, refl)
+
+-- src/sums.rt:55:12
+sum-ends-requires : tie.Need-sum-ends-requires Inv-loop μ-loop
+sum-ends-requires c κs = c .before .loop .inv .1
+
+-- src/sums.rt:56:9
+next-summand-requires : tie.Need-next-summand-requires Inv-loop μ-loop
+next-summand-requires c κs =
+    let a = c .before .before .before .before .before .before .before .args in
+    let rs = rulesIn (a .rules .now) (a .count) in
+    let l = c .before .before .before .before .loop in
+    let u = passOf (l .now) (a .items .now) (l .queue) in
+    let on : sumEnds rs (a .k) (a .x) u ≡ false = sym (c .before .before .sum-ends .ensures) ∙ not-true (c .before .before .sum-ends .result) (c .before .if1 .taken) in
+    let some : 0 < l .now .queued = goes-on-sum rs [] u (a .k) (a .x) u on in
+    (l .inv .1 .sound, some)
+
+-- src/sums.rt:55:5
+loop-less : tie.Need-loop-less Inv-loop μ-loop
+unfolding nextSummand
+loop-less c =
+    let a = c .before .before .before .before .before .before .before .before .before .before .args in
+    let rs = rulesIn (a .rules .now) (a .count) in
+    let l = c .before .before .before .before .before .before .before .loop in
+    let u = passOf (l .now) (a .items .now) (l .queue) in
+    let on : sumEnds rs (a .k) (a .x) u ≡ false = sym (c .before .before .before .before .before .sum-ends .ensures) ∙ not-true (c .before .before .before .before .before .sum-ends .result) (c .before .before .before .before .if1 .taken) in
+    let some : 0 < l .now .queued = goes-on-sum rs [] u (a .k) (a .x) u on in
+    omega (arith, ap (λ (u : Pass). u .at .queued) (c .before .before .next-summand .ensures))
+
+-- src/sums.rt:55:5
+loop-again : tie.Need-loop-again Inv-loop μ-loop
+loop-again c =
+    let a = c .before .before .before .before .before .before .before .before .before .before .args in
+    let rs = rulesIn (a .rules .now) (a .count) in
+    let l = c .before .before .before .before .before .before .before .loop in
+    let u = passOf (l .now) (a .items .now) (l .queue) in
+    let on : sumEnds rs (a .k) (a .x) u ≡ false = sym (c .before .before .before .before .before .sum-ends .ensures) ∙ not-true (c .before .before .before .before .before .sum-ends .result) (c .before .before .before .before .if1 .taken) in
+    let some : 0 < l .now .queued = goes-on-sum rs [] u (a .k) (a .x) u on in
+    (sum-turn rs (a .k) (a .x) u (passOf (c .before .before .next-summand .result) (a .items .now) (c .before .before .next-summand .last .1 .0)) on some (c .before .before .next-summand .ensures) ∙ l .inv .0,
+    subst (RulesRead rs) (sym (c .before .before .next-summand .ensures)) (read-next rs u (l .inv .1) some (next-sound u (l .inv .1 .sound) some)),
+    c .before .before .next-summand .kept .1 .0 ∙ l .inv .2)
+
+-- src/sums.rt:50:1
+same-length : tie.Need-same-length Inv-loop μ-loop
+same-length c = c .before .before .before .loop .inv .2
+
+-- src/sums.rt:50:1
+returns : tie.Need-returns Inv-loop μ-loop
+returns c =
+    let a = c .before .before .before .before .before .before .args in
+    let rs = rulesIn (a .rules .now) (a .count) in
+    let s = passOf (a .at) (a .items .now) (a .queue .now) in
+    let l = c .before .before .before .loop in
+    sym (until-rests (sumEnds rs (a .k) (a .x)) nextSummand (l .now .queued) (passOf (l .now) (a .items .now) (l .queue)) (sym (c .before .sum-ends .ensures) ∙ not-false (c .before .sum-ends .result) (c .if1 .left))) ∙ l .inv .0
+
+pub pop-sum-spec : {M : Type 1} → statement M
+pop-sum-spec =
+    tie.close
+    (tie.spec
+    Inv-loop
+    μ-loop
+    loop-holds
+    sum-ends-requires
+    next-summand-requires
+    loop-less
+    loop-again
+    same-length
+    returns)

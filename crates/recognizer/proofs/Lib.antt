@@ -1,0 +1,2 @@
+-- Laws on the steps of a token and on histories.
+pub mod Chart
