@@ -1,5 +1,6 @@
 -- A pass stays sound and charted through every step, and nothing that it had is touched.
 use mathlib.Core.Path.{_≡_, sym, ap, subst}
+use mathlib.Core.Bool.{false}
 use mathlib.Core.List.{List}
 use Prim.Native.Nat.{ℕ, _+_, _*_, _≤_, _<_}
 use native.Mathlib.Decide.{decLt}
@@ -169,6 +170,10 @@ module _ (rs : List Rule) (starts : List ℕ) (s : Pass) where
           (λ there.
           steady-binary-predictions (completeUnaryPredictions rs rows k x (completeMedialItems rs starts k x t))
           (steady-unary-predictions (completeMedialItems rs starts k x t) (steady-medial-items t steady)))
+
+  -- A sum that has not ended has a greatest entry.
+  pub goes-on-sum : (k x : ℕ) (t : Pass) → sumEnds rs k x t ≡ false → 0 < t .at .queued
+  goes-on-sum k x t = sum-goes rs k x t
 
   -- Popping a sum keeps all of it.
   pub steady-pop : (k x : ℕ) (t : Pass) → Steady rs starts s t → Steady rs starts s (popSum rs k x t)

@@ -4,6 +4,7 @@ pub mod Soundness
 pub mod Waiting
 pub mod Searching
 pub mod Pairs
+pub mod Summing
 pub mod Entries
 pub mod Turning
 pub mod Onward
@@ -12,11 +13,9 @@ pub mod Charting
 pub mod Heaped
 pub mod Grounds
 pub mod Pending
+pub mod Remaining
 pub mod Once
 pub mod Distinct
 pub mod Refusals
 pub mod Beginning
-pub mod Searching
-pub mod Pairs
-pub mod Summing
 pub mod Passed

@@ -1,4 +1,4 @@
--- The turns of the two loops of step 3: when they go on, and what a turn leaves to do.
+-- The two loops of step 3: when they go on, and what popping leaves.
 use mathlib.Core.Path.{_≡_, refl, sym, ap, _∙_}
 use mathlib.Core.Bool.{Bool, true, false, _&&_, not, _||_}
 use mathlib.Core.List.{List}
@@ -7,11 +7,12 @@ use native.Mathlib.Omega.{arith}
 use lib.Dec.{eqb}
 use borrow.Author.Tests.{eqb-true, eqb-false, eq-eqb, ne-eqb}
 use Rattle.laws.specs.Turns.{until}
-use Rattle.laws.proofs.Turns.{until-rests, until-turns, until-keeps}
+use Rattle.laws.proofs.Turns.{until-keeps}
 use Rattle.grammar.specs.Rules.{Rule}
 use Rattle.parse.specs.WellFormed.{leftOf}
 use Rattle.completion.specs.Pass.{Pass}
 use Rattle.completion.specs.Sums.{greatest, sumEnds, nextSummand, popSum, rests}
+use Rattle.completion.proofs.Summing.{ends-not}
 
 module _ (rs : List Rule) (k x : ℕ) (s : Pass) where
   -- A sum that has not ended has a greatest entry.
@@ -26,22 +27,10 @@ module _ (rs : List Rule) (k x : ℕ) (s : Pass) where
   -- Where a sum has ended, and the queue is not empty, its greatest entry is of another origin or left side.
   pub sum-ended : sumEnds rs k x s ≡ true → 0 < s .at .queued → greatest s .origin ≡ k → leftOf rs (greatest s) ≡ x → ⊥
   sum-ended ends some origin left =
-      let goes : sumEnds rs k x s ≡ false =
-      rw (ne-eqb (s .at .queued) 0 (λ e. omega arith), eq-eqb (greatest s .origin) k origin, eq-eqb (leftOf rs (greatest s)) x left) refl in
-      let never : _≡_ {A = Bool} true false = sym ends ∙ goes in
+      let never : _≡_ {A = Bool} false true =
+      ends-not rs k x s (λ e. omega arith) (greatest s .origin) (leftOf rs (greatest s)) refl origin refl left ∙ ends in
       let z : _≡_ {A = ℕ} 0 1 = cc in
       omega arith
-
-  -- Where the sum has ended nothing is popped; else one entry, and then the others of the sum.
-  pub pop-done : sumEnds rs k x s ≡ true → popSum rs k x s ≡ s
-  unfolding popSum
-  pop-done ends = until-rests (sumEnds rs k x) nextSummand (s .at .queued) s ends
-
-  pub pop-turn : sumEnds rs k x s ≡ false → popSum rs k x (nextSummand s) ≡ popSum rs k x s
-  unfolding popSum nextSummand
-  pop-turn goes =
-      let more : suc (s .at .queued - 1) ≡ s .at .queued = let some : 0 < s .at .queued = sum-goes goes in omega arith in
-      sym (until-turns (sumEnds rs k x) nextSummand (s .at .queued - 1) s goes) ∙ ap (λ (n : ℕ). until n (sumEnds rs k x) nextSummand s) more
 
   -- Popping stores nothing and refuses nothing.
   pub pop-items : popSum rs k x s .at .items ≡ s .at .items
