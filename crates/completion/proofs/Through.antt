@@ -1,13 +1,13 @@
 -- What the steps of a completion keep, the completion keeps.
-use mathlib.Core.Path.{_≡_, refl, sym, ap, _∙_, subst}
-use mathlib.Core.Bool.{Bool, true, false, _&&_, not, _||_}
+use mathlib.Core.Path.{_≡_}
+use mathlib.Core.Bool.{true, false, _&&_, not}
 use mathlib.Core.List.{List}
 use Prim.Native.Nat.{ℕ, zero, suc, _+_, _-_, _≤_, _<_}
 use native.Mathlib.Omega.{arith}
 use lib.ListN.{length, getD}
 use lib.Dec.{eqb}
 use borrow.Author.Tests.{eqb-true, eqb-false, not-true}
-use Rattle.laws.specs.Turns.{over, between}
+use Rattle.laws.specs.Turns.{over}
 use Rattle.laws.proofs.Tests.{either-way, both-true}
 use Rattle.laws.proofs.Turns.{over-keeps}
 use Rattle.item.specs.Item.{itemAt}
