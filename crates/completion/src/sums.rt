@@ -4,7 +4,8 @@ ghost use Prim.Native.Nat.{ℕ, _<_};
 ghost use Rattle.grammar.specs.Decoded.{rulesIn};
 ghost use Rattle.completion.specs.Pass.{passOf};
 ghost use Rattle.completion.specs.Ready.{RulesFit, Rowed, Sound, Charted, RulesRead};
-ghost use Rattle.completion.specs.Sums.{sumEnds, nextSummand, popSum, completeSum};
+ghost use Rattle.completion.specs.Pending.{Grounds, Pending};
+ghost use Rattle.completion.specs.Sums.{sumEnds, nextSummand, popSum, completeSum, completeAllSums};
 use crate::Progress;
 use crate::complete;
 use binary_heap::Popped;
@@ -93,6 +94,29 @@ fn complete_sum(
     let x = grammar::rules::left(rules, wide(item::rule(items, top)));
     let popped = pop_sum(rules, count, items, queue, k, x, at);
     complete(rules, count, items, starts, rows, queue, k, x, popped)
+}
+
+// Completes sum after sum, until the queue is empty or a push is refused.
+pub fn complete_all_sums_entirely(
+    rules: &Rules,
+    count: usize,
+    items: &mut [u32],
+    starts: &[u32],
+    rows: &[u64],
+    queue: &mut [u32],
+    at: Progress,
+) -> Progress
+    requires { ⌜ Grounds (rulesIn (now rules) count) (now starts) (now rows) × Pending (rulesIn (now rules) count) (now starts) (passOf at (now items) (now queue)) ⌝ }
+    ensures { λ r. ⌜ passOf r (now (items .exit)) (now (queue .exit)) ≡ completeAllSums (rulesIn (now (rules .entry)) count) (now (starts .entry)) (now (rows .entry)) (passOf at (now (items .entry)) (now (queue .entry))) ⌝ }
+{
+    let mut now = at;
+    while now.queued > 0 {
+        if now.stopped != 0 {
+            return now;
+        }
+        now = complete_sum(rules, count, items, starts, rows, queue, now);
+    }
+    now
 }
 
 fn wide(word: u32) -> usize

@@ -1,6 +1,4 @@
 // The calls on a parse: start, token, run, finished, latest set.
-mod step;
-mod within;
 
 use parse::State;
 
