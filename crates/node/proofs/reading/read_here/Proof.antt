@@ -32,8 +32,8 @@ stand-requires c κs = search needs
 width-requires : tie.Need-width-requires
 width-requires c κs = search needs
 
-add-t8 : tie.Need-add-t8
-add-t8 c =
+add-behind : tie.Need-add-behind
+add-behind c =
     omega (
       arith,
       c .width .ensures,
@@ -68,6 +68,6 @@ read-here-spec =
     units-of-requires
     stand-requires
     width-requires
-    add-t8
+    add-behind
     returns-2
     returns-3)
