@@ -157,7 +157,8 @@ fn leaf_row(short: u16, wide: u16, symbol: u32) -> Units
     ensures { λ r. ⌜ r ≡ U.leafRow short wide symbol ⌝ }
 {
     if symbol < 4096 {
-        return Units::One(short + symbol as u16);
+        let unit = short + symbol as u16;
+        return Units::One(unit);
     }
     Units::Four(wide, 0, low(symbol), high(symbol))
 }

@@ -50,7 +50,8 @@ returns-2 c =
     let fits : a .p + w ≤ min usableUnits (length (a .store .now)) =
     leb-true (a .p + w) (min usableUnits (length (a .store .now))) (sym (c .before .before .before .before .before .room .ensures)
     ∙ c .before .before .before .before .if2 .taken) in
-    wrote (a .store .now) (a .p) (listOf (a .units)) w _ (c .before .before .before .before .before .before .if1 .left) (c .before .before .before .before .before .before .before .width .ensures) fits (c .before .before .put-units .ensures)
+    wrote (a .store .now) (a .p) (listOf (a .units)) w _ (c .before .before .before .before .before .before .if1 .left)
+    (c .before .before .before .before .before .before .before .width .ensures) fits (c .before .before .put-units .ensures)
 
 returns-3 : tie.Need-returns-3
 returns-3 c =

@@ -48,7 +48,8 @@ returns-2 c =
     ∙ c .before .before .before .before .before .node .given .1)
     ∙ take-like _ _ _ _ (c .before .before .before .units-of .ensures) (sym (c .before .before .stand .ensures)
     ∙ c .before .if1 .taken)
-    ∙ ap (λ w. answer done (node (c .before .before .before .before .before .node .given .0 .0) (c .before .before .before .before .before .before .before .before .before .args .q + w))) (sym (c .width .ensures)))
+    ∙ ap (λ w. answer done (node (c .before .before .before .before .before .node .given .0 .0)
+    (c .before .before .before .before .before .before .before .before .before .args .q + w))) (sym (c .width .ensures)))
 
 returns-3 : tie.Need-returns-3
 unfolding readHere
