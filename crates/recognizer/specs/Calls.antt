@@ -48,6 +48,9 @@ asItWas number s w = record { number = number; state = s; words = w }
 abbrev pub inPlace : Words → Outcome → Outcome
 inPlace w o = record { number = o .number; state = o .state; words = behind (o .words) (beyond w) }
 
+abbrev pub inPlaceEnded : Words → Ended → Ended
+inPlaceEnded w e = record { outcome = inPlace w (e .outcome); taken = e .taken }
+
 -- Start.
 pub data Starts (file : List ℕ) (s : State) (w : Words) : Outcome → Type 0 where
   refused : {n : ℕ} → StartFault file w n → Starts file s w (asItWas n s w)
@@ -63,7 +66,7 @@ pub data Runs (file : List ℕ) (s : State) (w : Words) (ts : List ℕ) : Ended 
   refused : {n : ℕ} → CallFault file s w n → Runs file s w ts (record { outcome = asItWas n s w; taken = 0 })
   done :
       {g : Grammar} {table : List (List ℕ)} → Ready file s w g table
-      → Runs file s w ts (record { outcome = inPlace w (ran g table s (within w) ts .outcome); taken = ran g table s (within w) ts .taken })
+      → Runs file s w ts (inPlaceEnded w (ran g table s (within w) ts))
 
 -- Finished: its number, and whether it says yes.
 pub data Finishes (file : List ℕ) (s : State) (w : Words) : ℕ → Bool → Type 0 where

@@ -3,4 +3,6 @@ pub mod Steps
 pub mod Answers
 pub mod Steppable
 pub mod Calls
+pub mod Cuts
+pub mod Opening
 pub mod Histories
