@@ -1,13 +1,13 @@
 -- What follows from a completed pair, and that completing a pair brings all of it and nothing else.
 use mathlib.Core.Path.{_≡_, refl, sym, ap, _∙_, subst}
-use mathlib.Core.Bool.{Bool, true, false, _&&_, not, false≢true}
+use mathlib.Core.Bool.{true, _&&_, not, false≢true}
 use mathlib.Core.List.{List}
 use Prim.Native.Nat.{ℕ, _+_, _-_, _≤_, _<_}
 use native.Mathlib.Decide.{decLt}
 use native.Mathlib.Omega.{arith}
 use lib.ListN.{length, getD}
 use lib.Dec.{eqb}
-use borrow.Author.Tests.{eqb-true, eqb-false, eq-eqb, ne-eqb, not-true}
+use borrow.Author.Tests.{eqb-true, eqb-false, eq-eqb, ne-eqb}
 use Rattle.laws.proofs.Tests.{either-way, both-true}
 use Rattle.item.specs.Item.{Item, itemAt}
 use Rattle.grammar.specs.Rules.{Rule, none, noRule}
@@ -19,14 +19,13 @@ use Rattle.completion.specs.Complete.{predicted, waits, completeMedial, complet
 use Rattle.completion.specs.Ready.{IsSet, Sound, Charted}
 use Rattle.completion.proofs.Waiting.{store-place}
 use Rattle.completion.proofs.Searching.{enqueue-count}
-use Rattle.completion.proofs.Entries.{then-cases}
 use Rattle.completion.proofs.Onward.{onward-store, onward-enqueue}
 use Rattle.completion.proofs.Through.{Begins, Inside}
 use Rattle.completion.proofs.Charting.{stored-new}
 use Rattle.completion.proofs.Heaped.{Heaped, heaped-store, heaped-enqueue}
 use Rattle.completion.proofs.Beginning.{beginning}
 use Rattle.recognizer.proofs.Chart.{New}
-use Rattle.recognizer.proofs.Growing.{Queued, Grows, Step, grows-refl, grows-trans, grows-store, grows-enqueue, queued-grows, new-grows, entry-new, step-skips, step-then, step-brings, over-steps}
+use Rattle.recognizer.proofs.Growing.{Queued, Grows, Step, grows-trans, grows-store, grows-enqueue, queued-grows, new-grows, entry-new, step-skips, step-then, step-brings, over-steps}
 
 -- The pair of an item, its origin and its left side, has `T`.
 abbrev pub OfPair : (ℕ → ℕ → Type 0) → List Rule → Item → Type 0
@@ -42,6 +41,16 @@ pub record Calls (rs : List Rule) (rows : List ℕ) (done : ℕ → ℕ → Type
 pub data Met (rs : List Rule) (done : ℕ → ℕ → Type 0) (s : Pass) (i : Item) : Type 0 where
   completed : OfPair done rs i → Met rs done s i
   queued : Queued s i → Met rs done s i
+
+-- It stays so while a pass only grows.
+pub met-grows : {rs : List Rule} {done : ℕ → ℕ → Type 0} {s t : Pass} (i : Item) → Sound s → Grows s t → Met rs done s i → Met rs done t i
+met-grows i sound grows (Met.completed c) = Met.completed c
+met-grows i sound grows (Met.queued q) = Met.queued (queued-grows sound grows q)
+
+-- More pairs call for no fewer items.
+pub calls-more : {rs : List Rule} {rows : List ℕ} {done done′ : ℕ → ℕ → Type 0} {i : Item} → ((k x : ℕ) → done k x → done′ k x)
+    → Calls rs rows done i → Calls rs rows done′ i
+calls-more more calls = record { completed = more _ _ (calls .completed); first = calls .first; left = calls .left }
 
 -- The item of the sets at place `p` is queued, if its second is `x`.
 abbrev QueuedIf : List Rule → Words → ℕ → ℕ → Pass → Type 0
@@ -115,17 +124,6 @@ module _ (rs : List Rule) (st : State) (v : Words) where
                 | no new ↦ subst (Calls rs (v .rows) done) (sym (stored-new k r s (kept-sound kept) p (omega arith) up-to)) called
               ];
         }
-
-    -- Storing an item and queueing it.
-    pub kept-both : (k r : ℕ) (s : Pass) → IsSet (v .starts) k → r < length rs → Calls rs (v .rows) done (record { origin = k; rule = r })
-        → T k (getD rs r noRule .left) → Kept T done s → Kept T done (andThen (store k r s) (enqueue (s .at .items)))
-    kept-both k r s set rule called holds kept =
-        let there : Kept T done (store k r s) = kept-store k r s set rule called kept in
-        then-cases (Kept T done) (store k r s) _ there
-        (λ on.
-        let place : s .at .items < store k r s .at .items = store-place k r s on in
-        kept-enqueue (s .at .items) (store k r s) place
-        (subst (OfPair T rs) (sym (stored-new k r s (kept-sound kept) (s .at .items) (omega arith) place)) holds) there)
 
     -- Completing the pair of set `k` and symbol `x`, with `x` in row `k`.
     module _ (closed : Closed T) (charted : Charted rs (v .starts) (beginning st v)) (k x : ℕ) (set : IsSet (v .starts) k) (holds : T k x)

@@ -2,3 +2,5 @@
 pub mod Chart
 pub mod Growing
 pub mod Following
+pub mod Popping
+pub mod Exact
