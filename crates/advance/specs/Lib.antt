@@ -1,3 +1,5 @@
 -- Steps 4 to 6: the new items become a set.
 pub mod NewItems
+pub mod Order
 pub mod Advance
+pub mod Ready

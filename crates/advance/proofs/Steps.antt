@@ -1,0 +1,154 @@
+-- What a caller of steps 4 to 6 cites: they may be called on a well formed state, and leave one.
+use mathlib.Core.Path.{_≡_, sym, ap, ap₂, _∙_}
+use mathlib.Core.Bool.{true}
+use mathlib.Core.List.{List, [], _++_, append-nil}
+use Prim.Native.Nat.{ℕ, zero, suc, _+_, _-_, _*_, _/_, _≤_, _<_}
+use native.Mathlib.Omega.{arith}
+use lib.ListN.{length, getD, take, replicate}
+use borrow.Author.Tests.{ltb-true}
+use Rattle.laws.specs.Bits.{Below}
+use Rattle.laws.specs.Records as records
+use Rattle.laws.proofs.Bits.{union-below}
+use Rattle.bits.specs.Width.{rowWords}
+use Rattle.item.specs.Item.{Item, itemWords, itemAt, originAt}
+use Rattle.item.proofs.Order.{Words as U32}
+use Rattle.grammar.specs.Rules.{Rule, none}
+use Rattle.grammar.specs.Accepted.{maxSymbols}
+use Rattle.grammar.specs.Decoded.{secondIn, rulesIn}
+use Rattle.grammar.proofs.Decoding.{in-count}
+use Rattle.parse.specs.declared.State.{State}
+use Rattle.parse.specs.Tells.{Clear}
+use Rattle.parse.specs.Words.{Words, maxItems, maxSets}
+use Rattle.parse.specs.WellFormed.{secondOf, placing, WellFormed}
+use Rattle.advance.specs.NewItems.{itemsFrom, sorted, binary}
+use Rattle.advance.specs.Order.{All, Stored}
+use Rattle.advance.specs.Advance.{predictions, padded, nextState, nextWords, newOf, reachOf, keptOf, hasRoom, withoutNew}
+use Rattle.advance.specs.Ready.{Shape, Ready}
+use Rattle.advance.proofs.Placing.{second-in}
+use Rattle.advance.proofs.Ordering.{Rises, Apart, all-both, sorted-rises, same-placing}
+use Rattle.advance.proofs.Padded.{zeros-word, clear-padded}
+use Rattle.advance.proofs.Sorting.{items-all}
+use Rattle.advance.proofs.Following.{predictions-wide}
+use Rattle.advance.proofs.Advancing.{binary-cases, binary-all, binary-second, new-all, new-few}
+use Rattle.advance.proofs.Keeping.{Newcomer, below-zeros, well-formed-again}
+
+-- Words that differ from those of the sets in the new items alone are, without these, those words.
+pub without-new : (s : State) (v₀ v : Words) → itemWords * s .items ≤ length (v₀ .items) → Clear (v₀ .items) (itemWords * s .items)
+    → length (v .items) ≡ length (v₀ .items) → take (itemWords * s .items) (v .items) ≡ take (itemWords * s .items) (v₀ .items)
+    → withoutNew s v .items ≡ v₀ .items
+unfolding records.flat
+without-new s v₀ v fits c long same =
+    ap₂ (λ (n : ℕ) (front : List ℕ). padded n (front ++ [])) long same
+    ∙ ap (padded (length (v₀ .items))) (append-nil (take (itemWords * s .items) (v₀ .items)))
+    ∙ sym (clear-padded (v₀ .items) (itemWords * s .items) fits c)
+
+-- A well formed state, with new items behind its sets, is ready for the steps.
+pub ready : (n : ℕ) (rules : List ℕ) (count : ℕ) (table : List (List ℕ)) (s : State) (v : Words) (to : ℕ)
+    → WellFormed n (rulesIn rules count) s (withoutNew s v) → length (v .starts) ≡ length (v .rows) / rowWords + 1
+    → Stored count (v .items) (s .items) to → to ≤ maxItems → ((p : ℕ) → s .items ≤ p → p < to → originAt (v .items) p ≤ s .set) → Clear (v .items) (itemWords * to)
+    → ((r : ℕ) → r < count → (secondIn rules r ≡ none → ⊥) → secondIn rules r < maxSymbols) → Shape table
+    → Ready rules count table s v to
+ready n rules count table s v to w fit held room origins c seconds shape = record {
+  set-fits = w .set-fits;
+  starts-fit = fit;
+  never-falls = w .never-falls;
+  last-start = w .last-start;
+  new = held;
+  room = room;
+  origins = origins;
+  spare-items = c;
+  spare-starts = record { zero = w .spare-starts };
+  spare-rows = record { zero = w .spare-rows };
+  seconds = seconds;
+  shape = shape;
+}
+
+-- Those with a second rise where all do.
+binary-rises : (rs : List Rule) {is : List Item} → Rises rs is → Rises rs (binary rs is)
+unfolding binary
+binary-rises rs Rises.empty = Rises.empty
+binary-rises rs (Rises.also {i} {is} a r) = binary-cases rs (Rises rs) i is (λ e. binary-rises rs r) (λ n. Rises.also (binary-all rs a) (binary-rises rs r))
+
+-- Items at different places of a stretch are apart.
+items-apart : (rs : List Rule) (w : List ℕ) (from n : ℕ)
+    → ((p q : ℕ) → from ≤ p → p < q → q < from + n → placing rs (itemAt w p) ≡ placing rs (itemAt w q) → ⊥) → Apart rs (itemsFrom w from n)
+unfolding itemsFrom
+items-apart rs w from zero h = Apart.empty
+items-apart rs w from (suc n) h =
+    Apart.also
+    (items-all (λ (j : Item). placing rs (itemAt w from) ≡ placing rs j → ⊥) w (from + 1) n (λ q a b. h from q (omega arith) (omega arith) (omega arith)))
+    (items-apart rs w (from + 1) n (λ p q a b c. h p q (omega arith) b (omega arith)))
+
+-- The new row has no bit that the table's rows have not.
+predictions-below : (n : ℕ) (rs : List Rule) (table : List (List ℕ)) {is : List Item} → ((k : ℕ) → k < maxSymbols → Below n (getD table k []))
+    → All (λ (i : Item). secondOf rs i < maxSymbols) is → Below n (predictions rs table is)
+unfolding predictions
+predictions-below n rs table h All.empty = below-zeros n (replicate rowWords 0) (zeros-word rowWords)
+predictions-below n rs table h (All.also {i} {is} l ls) =
+    union-below n (predictions rs table is) (getD table (secondOf rs i) []) (predictions-below n rs table h ls) (h (secondOf rs i) l)
+
+-- What step 3 gives beside that: the new items are distinct.
+pub record Distinct (w : List ℕ) (from to : ℕ) : Type 0 where
+  pub apart : (p q : ℕ) → from ≤ p → p < q → q < to → itemAt w p ≡ itemAt w q → ⊥
+
+module _ (n : ℕ) (rules : List ℕ) (count : ℕ) (table : List (List ℕ)) (s : State) (v : Words) (to : ℕ)
+    (sets : WellFormed n (rulesIn rules count) s (withoutNew s v)) (h : Ready rules count table s v to)
+    (few : length (v .rows) / rowWords ≤ maxSets) (distinct : Distinct (v .items) (s .items) to)
+    (bits : (k : ℕ) → k < maxSymbols → Below n (getD table k [])) where
+  abbrev rs : List Rule
+  rs = rulesIn rules count
+
+  abbrev new : List Item
+  new = newOf rs s v to
+
+  u32 : (p : ℕ) → s .items ≤ p → p < to → U32 (itemAt (v .items) p)
+  u32 p a b = record {
+    origin-fits = omega (arith, h .origins p a b, h .set-fits, few);
+    rule-fits = omega (arith, h .new .rules p a b, h .new .few);
+  }
+
+  rises : Rises rs new
+  rises =
+      binary-rises rs (sorted-rises rs (itemsFrom (v .items) (s .items) (to - s .items))
+      (items-apart rs (v .items) (s .items) (to - s .items)
+      (λ p q a b c e. distinct .apart p q a b (omega (arith, h .new .runs)) (same-placing rs (itemAt (v .items) p) (itemAt (v .items) q) (u32 p a (omega (arith, h .new .runs))) (u32 q (omega arith) (omega (arith, h .new .runs))) e))))
+
+  many : length rs ≡ count
+  many = in-count rules 0 0 count
+
+  seconds : All (λ (i : Item). secondOf rs i ≡ none → ⊥) new
+  seconds = binary-second rs (sorted rs (itemsFrom (v .items) (s .items) (to - s .items)))
+
+  ruled : All (λ (i : Item). i .rule < count) new
+  ruled = new-all rs {P = λ (i : Item). i .rule < count} (v .items) (s .items) to (h .new .rules)
+
+  low : All (λ (i : Item). i .origin ≤ s .set) new
+  low = new-all rs {P = λ (i : Item). i .origin ≤ s .set} (v .items) (s .items) to (h .origins)
+
+  newcomers : All (Newcomer rs (s .set)) new
+  newcomers =
+      all-both (λ (i : Item) (f : i .origin ≤ s .set) (g : (i .rule < count) × (secondOf rs i ≡ none → ⊥)).
+      record { origin-low = f; is-rule = omega (arith, g .0, many); has-second = g .1 })
+      low (all-both (λ (i : Item) (r : i .rule < count) (x : secondOf rs i ≡ none → ⊥). (r, x)) ruled seconds)
+
+  symbols : All (λ (i : Item). secondOf rs i < maxSymbols) new
+  symbols =
+      all-both (λ (i : Item) (r : i .rule < count) (x : secondOf rs i ≡ none → ⊥).
+      let l : secondOf rs i < maxSymbols = omega (arith, second-in rules count i r, h .seconds (i .rule) r (λ e. x (second-in rules count i r ∙ e))) in l)
+      ruled seconds
+
+  -- The state after steps 4 to 6 is well formed.
+  pub steps-keep : hasRoom rs s v to ≡ true
+      → WellFormed n rs (nextState (keptOf rs s v to) v new) (nextWords (s .set) (reachOf rs s v to) v new (predictions rs table new))
+  steps-keep room =
+      well-formed-again n rs s v new (predictions rs table new)
+      (record {
+        sets = sets;
+        starts-fit = h .starts-fit;
+        items-fit = omega (arith, new-few rs (v .items) (s .items) to, h .new .there, h .new .runs);
+        set-fits = ltb-true _ _ room;
+        new-fit = newcomers;
+        new-rise = rises;
+        row-wide = predictions-wide rs table new (h .shape) symbols;
+        row-below = predictions-below n rs table bits symbols;
+      })

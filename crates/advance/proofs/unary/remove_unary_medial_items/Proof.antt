@@ -1,0 +1,40 @@
+-- `advance::unary::remove_unary_medial_items` meets its contract.
+use mathlib.Core.Path.{_∙_}
+use native.Mathlib.Omega.{arith}
+use borrow.Author.Needs.{needs}
+use Rattle.advance.proofs.Dropping.{cut-ending, cut-count}
+use Rattle.advance.proofs.unary.remove_unary_medial_items.Statement.{statement}
+use Rattle.advance.proofs.unary.remove_unary_medial_items.Tie as tie
+
+binary-end-requires : tie.Need-binary-end-requires
+binary-end-requires c κs = search needs
+
+mul-clear-words : tie.Need-mul-clear-words
+mul-clear-words c = search needs
+
+mul-clear-words-2 : tie.Need-mul-clear-words-2
+mul-clear-words-2 c = search needs
+
+clear-words-requires : tie.Need-clear-words-requires
+clear-words-requires c κs = search needs
+
+same-length : tie.Need-same-length
+same-length c = search needs
+
+returns : tie.Need-returns
+returns c =
+    let near = c .before .before .before .before .binary-end .ensures in (
+      cut-count _ _ _ _ (near .0 .0) (near .1),
+      c .before .before .clear-words .ensures ∙ cut-ending _ _ _ _ (near .0 .0) (omega (arith, near .0 .1, c .before .before .before .before .before .before .before .pre .0 .there)) (near .1),
+    )
+
+pub remove-unary-medial-items-spec : {M : Type 1} → statement M
+remove-unary-medial-items-spec =
+    tie.close
+    (tie.spec
+    binary-end-requires
+    mul-clear-words
+    mul-clear-words-2
+    clear-words-requires
+    same-length
+    returns)
