@@ -1,11 +1,12 @@
 -- What a caller of steps 4 to 6 cites: they may be called on a well formed state, and leave one.
 use mathlib.Core.Path.{_≡_, sym, ap, ap₂, _∙_}
-use mathlib.Core.Bool.{true}
+use mathlib.Core.Bool.{true, false}
 use mathlib.Core.List.{List, [], _++_, append-nil}
 use Prim.Native.Nat.{ℕ, zero, suc, _+_, _-_, _*_, _/_, _≤_, _<_}
+use native.Mathlib.Decide.{decLt}
 use native.Mathlib.Omega.{arith}
 use lib.ListN.{length, getD, take, replicate}
-use borrow.Author.Tests.{ltb-true}
+use borrow.Author.Tests.{ltb-true, ltb-false}
 use Rattle.laws.specs.Bits.{Below}
 use Rattle.laws.specs.Records as records
 use Rattle.laws.proofs.Bits.{union-below}
@@ -19,15 +20,16 @@ use Rattle.grammar.proofs.Decoding.{in-count}
 use Rattle.parse.specs.declared.State.{State}
 use Rattle.parse.specs.Tells.{Clear}
 use Rattle.parse.specs.Words.{Words, maxItems, maxSets}
-use Rattle.parse.specs.WellFormed.{secondOf, placing, WellFormed}
+use Rattle.parse.specs.WellFormed.{secondOf, WellFormed}
 use Rattle.advance.specs.NewItems.{itemsFrom, sorted, binary}
 use Rattle.advance.specs.Order.{All, Stored}
 use Rattle.advance.specs.Advance.{predictions, padded, nextState, nextWords, newOf, reachOf, keptOf, hasRoom, withoutNew}
 use Rattle.advance.specs.Ready.{Shape, Ready}
 use Rattle.advance.proofs.Placing.{second-in}
-use Rattle.advance.proofs.Ordering.{Rises, Apart, all-both, sorted-rises, same-placing}
+use Rattle.advance.proofs.Ordering.{Rises, Differ, all-both, sorted-rises, differ-apart}
 use Rattle.advance.proofs.Padded.{zeros-word, clear-padded}
 use Rattle.advance.proofs.Sorting.{items-all}
+use Rattle.advance.proofs.Pruning.{kept-pruned, kept-all}
 use Rattle.advance.proofs.Following.{predictions-wide}
 use Rattle.advance.proofs.Advancing.{binary-cases, binary-all, binary-second, new-all, new-few}
 use Rattle.advance.proofs.Keeping.{Newcomer, below-zeros, well-formed-again}
@@ -63,21 +65,35 @@ ready n rules count table s v to w fit held room origins c seconds shape = recor
   shape = shape;
 }
 
+-- Where there is no room for the new set no set was to be dropped.
+pub full-keeps-all : (rules : List ℕ) (count : ℕ) (table : List (List ℕ)) (s : State) (v : Words) (to : ℕ) → Ready rules count table s v to
+    → hasRoom (rulesIn rules count) s v to ≡ false → keptOf (rulesIn rules count) s v to ≡ s .set
+full-keeps-all rules count table s v to h e = elim (decLt 1 (s .set - m)) [
+  | yes a ↦ absurd (omega (arith, kept-pruned (s .set) m a, ltb-false (keptOf (rulesIn rules count) s v to + 1) (length (v .rows) / rowWords) e, h .set-fits))
+  | no a ↦ kept-all (s .set) m (omega arith)
+]
+  where
+    m : ℕ
+    m = reachOf (rulesIn rules count) s v to
+
 -- Those with a second rise where all do.
 binary-rises : (rs : List Rule) {is : List Item} → Rises rs is → Rises rs (binary rs is)
 unfolding binary
 binary-rises rs Rises.empty = Rises.empty
 binary-rises rs (Rises.also {i} {is} a r) = binary-cases rs (Rises rs) i is (λ e. binary-rises rs r) (λ n. Rises.also (binary-all rs a) (binary-rises rs r))
 
--- Items at different places of a stretch are apart.
-items-apart : (rs : List Rule) (w : List ℕ) (from n : ℕ)
-    → ((p q : ℕ) → from ≤ p → p < q → q < from + n → placing rs (itemAt w p) ≡ placing rs (itemAt w q) → ⊥) → Apart rs (itemsFrom w from n)
+-- What step 3 gives beside that: the new items are distinct.
+pub record Distinct (w : List ℕ) (from to : ℕ) : Type 0 where
+  pub differ : (p q : ℕ) → from ≤ p → p < q → q < to → itemAt w p ≡ itemAt w q → ⊥
+
+-- The items of a stretch whose places hold different items differ.
+items-differ : (w : List ℕ) (from n : ℕ) → Distinct w from (from + n) → Differ (itemsFrom w from n)
 unfolding itemsFrom
-items-apart rs w from zero h = Apart.empty
-items-apart rs w from (suc n) h =
-    Apart.also
-    (items-all (λ (j : Item). placing rs (itemAt w from) ≡ placing rs j → ⊥) w (from + 1) n (λ q a b. h from q (omega arith) (omega arith) (omega arith)))
-    (items-apart rs w (from + 1) n (λ p q a b c. h p q (omega arith) b (omega arith)))
+items-differ w from zero h = Differ.empty
+items-differ w from (suc n) h =
+    Differ.also
+    (items-all (λ (j : Item). itemAt w from ≡ j → ⊥) w (from + 1) n (λ q a b. h .differ from q (omega arith) (omega arith) (omega arith)))
+    (items-differ w (from + 1) n (record { differ = λ p q a b c. h .differ p q (omega arith) b (omega arith) }))
 
 -- The new row has no bit that the table's rows have not.
 predictions-below : (n : ℕ) (rs : List Rule) (table : List (List ℕ)) {is : List Item} → ((k : ℕ) → k < maxSymbols → Below n (getD table k []))
@@ -86,10 +102,6 @@ unfolding predictions
 predictions-below n rs table h All.empty = below-zeros n (replicate rowWords 0) (zeros-word rowWords)
 predictions-below n rs table h (All.also {i} {is} l ls) =
     union-below n (predictions rs table is) (getD table (secondOf rs i) []) (predictions-below n rs table h ls) (h (secondOf rs i) l)
-
--- What step 3 gives beside that: the new items are distinct.
-pub record Distinct (w : List ℕ) (from to : ℕ) : Type 0 where
-  pub apart : (p q : ℕ) → from ≤ p → p < q → q < to → itemAt w p ≡ itemAt w q → ⊥
 
 module _ (n : ℕ) (rules : List ℕ) (count : ℕ) (table : List (List ℕ)) (s : State) (v : Words) (to : ℕ)
     (sets : WellFormed n (rulesIn rules count) s (withoutNew s v)) (h : Ready rules count table s v to)
@@ -101,23 +113,31 @@ module _ (n : ℕ) (rules : List ℕ) (count : ℕ) (table : List (List ℕ)) (s
   abbrev new : List Item
   new = newOf rs s v to
 
-  u32 : (p : ℕ) → s .items ≤ p → p < to → U32 (itemAt (v .items) p)
-  u32 p a b = record {
-    origin-fits = omega (arith, h .origins p a b, h .set-fits, few);
-    rule-fits = omega (arith, h .new .rules p a b, h .new .few);
-  }
+  abbrev stored : List Item
+  stored = itemsFrom (v .items) (s .items) (to - s .items)
 
-  rises : Rises rs new
-  rises =
-      binary-rises rs (sorted-rises rs (itemsFrom (v .items) (s .items) (to - s .items))
-      (items-apart rs (v .items) (s .items) (to - s .items)
-      (λ p q a b c e. distinct .apart p q a b (omega (arith, h .new .runs)) (same-placing rs (itemAt (v .items) p) (itemAt (v .items) q) (u32 p a (omega (arith, h .new .runs))) (u32 q (omega arith) (omega (arith, h .new .runs))) e))))
+  u32 : All U32 stored
+  u32 =
+      items-all U32 (v .items) (s .items) (to - s .items)
+      (λ p a b.
+      let inside : p < to = omega (arith, h .new .runs) in
+      record {
+        origin-fits = omega (arith, h .origins p a inside, h .set-fits, few);
+        rule-fits = omega (arith, h .new .rules p a inside, h .new .few);
+      })
+
+  differ : Differ stored
+  differ = items-differ (v .items) (s .items) (to - s .items) (record { differ = λ p q a b c. distinct .differ p q a b (omega (arith, h .new .runs)) })
+
+  -- The new set rises strictly by second, rule, origin.
+  pub rises : Rises rs new
+  rises = binary-rises rs (sorted-rises rs stored (differ-apart rs u32 differ))
 
   many : length rs ≡ count
   many = in-count rules 0 0 count
 
   seconds : All (λ (i : Item). secondOf rs i ≡ none → ⊥) new
-  seconds = binary-second rs (sorted rs (itemsFrom (v .items) (s .items) (to - s .items)))
+  seconds = binary-second rs (sorted rs stored)
 
   ruled : All (λ (i : Item). i .rule < count) new
   ruled = new-all rs {P = λ (i : Item). i .rule < count} (v .items) (s .items) to (h .new .rules)
