@@ -1,11 +1,11 @@
 -- The pass of a token on a well-formed state of an accepted grammar begins pending.
-use mathlib.Core.Path.{_≡_, refl, sym, ap, _∙_, subst}
-use mathlib.Core.List.{List, []}
-use Prim.Native.Nat.{ℕ, zero, suc, _+_, _-_, _*_, _/_, _≤_, _<_, min}
+use mathlib.Core.Path.{_≡_, sym, ap, subst}
+use mathlib.Core.List.{List}
+use Prim.Native.Nat.{ℕ, zero, suc, _+_, _-_, _*_, _/_, _≤_, _<_}
 use native.Mathlib.Decide.{decLt}
 use native.Mathlib.Numerals.{add-one}
 use native.Mathlib.Omega.{arith}
-use lib.ListN.{length, getD, take, length-take, List·getD-eq-default}
+use lib.ListN.{length, getD, length-take, List·getD-eq-default}
 use Rattle.laws.specs.Bits.{wordBits}
 use Rattle.bits.specs.Width.{rowWords}
 use Rattle.item.specs.Item.{itemWords, itemAt, keyAt}
@@ -16,10 +16,10 @@ use Rattle.parse.specs.declared.State.{State}
 use Rattle.parse.specs.Words.{Words, startOf, maxItems, maxSets, within, itemRoom, setRoom}
 use Rattle.parse.specs.WellFormed.{WellFormed, InSet, Fits, secondOf}
 use Rattle.completion.specs.Pass.{Pass, passOf}
-use Rattle.completion.specs.Ready.{RulesFit, IsSet, Rowed, Sound, Charted}
+use Rattle.completion.specs.Ready.{RulesFit, IsSet, Rowed}
 use Rattle.completion.proofs.Onward.{SpareQueue}
 use Rattle.completion.proofs.Through.{Inside}
-use Rattle.completion.proofs.Pending.{Grounds, Pending}
+use Rattle.completion.proofs.Grounds.{Grounds, Pending}
 
 -- The rules of an accepted grammar fit.
 pub accepted-rules-fit : (g : Grammar) → Accepted g → RulesFit (g .rules)
@@ -125,7 +125,8 @@ module _ {n : ℕ} {rs : List Rule} {st : State} {v : Words} (well : WellFormed 
           starts-fit = start-fits;
           ordered = begins-ordered;
         };
-        earlier = λ k p inside. well .fit k p (inside-set k p inside) (record { from = inside .from; up-to = inside .up-to }) .earlier;
+        earlier = λ k p from up-to.
+            well .fit k p (inside-set k p (record { from = from; up-to = up-to })) (record { from = from; up-to = up-to }) .earlier;
         heap = empty-heap (keyAt (v .items));
       }
 

@@ -1,30 +1,29 @@
 -- A pass stays sound and charted through every step, and nothing that it had is touched.
-use mathlib.Core.Path.{_≡_, refl, sym, ap, _∙_, subst}
-use mathlib.Core.Bool.{Bool, true, false, _&&_, not, _||_}
+use mathlib.Core.Path.{_≡_, sym, ap, subst}
+use mathlib.Core.Bool.{false}
 use mathlib.Core.List.{List}
-use Prim.Native.Nat.{ℕ, suc, _+_, _-_, _*_, _/_, _≤_, _<_}
-use native.Mathlib.Decide.{decLt, ℕ-discrete}
+use Prim.Native.Nat.{ℕ, _+_, _*_, _≤_, _<_}
+use native.Mathlib.Decide.{decLt}
 use native.Mathlib.Omega.{arith}
 use lib.ListN.{length, getD}
-use lib.Dec.{eqb}
-use borrow.Author.Tests.{eqb-true, eqb-false, eq-eqb, not-true, not-false}
 use Rattle.laws.proofs.Turns.{until-keeps}
-use Rattle.laws.proofs.Tests.{either-way}
 use Rattle.laws.proofs.Counts.{Every}
-use Rattle.item.specs.Item.{Item, itemWords, itemAt, originAt, ruleAt, keyAt, stored}
+use Rattle.item.specs.Item.{Item, itemAt, keyAt}
 use Rattle.item.proofs.Words.{stored-item}
 use Rattle.binary_heap.proofs.PopLaws.{popped-every}
-use Rattle.grammar.specs.Rules.{Rule, none, noRule}
+use Rattle.grammar.specs.Rules.{Rule}
 use Rattle.parse.specs.WellFormed.{leftOf, secondOf}
-use Rattle.completion.specs.Pass.{Pass, refused, andThen, store, enqueue}
+use Rattle.completion.specs.Pass.{Pass, andThen, store, enqueue}
 use Rattle.completion.specs.Complete.{completeMedial, completeMedialItems, completeUnary, completeUnaryPredictions, completeBinary, completeBinaryPredictions, complete}
 use Rattle.completion.specs.Sums.{greatest, sumEnds, nextSummand, popSum, completeSum, rests, completeAllSums}
 use Rattle.completion.specs.Ready.{IsSet, Sound, Charted}
-use Rattle.completion.proofs.Soundness.{store-sound, enqueue-sound, has-place}
+use Rattle.completion.proofs.Soundness.{store-sound, enqueue-sound}
 use Rattle.completion.proofs.Waiting.{store-place}
-use Rattle.completion.proofs.Entries.{entriesOf, storedPass, queuedPass, poppedPass, store-cases, enqueue-cases, then-cases, next-is, each-entry, every-entry, some-entries, popped-entries, popped-words}
+use Rattle.completion.proofs.Searching.{enqueue-count}
+use Rattle.completion.proofs.Turning.{sum-goes, not-resting}
+use Rattle.completion.proofs.Entries.{entriesOf, storedPass, poppedPass, store-cases, then-cases, next-is, each-entry, every-entry, some-entries, popped-entries, popped-words}
 use Rattle.completion.proofs.Onward.{Onward, onward-refl, onward-trans, onward-store, onward-enqueue, onward-next}
-use Rattle.completion.proofs.Through.{Begins, Inside, medial-keeps, medial-items-keep, unary-goes, unary-predictions-go, binary-goes, binary-predictions-go, complete-cases}
+use Rattle.completion.proofs.Through.{Inside, medial-keeps, medial-items-keep, unary-goes, unary-predictions-go, binary-goes, binary-predictions-go, complete-cases}
 
 -- Popping the greatest entry keeps a pass sound.
 pub next-sound : (s : Pass) → Sound s → 0 < s .at .queued → Sound (nextSummand s)
@@ -110,16 +109,13 @@ module _ (rs : List Rule) (starts : List ℕ) (s : Pass) where
             subst (Charts rs starts) (sym (stored-new k r t (steady .sound) p from up-to)) (record { is-rule = rule; is-set = set }));
       }
 
-  pub enqueue-items : (place : ℕ) (t : Pass) → enqueue place t .at .items ≡ t .at .items
-  enqueue-items place t = enqueue-cases (λ (u : Pass). u .at .items ≡ t .at .items) t place (λ free. refl) refl
-
   pub steady-enqueue : (place : ℕ) (t : Pass) → place < t .at .items → Steady rs starts s t → Steady rs starts s (enqueue place t)
   steady-enqueue place t there steady =
       let onward : Onward t (enqueue place t) = onward-enqueue place t (steady .sound .queued-fit) in
       record {
         onward = onward-trans (steady .onward) onward;
         sound = enqueue-sound place t (steady .sound) there;
-        charted = onward-charted (steady .charted) onward (λ p from up-to. absurd (omega (arith, enqueue-items place t)));
+        charted = onward-charted (steady .charted) onward (λ p from up-to. absurd (omega (arith, enqueue-count place t)));
       }
 
   pub steady-next : (t : Pass) → 0 < t .at .queued → Steady rs starts s t → Steady rs starts s (nextSummand t)
@@ -175,37 +171,21 @@ module _ (rs : List Rule) (starts : List ℕ) (s : Pass) where
           steady-binary-predictions (completeUnaryPredictions rs rows k x (completeMedialItems rs starts k x t))
           (steady-unary-predictions (completeMedialItems rs starts k x t) (steady-medial-items t steady)))
 
-  -- A sum that has not ended has a greatest entry, of its origin and left side.
+  -- A sum that has not ended has a greatest entry.
   pub goes-on-sum : (k x : ℕ) (t : Pass) → sumEnds rs k x t ≡ false → 0 < t .at .queued
-  goes-on-sum k x t = by-count (eqb (t .at .queued) 0) refl
-    where
-      by-count : (b : Bool) → eqb (t .at .queued) 0 ≡ b → (b || not (eqb (greatest t .origin) k && eqb (leftOf rs (greatest t)) x)) ≡ false → 0 < t .at .queued
-      by-count true none ends = absurd (let z : _≡_ {A = ℕ} 0 1 = cc in omega arith)
-      by-count false some ends = let not-none : t .at .queued ≡ 0 → ⊥ = eqb-false (t .at .queued) 0 some in omega arith
+  goes-on-sum k x t = sum-goes rs k x t
 
   -- Popping a sum keeps all of it.
   pub steady-pop : (k x : ℕ) (t : Pass) → Steady rs starts s t → Steady rs starts s (popSum rs k x t)
   unfolding popSum
   steady-pop k x t steady =
-      until-keeps (sumEnds rs k x) nextSummand (Steady rs starts s) (λ u goes. steady-next u (goes-on-sum k x u goes)) (t .at .queued) t steady
+      until-keeps (sumEnds rs k x) nextSummand (Steady rs starts s) (λ u goes. steady-next u (sum-goes rs k x u goes)) (t .at .queued) t steady
 
   -- The greatest entry is a place of an item, with a set for its origin and a rule.
   pub greatest-charts : (t : Pass) → 0 < t .at .queued → Steady rs starts s t → Charts rs starts (greatest t)
   greatest-charts t some steady =
       let there : getD (t .queue) 0 0 < t .at .items = steady .sound .entries 0 some in
       record { is-rule = steady .charted .rules (getD (t .queue) 0 0) there; is-set = steady .charted .origins (getD (t .queue) 0 0) there }
-
-  -- A pass that does not rest was not refused, and its queue is not empty.
-  pub not-resting : (t : Pass) → rests t ≡ false → (t .at .stopped ≡ 0) × (0 < t .at .queued)
-  not-resting t = by-tests (eqb (t .at .stopped) 0) (eqb (t .at .queued) 0) refl refl
-    where
-      by-tests : (a b : Bool) → eqb (t .at .stopped) 0 ≡ a → eqb (t .at .queued) 0 ≡ b → (not a || b) ≡ false → (t .at .stopped ≡ 0) × (0 < t .at .queued)
-      by-tests true false on some goes =
-          let not-none : t .at .queued ≡ 0 → ⊥ = eqb-false (t .at .queued) 0 some in
-          (eqb-true (t .at .stopped) 0 on, omega arith)
-      by-tests true true on none goes = absurd (let z : _≡_ {A = ℕ} 0 1 = cc in omega arith)
-      by-tests false false off some goes = absurd (let z : _≡_ {A = ℕ} 0 1 = cc in omega arith)
-      by-tests false true off none goes = absurd (let z : _≡_ {A = ℕ} 0 1 = cc in omega arith)
 
   module _ (rows : List ℕ) where
     -- A sum keeps all of it, and so do all sums.

@@ -1,29 +1,30 @@
 -- The items that a pass stores are distinct, each of a rule and of an origin up to the latest set.
 use mathlib.Core.Path.{_≡_, refl, sym, ap, _∙_, subst}
-use mathlib.Core.Bool.{Bool, true, false}
 use mathlib.Core.List.{List}
 use mathlib.Core.Logic.{_⊎_, inl, inr}
-use Prim.Native.Nat.{ℕ, zero, suc, _+_, _*_, _≤_, _<_}
-use native.Mathlib.Decide.{decLt, ℕ-discrete}
+use Prim.Native.Nat.{ℕ, suc, _+_, _*_, _≤_, _<_}
+use native.Mathlib.Decide.{decLt}
 use native.Mathlib.Omega.{arith}
 use lib.ListN.{length, getD}
-use Rattle.laws.specs.Turns.{until}
 use Rattle.laws.proofs.Turns.{until-keeps}
 use Rattle.laws.proofs.Counts.{Every}
-use Rattle.item.specs.Item.{Item, itemAt, originAt, ruleAt, keyAt, keyOf}
+use Rattle.item.specs.Item.{Item, itemAt, originAt, ruleAt, keyOf}
 use Rattle.grammar.specs.Rules.{Rule, none, noRule}
-use Rattle.parse.specs.WellFormed.{leftOf, ruleOf, secondOf}
-use Rattle.completion.specs.Pass.{Pass, andThen, store, enqueue}
+use Rattle.parse.specs.WellFormed.{leftOf, ruleOf}
+use Rattle.completion.specs.Pass.{Pass, store, enqueue}
 use Rattle.completion.specs.Complete.{completeMedialItems, completeUnaryPredictions, completeBinaryPredictions, complete}
-use Rattle.completion.specs.Sums.{greatest, nextSummand, sumEnds, popSum, completeSum, rests, completeAllSums}
-use Rattle.completion.specs.Ready.{IsSet, Sound, Charted}
+use Rattle.completion.specs.Sums.{greatest, popSum, completeSum, rests, completeAllSums}
+use Rattle.completion.specs.Ready.{IsSet, Sound}
 use Rattle.completion.proofs.Waiting.{store-place}
+use Rattle.completion.proofs.Searching.{enqueue-count}
+use Rattle.completion.proofs.Turning.{pop-items, not-resting}
 use Rattle.completion.proofs.Entries.{entriesOf, entries-length, each-entry, then-cases, store-cases}
 use Rattle.completion.proofs.Onward.{Onward, onward-store, onward-enqueue}
-use Rattle.completion.proofs.Through.{Begins, Inside, medial-items-keep, unary-predictions-go, binary-predictions-go, complete-cases}
-use Rattle.completion.proofs.Charting.{Charts, Steady, enqueue-items, stored-new, steady-store, steady-enqueue, steady-both, steady-medial-items, not-resting, greatest-charts}
-use Rattle.completion.proofs.Heaped.{Ordered, Heaped}
-use Rattle.completion.proofs.Pending.{Grounds, Pending, Lower, lower-down, lower-other, pending-steady, pending-sum, pop-lower, sum-lower, complete-lower, first-lower, first-pending}
+use Rattle.completion.proofs.Through.{Begins, medial-items-keep, unary-predictions-go, binary-predictions-go, complete-cases}
+use Rattle.completion.proofs.Charting.{Charts, Steady, stored-new, steady-store, steady-enqueue, steady-medial-items, greatest-charts}
+use Rattle.completion.proofs.Heaped.{Heaped}
+use Rattle.completion.proofs.Grounds.{Grounds, Pending}
+use Rattle.completion.proofs.Pending.{Lower, lower-down, lower-other, pending-steady, pending-sum, pop-lower, complete-lower, first-pending}
 use Rattle.completion.proofs.Once.{AllLower, heaped-all, greatest-lower}
 
 -- The items at the places from `from` on are of origin `k` and of rules that begin with `x` and have `Used`, no rule twice.
@@ -120,7 +121,7 @@ module _ (rs : List Rule) (starts rows : List ℕ) (s : Pass) (k x : ℕ) (set :
   pub medial-items-none : (t : Pass) → completeMedialItems rs starts k x t .at .items ≡ t .at .items
   medial-items-none t =
       medial-items-keep rs starts rows k x (λ (u : Pass). u .at .items ≡ t .at .items)
-      (λ p u inside second on same. enqueue-items rs starts s p u ∙ same) t refl
+      (λ p u inside second on same. enqueue-count p u ∙ same) t refl
 
   storing-store : (Used Used′ : ℕ → Type 0) (from r : ℕ) (t : Pass) → Begins rs rows k x r → ((q : ℕ) → Used q → Used′ q) → Used′ r → (Used r → ⊥)
       → Storing rs starts s k x Used from t → Storing rs starts s k x Used′ from (store k r t)
@@ -137,10 +138,10 @@ module _ (rs : List Rule) (starts rows : List ℕ) (s : Pass) (k x : ℕ) (set :
   storing-enqueue Used from place t there storing =
       record {
         steady = steady-enqueue rs starts s place t there (storing .steady);
-        has = omega (arith, storing .has, enqueue-items rs starts s place t);
+        has = omega (arith, storing .has, enqueue-count place t);
         of-pair =
             of-pair-onward rs k x from Used t (enqueue place t) (onward-enqueue place t (storing .steady .sound .queued-fit))
-            (enqueue-items rs starts s place t) (storing .of-pair);
+            (enqueue-count place t) (storing .of-pair);
       }
 
   storing-more : (Used Used′ : ℕ → Type 0) (from : ℕ) (t : Pass) → ((q : ℕ) → Used q → Used′ q) → Storing rs starts s k x Used from t
@@ -195,11 +196,6 @@ module _ (rs : List Rule) (starts rows : List ℕ) (s : Pass) (k x : ℕ) (set :
       of-pair-more rs k x (t .at .items) (OneOr rs (length rs)) (λ r. Unit {0})
       (completeBinaryPredictions rs rows k x (completeUnaryPredictions rs rows k x (completeMedialItems rs starts k x t))) (λ r used. tt)
       (storing-binary (t .at .items) (completeUnaryPredictions rs rows k x (completeMedialItems rs starts k x t)) second .of-pair))
-
--- Popping a sum stores nothing.
-pub pop-items : (rs : List Rule) (k x : ℕ) (s : Pass) → popSum rs k x s .at .items ≡ s .at .items
-unfolding popSum nextSummand
-pop-items rs k x s = until-keeps (sumEnds rs k x) nextSummand (λ (u : Pass). u .at .items ≡ s .at .items) (λ u goes same. same) (s .at .queued) s refl
 
 -- The symbol that the rule of an item begins with.
 abbrev pub firstOf : List Rule → Item → ℕ
@@ -324,7 +320,7 @@ module _ {rs : List Rule} {starts rows : List ℕ} (grounds : Grounds rs starts 
     fresh-all-sums s pending fresh =
         until-keeps rests (completeSum rs starts rows) Both
         (λ t goes both.
-        let some : 0 < t .at .queued = not-resting rs starts t t goes .1 in
+        let some : 0 < t .at .queued = not-resting t goes .1 in
         record { pending = pending-sum grounds t (both .pending) some; fresh = fresh-sum t (both .pending) some (both .fresh) })
         (length starts * length rs) s (record { pending = pending; fresh = fresh }) .fresh
 

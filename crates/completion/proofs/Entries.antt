@@ -1,10 +1,10 @@
 -- The queue of a pass as the list of its entries, and what each step of a pass makes of it.
-use mathlib.Core.Path.{_≡_, refl, sym, ap, _∙_, subst}
-use mathlib.Core.List.{List, [], _∷_, _++_}
-use Prim.Native.Nat.{ℕ, _+_, _-_, _*_, _/_, _≤_, _<_}
+use mathlib.Core.Path.{_≡_, sym, ap, _∙_, subst}
+use mathlib.Core.List.{List, _∷_, _++_}
+use Prim.Native.Nat.{ℕ, _+_, _-_, _/_, _≤_, _<_}
 use native.Mathlib.Decide.{decLt, ℕ-discrete}
 use native.Mathlib.Omega.{arith}
-use lib.ListN.{length, getD, take, drop, length-append, length-drop, List·getD-append}
+use lib.ListN.{length, getD, take, drop, length-append, length-drop}
 use lib.Seq.{length-take-le, getD-take, take-at, getD-append-add, getD-drop}
 use borrow.Author.Tests.{lt-ltb}
 use Rattle.laws.proofs.Counts.{Every}

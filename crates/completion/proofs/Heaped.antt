@@ -1,28 +1,28 @@
 -- The entries of the queue stay a heap through every step, and keep what each of them has.
 use mathlib.Core.Path.{_≡_, refl, sym, ap, _∙_, subst}
-use mathlib.Core.Bool.{true, false}
 use mathlib.Core.List.{List}
-use Prim.Native.Nat.{ℕ, suc, _+_, _-_, _/_, _≤_, _<_}
+use Prim.Native.Nat.{ℕ, _+_, _<_}
 use native.Mathlib.Omega.{arith}
 use lib.ListN.{length, getD}
 use Rattle.laws.proofs.Turns.{until-keeps}
 use Rattle.laws.proofs.Counts.{Every}
-use Rattle.item.specs.Item.{Item, itemAt, keyAt, keyOf}
-use Rattle.binary_heap.specs.Sift.{entryAt, parent}
+use Rattle.item.specs.Item.{Item, itemAt, keyAt}
+use Rattle.binary_heap.specs.Sift.{parent}
 use Rattle.binary_heap.specs.Heap.{Heap}
 use Rattle.binary_heap.proofs.PushLaws.{pushed-heap, pushed-every}
 use Rattle.binary_heap.proofs.PopLaws.{popped-heap, popped-every}
 use Rattle.grammar.specs.Rules.{Rule, none, noRule}
 use Rattle.parse.specs.WellFormed.{secondOf}
-use Rattle.completion.specs.Pass.{Pass, refused, andThen, store, enqueue}
+use Rattle.completion.specs.Pass.{Pass, andThen, store, enqueue}
 use Rattle.completion.specs.Complete.{completeMedialItems, completeUnaryPredictions, completeBinaryPredictions, complete}
 use Rattle.completion.specs.Sums.{sumEnds, nextSummand, popSum}
 use Rattle.completion.specs.Ready.{IsSet, Sound, Charted}
 use Rattle.completion.proofs.Waiting.{store-place}
-use Rattle.completion.proofs.Entries.{entriesOf, storedPass, queuedPass, poppedPass, store-cases, enqueue-cases, then-cases, next-is, every-entry, some-entries, queued-entries, popped-entries}
+use Rattle.completion.proofs.Turning.{sum-goes}
+use Rattle.completion.proofs.Entries.{entriesOf, queuedPass, poppedPass, store-cases, enqueue-cases, then-cases, next-is, every-entry, some-entries, queued-entries, popped-entries}
 use Rattle.completion.proofs.Onward.{Onward, onward-key, onward-store}
 use Rattle.completion.proofs.Through.{Begins, Inside, medial-items-keep, unary-predictions-go, binary-predictions-go, complete-cases}
-use Rattle.completion.proofs.Charting.{Steady, steady-refl, steady-store, steady-enqueue, steady-next, stored-new, goes-on-sum}
+use Rattle.completion.proofs.Charting.{Steady, steady-store, steady-enqueue, steady-next, stored-new}
 
 -- A heap by one key is a heap by another that gives its entries the same.
 pub heap-same-keys : (key key′ : ℕ → ℕ) (h : List ℕ) → Every (λ v. key′ v ≡ key v) h → Heap key h → Heap key′ h
@@ -134,7 +134,7 @@ module _ (rs : List Rule) (starts : List ℕ) (Q : Item → Type 0) (s : Pass) w
   pub heaped-pop : (k x : ℕ) (t : Pass) → Heaped rs starts Q s t → Heaped rs starts Q s (popSum rs k x t)
   unfolding popSum
   heaped-pop k x t heaped =
-      until-keeps (sumEnds rs k x) nextSummand (Heaped rs starts Q s) (λ u goes. heaped-next u (goes-on-sum rs starts s k x u goes)) (t .at .queued) t heaped
+      until-keeps (sumEnds rs k x) nextSummand (Heaped rs starts Q s) (λ u goes. heaped-next u (sum-goes rs k x u goes)) (t .at .queued) t heaped
 
   -- Completing keeps it, if what a completion of set `k` and symbol `x` queues has `Q`.
   module _ (rows : List ℕ) (k x : ℕ) (set : IsSet starts k) (charted : Charted rs starts s)

@@ -1,8 +1,8 @@
 -- Each pair of an origin and a left side is completed once at the most, after its last summand.
-use mathlib.Core.Path.{_≡_, refl, sym, ap, _∙_, subst}
-use mathlib.Core.Bool.{Bool, true, false}
+use mathlib.Core.Path.{_≡_, refl, sym, ap, _∙_}
+use mathlib.Core.Bool.{true, false}
 use mathlib.Core.List.{List, [], _∷_}
-use Prim.Native.Nat.{ℕ, zero, suc, _+_, _*_, _≤_, _<_}
+use Prim.Native.Nat.{ℕ, zero, suc, _≤_, _<_}
 use native.Mathlib.Decide.{decLt, ℕ-discrete}
 use native.Mathlib.Omega.{arith}
 use lib.ListN.{length, getD}
@@ -15,12 +15,14 @@ use Rattle.grammar.specs.Rules.{Rule, noRule}
 use Rattle.parse.specs.WellFormed.{leftOf}
 use Rattle.completion.specs.Pass.{Pass}
 use Rattle.completion.specs.Complete.{complete}
-use Rattle.completion.specs.Sums.{greatest, completeSum, rests, completeAllSums}
+use Rattle.completion.specs.Sums.{greatest, completeSum, rests}
 use Rattle.completion.specs.Ready.{IsSet}
+use Rattle.completion.proofs.Turning.{not-resting}
 use Rattle.completion.proofs.Entries.{entriesOf, each-entry}
-use Rattle.completion.proofs.Charting.{Charts, not-resting, greatest-charts}
-use Rattle.completion.proofs.Heaped.{Ordered, Heaped}
-use Rattle.completion.proofs.Pending.{Grounds, Pending, Lower, lower-down, lower-other, pending-steady, pending-sum, sum-lower, first-lower, first-pending}
+use Rattle.completion.proofs.Charting.{Charts, greatest-charts}
+use Rattle.completion.proofs.Heaped.{Heaped}
+use Rattle.completion.proofs.Grounds.{Grounds, Pending}
+use Rattle.completion.proofs.Pending.{Lower, lower-down, lower-other, pending-steady, pending-sum, sum-lower, first-lower, first-pending}
 
 -- A set and a symbol.
 pub record Pair : Type 0 where
@@ -114,7 +116,7 @@ module _ {rs : List Rule} {starts rows : List ℕ} (grounds : Grounds rs starts 
 
   under-sum : (k x : ℕ) (s : Pass) → rests s ≡ false → Under k x s → Under k x (completeSum rs starts rows s)
   under-sum k x s goes under =
-      let some : 0 < s .at .queued = not-resting rs starts s s goes .1 in
+      let some : 0 < s .at .queued = not-resting s goes .1 in
       record {
         pending = pending-sum grounds s (under .pending) some;
         lower = sum-keeps-lower s (under .pending) some k x (greatest-lower s (under .pending) some k x (under .lower));
@@ -168,7 +170,7 @@ module _ {rs : List Rule} {starts rows : List ℕ} (grounds : Grounds rs starts 
       (sum-keeps-lower grounds s pending some k x (greatest-lower grounds s pending some k x lower)) in
       either-way (rests s) (λ at-rest. rw (pairsCompleted, at-rest) (record { beneath = λ i there. absurd (omega arith) }))
       (λ goes.
-      let some : 0 < s .at .queued = not-resting rs starts s s goes .1 in
+      let some : 0 < s .at .queued = not-resting s goes .1 in
       let first : Beneath rs (record { set = k; symbol = x }) (pairOf rs (greatest s)) =
       lower-beneath grounds k x (greatest s) (charted grounds s pending some .is-rule) (greatest-lower grounds s pending some k x lower) in
       rw (pairsCompleted, goes) (record { beneath = by-place (pairOf rs (greatest s)) (pairsCompleted rs starts rows n (completeSum rs starts rows s)) first (next some) }))
@@ -187,7 +189,7 @@ module _ {rs : List Rule} {starts rows : List ℕ} (grounds : Grounds rs starts 
       λ some. pairs-fall n (completeSum rs starts rows s) (pending-sum grounds s pending some) in
       either-way (rests s) (λ at-rest. rw (pairsCompleted, at-rest) done)
       (λ goes.
-      let some : 0 < s .at .queued = not-resting rs starts s s goes .1 in
+      let some : 0 < s .at .queued = not-resting s goes .1 in
       rw (pairsCompleted, goes)
       (then
       (pairs-beneath n (greatest s .origin) (leftOf rs (greatest s)) (completeSum rs starts rows s) (pending-sum grounds s pending some)

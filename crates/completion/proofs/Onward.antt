@@ -1,11 +1,11 @@
 -- What no step of a pass changes: the items that are there, the words behind them, and the numbers of words.
 use mathlib.Core.Path.{_≡_, refl, sym, ap, _∙_, subst}
-use mathlib.Core.List.{List}
 use Prim.Native.Nat.{ℕ, _+_, _-_, _*_, _/_, _≤_, _<_}
 use native.Mathlib.Decide.{decLt, ℕ-discrete}
 use native.Mathlib.Omega.{arith}
-use lib.ListN.{length, getD}
-use Rattle.item.specs.Item.{itemWords, itemAt, keyAt, keyOf, stored}
+use lib.ListN.{length, getD, take, length-take}
+use lib.Seq.{ext-getD, getD-take}
+use Rattle.item.specs.Item.{Item, itemWords, itemAt, keyAt, keyOf}
 use Rattle.item.proofs.Words.{stored-length, stored-item-other, stored-other}
 use Rattle.completion.specs.Pass.{Pass, refused, store, enqueue, itemsFull, queueFull}
 use Rattle.completion.specs.Sums.{nextSummand}
@@ -49,6 +49,24 @@ onward-trans {s} {t} {u} a b =
 -- Places of items keep their keys.
 pub onward-key : {s t : Pass} → Onward s t → (p : ℕ) → p < s .at .items → keyAt (t .items) p ≡ keyAt (s .items) p
 onward-key o p there = ap keyOf (o .same-items p there)
+
+-- The item words before the items that were stored are as they were.
+pub onward-words : {s t : Pass} → Onward s t → (i : ℕ) → i < itemWords * s .at .items → getD (t .items) i 0 ≡ getD (s .items) i 0
+onward-words {s} {t} onward i there =
+    let same : itemAt (t .items) (i / itemWords) ≡ itemAt (s .items) (i / itemWords) = onward .same-items (i / itemWords) (omega arith) in
+    elim (ℕ-discrete (itemWords * (i / itemWords)) i) [
+      | yes origin ↦ subst (λ (n : ℕ). getD (t .items) n 0 ≡ getD (s .items) n 0) origin (ap (λ (i : Item). i .origin) same)
+      | no other ↦
+          (let rule : itemWords * (i / itemWords) + 1 ≡ i = omega arith in
+          subst (λ (n : ℕ). getD (t .items) n 0 ≡ getD (s .items) n 0) rule (ap (λ (i : Item). i .rule) same))
+    ]
+
+pub onward-take : {s t : Pass} → Onward s t → (n : ℕ) → n ≤ itemWords * s .at .items → take n (t .items) ≡ take n (s .items)
+onward-take {s} {t} onward n few =
+    ext-getD 0 (take n (t .items)) (take n (s .items)) (omega (arith, length-take n (t .items), length-take n (s .items), onward .item-words))
+    (λ i there.
+    let below : i < n = omega (arith, length-take n (t .items)) in
+    getD-take n (t .items) i 0 below ∙ onward-words onward i (omega arith) ∙ sym (getD-take n (s .items) i 0 below))
 
 pub onward-refused : (number : ℕ) (s : Pass) → Onward s (refused number s)
 onward-refused number s =

@@ -1,26 +1,25 @@
 -- Steps 2 and 3 as a whole: what a pass leaves.
-use mathlib.Core.Path.{_≡_, refl, sym, ap, ap₂, _∙_, subst}
+use mathlib.Core.Path.{_≡_, refl, ap₂, _∙_}
 use mathlib.Core.List.{List}
-use Prim.Native.Nat.{ℕ, _+_, _*_, _/_, _≤_, _<_}
+use Prim.Native.Nat.{ℕ, _*_, _≤_, _<_}
 use native.Mathlib.Omega.{arith}
 use lib.ListN.{length, getD}
 use Rattle.item.specs.Item.{Item, itemWords, itemAt, originAt, ruleAt}
-use Rattle.bits.specs.Width.{rowWords}
 use Rattle.grammar.specs.Rules.{Rule, Grammar}
 use Rattle.grammar.specs.Accepted.{Accepted, maxRules}
 use Rattle.parse.specs.declared.State.{State}
 use Rattle.parse.specs.Words.{Words, maxItems, maxSets}
-use Rattle.parse.specs.WellFormed.{WellFormed, placing, secondOf}
-use Rattle.completion.specs.Pass.{Pass, itemsFull, queueFull}
+use Rattle.parse.specs.WellFormed.{WellFormed, placing}
+use Rattle.completion.specs.Pass.{Pass}
 use Rattle.completion.specs.Complete.{complete}
 use Rattle.completion.specs.Sums.{completeAllSums}
 use Rattle.completion.specs.Ready.{IsSet, Rowed, Sound, Charted}
 use Rattle.completion.proofs.Onward.{Onward, SpareQueue}
 use Rattle.completion.proofs.Charting.{Steady, steady-all-sums}
-use Rattle.completion.proofs.Heaped.{Heaped}
-use Rattle.completion.proofs.Pending.{Grounds, Pending, first-lower, first-pending}
+use Rattle.completion.proofs.Grounds.{Grounds, Pending}
+use Rattle.completion.proofs.Pending.{first-lower, first-pending}
 use Rattle.completion.proofs.Distinct.{Fresh, pass-fresh}
-use Rattle.completion.proofs.Refusals.{Stops, Ends, on, stops-complete, all-sums-end}
+use Rattle.completion.proofs.Refusals.{Ends, on, stops-complete, all-sums-end}
 use Rattle.completion.proofs.Beginning.{beginning, accepted-grounds, begins-pending, is-set}
 
 -- Pass `t` is what steps 2 and 3 made of pass `s`, with `e` the latest set.

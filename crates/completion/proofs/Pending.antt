@@ -1,19 +1,18 @@
 -- Why the sums of a pass end: what is left in the queue after a sum is below that sum's pair.
 use mathlib.Core.Path.{_≡_, refl, sym, ap, _∙_, subst}
-use mathlib.Core.Bool.{Bool, true, false, _&&_, not, _||_}
+use mathlib.Core.Bool.{true, false}
 use mathlib.Core.List.{List}
-use Prim.Native.Nat.{ℕ, suc, _+_, _-_, _*_, _/_, _≤_, _<_}
+use Prim.Native.Nat.{ℕ, suc, _+_, _*_, _≤_, _<_}
 use native.Mathlib.Nat.{mul-le-mul-right, suc-mul}
 use native.Mathlib.Decide.{decLt, ℕ-discrete}
 use native.Mathlib.Omega.{arith}
 use lib.ListN.{length, getD}
 use lib.Dec.{eqb}
-use borrow.Author.Tests.{eqb-true, eqb-false, eq-eqb, ne-eqb}
+use borrow.Author.Tests.{eq-eqb, ne-eqb}
 use Rattle.laws.specs.Turns.{until}
-use Rattle.laws.proofs.Turns.{until-keeps, until-ends, until-enough}
+use Rattle.laws.proofs.Turns.{until-keeps, until-rests, until-turns, until-ends, until-enough}
 use Rattle.laws.proofs.Counts.{Every}
 use Rattle.item.specs.Item.{Item, itemAt, originAt, keyAt, keyOf}
-use Rattle.binary_heap.specs.Heap.{Heap, top}
 use Rattle.binary_heap.proofs.Top.{top-greatest}
 use Rattle.grammar.specs.Rules.{Rule, none, noRule}
 use Rattle.grammar.specs.Accepted.{maxRules}
@@ -21,30 +20,13 @@ use Rattle.parse.specs.WellFormed.{leftOf}
 use Rattle.completion.specs.Pass.{Pass}
 use Rattle.completion.specs.Complete.{complete}
 use Rattle.completion.specs.Sums.{greatest, sumEnds, nextSummand, popSum, completeSum, rests, completeAllSums}
-use Rattle.completion.specs.Ready.{IsSet, RulesFit, Rowed, Sound, Charted}
+use Rattle.completion.specs.Ready.{IsSet}
+use Rattle.completion.proofs.Grounds.{Grounds, Pending}
+use Rattle.completion.proofs.Turning.{sum-goes, sum-ended, not-resting, goes}
 use Rattle.completion.proofs.Entries.{entriesOf, entries-length, entry-at, each-entry}
-use Rattle.completion.proofs.Onward.{Onward}
-use Rattle.completion.proofs.Through.{Begins, Inside}
-use Rattle.completion.proofs.Charting.{Charts, Steady, steady-refl, steady-next, goes-on-sum, not-resting, greatest-charts}
-use Rattle.completion.proofs.Heaped.{Ordered, Heaped, heaped-pop, heaped-complete}
-
--- What the sums of a pass rest on and no step changes: the rules of an accepted grammar, and a start for each row.
-pub record Grounds (rs : List Rule) (starts rows : List ℕ) : Type 0 where
-  pub rules-fit : RulesFit rs
-  pub rowed : Rowed starts rows
-  -- rules of one left side are adjacent
-  pub adjacent :
-      (q r s : ℕ) → q < r → r < s → s < length rs → getD rs q noRule .left ≡ getD rs s noRule .left → getD rs q noRule .left ≡ getD rs r noRule .left
-  -- where A ::= B alone, every rule of B has a higher number
-  pub unary-below :
-      (r s : ℕ) → r < length rs → s < length rs → getD rs r noRule .second ≡ none → getD rs s noRule .left ≡ getD rs r noRule .first → r < s
-
--- A pass with sums to come: sound and charted, each item of set `k` with an origin below `k`, its entries a heap.
-pub record Pending (rs : List Rule) (starts : List ℕ) (s : Pass) : Type 0 where
-  pub sound : Sound s
-  pub charted : Charted rs starts s
-  pub earlier : (k p : ℕ) → Inside starts k p → originAt (s .items) p < k
-  pub heap : Heap (keyAt (s .items)) (entriesOf s)
+use Rattle.completion.proofs.Through.{Begins}
+use Rattle.completion.proofs.Charting.{Charts, Steady, steady-refl, steady-next, greatest-charts}
+use Rattle.completion.proofs.Heaped.{Heaped, heaped-pop, heaped-complete}
 
 -- An item comes below the pair of set `k` and symbol `x`: its origin is not above `k`, and it is below every rule of `x` at `k`.
 pub record Lower (rs : List Rule) (k x : ℕ) (i : Item) : Type 0 where
@@ -123,10 +105,10 @@ module _ {rs : List Rule} {starts : List ℕ} (s : Pass) (pending : Pending rs s
       record {
         sound = heaped .steady .sound;
         charted = heaped .steady .charted;
-        earlier = λ k p inside.
+        earlier = λ k p from up-to.
             let same : originAt (t .items) p ≡ originAt (s .items) p =
-            ap (λ (i : Item). i .origin) (heaped .steady .onward .same-items p (omega (arith, inside .up-to, pending .charted .starts-fit (k + 1)))) in
-            omega (arith, pending .earlier k p inside);
+            ap (λ (i : Item). i .origin) (heaped .steady .onward .same-items p (omega (arith, pending .charted .starts-fit (k + 1)))) in
+            omega (arith, pending .earlier k p from up-to);
         heap = heaped .ordered .heap;
       }
 
@@ -138,7 +120,7 @@ module _ {rs : List Rule} {starts rows : List ℕ} (grounds : Grounds rs starts 
       heaped-complete rs starts (Lower rs k x) s rows k x set (pending .charted)
       (λ p inside second.
       lower-earlier (grounds .rules-fit .few-rules)
-      (pending .charted .rules p (omega (arith, inside .up-to, pending .charted .starts-fit (k + 1)))) (pending .earlier k p inside))
+      (pending .charted .rules p (omega (arith, inside .up-to, pending .charted .starts-fit (k + 1)))) (pending .earlier k p (inside .from) (inside .up-to)))
       (λ r begins one. lower-unary grounds begins one)
 
   -- The first completion of a pass, from an empty queue.
@@ -156,14 +138,6 @@ module _ {rs : List Rule} {starts rows : List ℕ} (grounds : Grounds rs starts 
   pub first-pending : s .at .queued ≡ 0 → Pending rs starts (complete rs starts rows k x s)
   first-pending none = pending-onward s pending (complete rs starts rows k x s) (first-lower none)
 
--- A sum that has ended: the queue is empty, or its greatest entry is of another origin or left side.
-pub sum-ended : (rs : List Rule) (k x : ℕ) (s : Pass) → sumEnds rs k x s ≡ true → 0 < s .at .queued
-    → greatest s .origin ≡ k → leftOf rs (greatest s) ≡ x → ⊥
-sum-ended rs k x s ends some origin left =
-    let z : _≡_ {A = Bool} true false = sym ends ∙ rw (ne-eqb (s .at .queued) 0 (λ e. omega arith), eq-eqb (greatest s .origin) k origin, eq-eqb (leftOf rs (greatest s)) x left) refl in
-    let z : _≡_ {A = ℕ} 0 1 = cc in
-    omega arith
-
 module _ {rs : List Rule} {starts rows : List ℕ} (grounds : Grounds rs starts rows) (s : Pass) (pending : Pending rs starts s)
     (some : 0 < s .at .queued) where
   -- Popping a sum goes on until it ends.
@@ -171,8 +145,8 @@ module _ {rs : List Rule} {starts rows : List ℕ} (grounds : Grounds rs starts 
   unfolding popSum nextSummand
   pop-ended k x =
       until-ends (sumEnds rs k x) nextSummand (Steady rs starts s) (λ u. u .at .queued)
-      (λ u goes. steady-next rs starts s u (goes-on-sum rs starts s k x u goes))
-      (λ u goes steady. let more : 0 < u .at .queued = goes-on-sum rs starts s k x u goes in omega arith)
+      (λ u goes. steady-next rs starts s u (sum-goes rs k x u goes))
+      (λ u goes steady. let more : 0 < u .at .queued = sum-goes rs k x u goes in omega arith)
       (s .at .queued) s (pending-steady s pending) (omega arith)
 
   -- What is left after the sum is not above its first summand.
@@ -288,17 +262,17 @@ left-falls {rs} {starts} {rows} grounds s pending some = by-count (completeSum r
                 left-some rs s some,
                 left-some rs t more,
                 rank-falls (length rs) (greatest s .origin) (greatest s .rule) (greatest t .origin) (greatest t .rule)
-                (greatest-charts rs starts s t more (heaped .steady) .is-rule) (lower .up-to) (lower .below (greatest s .rule) (charts .is-rule) refl),
+                    (greatest-charts rs starts s t more (heaped .steady) .is-rule) (lower .up-to) (lower .below (greatest s .rule) (charts .is-rule) refl),
               ))
           | no none ↦ omega (arith, left-none rs t (omega arith), left-some rs s some)
         ]
 
 module _ {rs : List Rule} {starts rows : List ℕ} (grounds : Grounds rs starts rows) where
   sum-keeps : (s : Pass) → rests s ≡ false → Pending rs starts s → Pending rs starts (completeSum rs starts rows s)
-  sum-keeps s goes pending = pending-sum grounds s pending (not-resting rs starts s s goes .1)
+  sum-keeps s goes pending = pending-sum grounds s pending (not-resting s goes .1)
 
   sum-falls : (s : Pass) → rests s ≡ false → Pending rs starts s → left rs (completeSum rs starts rows s) < left rs s
-  sum-falls s goes pending = left-falls grounds s pending (not-resting rs starts s s goes .1)
+  sum-falls s goes pending = left-falls grounds s pending (not-resting s goes .1)
 
   module _ (s : Pass) (pending : Pending rs starts s) where
     -- All sums end: at the end the queue is empty, or a push was refused.
@@ -314,6 +288,18 @@ module _ {rs : List Rule} {starts rows : List ℕ} (grounds : Grounds rs starts 
     all-sums-enough n enough =
         until-enough rests (completeSum rs starts rows) (Pending rs starts) (left rs) sum-keeps sum-falls n (length starts * length rs) s pending enough
         (left-few s pending)
+
+    -- Where the pass rests there is nothing to do; else one sum, and then the others.
+    pub all-sums-done : rests s ≡ true → completeAllSums rs starts rows s ≡ s
+    unfolding completeAllSums
+    all-sums-done at-rest = until-rests rests (completeSum rs starts rows) (length starts * length rs) s at-rest
+
+    pub all-sums-turn : s .at .stopped ≡ 0 → 0 < s .at .queued
+        → completeAllSums rs starts rows (completeSum rs starts rows s) ≡ completeAllSums rs starts rows s
+    unfolding completeAllSums
+    all-sums-turn going some =
+        sym (until-turns rests (completeSum rs starts rows) (length starts * length rs) s (goes s going some))
+        ∙ all-sums-enough (suc (length starts * length rs)) (let few = left-few s pending in omega arith)
 
     -- And the pass is pending still.
     pub all-sums-pending : Pending rs starts (completeAllSums rs starts rows s)

@@ -1,28 +1,26 @@
 -- The exact push rule: 7 where a store meets full items, 8 where a push meets a full queue, and from then on nothing changes.
 use mathlib.Core.Path.{_≡_, refl, sym, ap, _∙_, subst}
-use mathlib.Core.Bool.{Bool, true, false, _&&_, not, _||_}
+use mathlib.Core.Bool.{true}
 use mathlib.Core.List.{List}
 use mathlib.Core.Logic.{_↔_}
-use Prim.Native.Nat.{ℕ, suc, _+_, _-_, _*_, _/_, _≤_, _<_}
-use native.Mathlib.Decide.{decLt, ℕ-discrete}
+use Prim.Native.Nat.{ℕ, _+_, _-_, _*_, _/_, _≤_, _<_}
+use native.Mathlib.Decide.{decLt}
 use native.Mathlib.Omega.{arith}
 use lib.ListN.{length, getD}
-use lib.Dec.{eqb}
-use borrow.Author.Tests.{eq-eqb, ne-eqb, eqb-true}
-use Rattle.laws.specs.Turns.{until}
 use Rattle.laws.proofs.Turns.{over-still, until-rests, until-keeps}
 use Rattle.item.specs.Item.{itemWords}
 use Rattle.grammar.specs.Rules.{Rule}
 use Rattle.parse.specs.WellFormed.{leftOf}
-use Rattle.completion.specs.Pass.{Pass, refused, andThen, store, enqueue, itemsFull, queueFull}
+use Rattle.completion.specs.Pass.{Pass, store, enqueue, itemsFull, queueFull}
 use Rattle.completion.specs.Complete.{completeMedial, completeMedialItems, completeUnary, completeUnaryPredictions, completeBinary, completeBinaryPredictions, complete}
-use Rattle.completion.specs.Sums.{greatest, sumEnds, nextSummand, popSum, completeSum, rests, completeAllSums}
+use Rattle.completion.specs.Sums.{greatest, popSum, completeSum, rests, completeAllSums}
 use Rattle.completion.proofs.Pushes.{stays, store-done, store-refused, enqueue-done, enqueue-refused}
 use Rattle.completion.proofs.Waiting.{unary-stopped, binary-stopped}
-use Rattle.completion.proofs.Entries.{store-cases, enqueue-cases, then-cases}
+use Rattle.completion.proofs.Entries.{then-cases}
 use Rattle.completion.proofs.Through.{medial-items-keep, unary-predictions-go, binary-predictions-go, complete-cases}
-use Rattle.completion.proofs.Charting.{not-resting}
-use Rattle.completion.proofs.Pending.{Grounds, Pending, all-sums-rest}
+use Rattle.completion.proofs.Turning.{pop-stopped, not-resting, rests-stopped, rest-empty}
+use Rattle.completion.proofs.Grounds.{Grounds, Pending}
+use Rattle.completion.proofs.Pending.{all-sums-rest}
 
 -- How a step left a pass: going on, or refused by full items, or by a full queue.
 pub data Stops (s : Pass) : Type 0 where
@@ -33,43 +31,51 @@ pub data Stops (s : Pass) : Type 0 where
 module _ (s : Pass) where
   -- A store is refused with 7 exactly where the items are full, and else goes on.
   pub store-refuses : (origin rule : ℕ) → (store origin rule s .at .stopped ≡ itemsFull) ↔ (length (s .items) / itemWords ≤ s .at .items)
-  store-refuses origin rule =
-      ((λ stopped.
-      elim (decLt (s .at .items) (length (s .items) / itemWords)) [
-        | yes place ↦ absurd (let on : store origin rule s .at .stopped ≡ 0 = ap (λ (t : Pass). t .at .stopped) (store-done s origin rule place) in omega arith)
-        | no full ↦ omega arith
-      ]), λ full. ap (λ (t : Pass). t .at .stopped) (store-refused s origin rule full))
+  store-refuses origin rule = (
+    (λ stopped.
+        elim (decLt (s .at .items) (length (s .items) / itemWords)) [
+          | yes place ↦ absurd (let on : store origin rule s .at .stopped ≡ 0 = ap (λ (t : Pass). t .at .stopped) (store-done s origin rule place) in omega arith)
+          | no full ↦ omega arith
+        ]),
+    λ full. ap (λ (t : Pass). t .at .stopped) (store-refused s origin rule full),
+  )
 
   pub store-takes : (origin rule : ℕ) → (store origin rule s .at .stopped ≡ 0) ↔ (s .at .items < length (s .items) / itemWords)
-  store-takes origin rule =
-      ((λ on.
-      elim (decLt (s .at .items) (length (s .items) / itemWords)) [
-        | yes place ↦ place
-        | no full ↦
-            absurd (
-            let stopped : store origin rule s .at .stopped ≡ itemsFull = ap (λ (t : Pass). t .at .stopped) (store-refused s origin rule (omega arith)) in
-            omega arith)
-      ]), λ place. ap (λ (t : Pass). t .at .stopped) (store-done s origin rule place))
+  store-takes origin rule = (
+    (λ on.
+        elim (decLt (s .at .items) (length (s .items) / itemWords)) [
+          | yes place ↦ place
+          | no full ↦
+              absurd (
+              let stopped : store origin rule s .at .stopped ≡ itemsFull = ap (λ (t : Pass). t .at .stopped) (store-refused s origin rule (omega arith)) in
+              omega arith)
+        ]),
+    λ place. ap (λ (t : Pass). t .at .stopped) (store-done s origin rule place),
+  )
 
   -- A push is refused with 8 exactly where the queue is full, and else goes on.
   pub enqueue-refuses : (place : ℕ) → (enqueue place s .at .stopped ≡ queueFull) ↔ (length (s .queue) ≤ s .at .queued)
-  enqueue-refuses place =
-      ((λ stopped.
-      elim (decLt (s .at .queued) (length (s .queue))) [
-        | yes free ↦ absurd (let on : enqueue place s .at .stopped ≡ 0 = ap (λ (t : Pass). t .at .stopped) (enqueue-done s place free) in omega arith)
-        | no full ↦ omega arith
-      ]), λ full. ap (λ (t : Pass). t .at .stopped) (enqueue-refused s place full))
+  enqueue-refuses place = (
+    (λ stopped.
+        elim (decLt (s .at .queued) (length (s .queue))) [
+          | yes free ↦ absurd (let on : enqueue place s .at .stopped ≡ 0 = ap (λ (t : Pass). t .at .stopped) (enqueue-done s place free) in omega arith)
+          | no full ↦ omega arith
+        ]),
+    λ full. ap (λ (t : Pass). t .at .stopped) (enqueue-refused s place full),
+  )
 
   pub enqueue-takes : (place : ℕ) → (enqueue place s .at .stopped ≡ 0) ↔ (s .at .queued < length (s .queue))
-  enqueue-takes place =
-      ((λ on.
-      elim (decLt (s .at .queued) (length (s .queue))) [
-        | yes free ↦ free
-        | no full ↦
-            absurd (
-            let stopped : enqueue place s .at .stopped ≡ queueFull = ap (λ (t : Pass). t .at .stopped) (enqueue-refused s place (omega arith)) in
-            omega arith)
-      ]), λ free. ap (λ (t : Pass). t .at .stopped) (enqueue-done s place free))
+  enqueue-takes place = (
+    (λ on.
+        elim (decLt (s .at .queued) (length (s .queue))) [
+          | yes free ↦ free
+          | no full ↦
+              absurd (
+              let stopped : enqueue place s .at .stopped ≡ queueFull = ap (λ (t : Pass). t .at .stopped) (enqueue-refused s place (omega arith)) in
+              omega arith)
+        ]),
+    λ free. ap (λ (t : Pass). t .at .stopped) (enqueue-done s place free),
+  )
 
   -- So a store and a push leave a pass going on, or refused by what is full.
   pub stops-store : (origin rule : ℕ) → Stops (store origin rule s)
@@ -136,36 +142,25 @@ module _ (rs : List Rule) (starts rows : List ℕ) where
   pub all-sums-stopped : (s : Pass) → (s .at .stopped ≡ 0 → ⊥) → completeAllSums rs starts rows s ≡ s
   unfolding completeAllSums
   all-sums-stopped s stopped =
-      until-rests rests (completeSum rs starts rows) (length starts * length rs) s
-      (ap (λ (b : Bool). not b || eqb (s .at .queued) 0) (ne-eqb (s .at .stopped) 0 stopped))
+      until-rests rests (completeSum rs starts rows) (length starts * length rs) s (rests-stopped s stopped)
 
-  -- Popping refuses nothing.
-  pub pop-stopped : (k x : ℕ) (s : Pass) → popSum rs k x s .at .stopped ≡ s .at .stopped
-  unfolding popSum nextSummand
-  pop-stopped k x s =
-      until-keeps (sumEnds rs k x) nextSummand (λ (t : Pass). t .at .stopped ≡ s .at .stopped) (λ t goes same. same) (s .at .queued) s refl
-
+  -- A sum of a pass that goes on leaves it going on, or refused by what is full, and so do all sums.
   pub stops-sum : (s : Pass) → s .at .stopped ≡ 0 → Stops (completeSum rs starts rows s)
   unfolding completeSum
   stops-sum s going =
       stops-complete (greatest s .origin) (leftOf rs (greatest s)) (popSum rs (greatest s .origin) (leftOf rs (greatest s)) s)
-      (on (pop-stopped (greatest s .origin) (leftOf rs (greatest s)) s ∙ going))
+      (on (pop-stopped rs (greatest s .origin) (leftOf rs (greatest s)) s ∙ going))
 
   pub stops-all-sums : (s : Pass) → Stops s → Stops (completeAllSums rs starts rows s)
   unfolding completeAllSums
   stops-all-sums =
-      until-keeps rests (completeSum rs starts rows) Stops (λ t goes stops. stops-sum t (not-resting rs starts t t goes .0)) (length starts * length rs)
+      until-keeps rests (completeSum rs starts rows) Stops (λ t goes stops. stops-sum t (not-resting t goes .0)) (length starts * length rs)
 
 -- How a pass ends: with an empty queue, or refused by full items, or by a full queue.
 pub data Ends (s : Pass) : Type 0 where
   empty : s .at .stopped ≡ 0 → s .at .queued ≡ 0 → Ends s
   full-items : s .at .stopped ≡ itemsFull → length (s .items) / itemWords ≤ s .at .items → Ends s
   full-queue : s .at .stopped ≡ queueFull → length (s .queue) ≤ s .at .queued → Ends s
-
--- A pass that rests and goes on has an empty queue.
-rest-empty : (s : Pass) → rests s ≡ true → s .at .stopped ≡ 0 → s .at .queued ≡ 0
-rest-empty s at-rest going =
-    eqb-true (s .at .queued) 0 (sym (ap (λ (b : Bool). not b || eqb (s .at .queued) 0) (eq-eqb (s .at .stopped) 0 going)) ∙ at-rest)
 
 -- All sums end in one of these ways.
 pub all-sums-end : {rs : List Rule} {starts rows : List ℕ} → Grounds rs starts rows → (s : Pass) → Pending rs starts s → Stops s

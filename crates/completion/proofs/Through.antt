@@ -1,13 +1,13 @@
 -- What the steps of a completion keep, the completion keeps.
-use mathlib.Core.Path.{_≡_, refl, sym, ap, _∙_, subst}
-use mathlib.Core.Bool.{Bool, true, false, _&&_, not, _||_}
+use mathlib.Core.Path.{_≡_}
+use mathlib.Core.Bool.{true, false, _&&_, not}
 use mathlib.Core.List.{List}
 use Prim.Native.Nat.{ℕ, zero, suc, _+_, _-_, _≤_, _<_}
 use native.Mathlib.Omega.{arith}
 use lib.ListN.{length, getD}
 use lib.Dec.{eqb}
 use borrow.Author.Tests.{eqb-true, eqb-false, not-true}
-use Rattle.laws.specs.Turns.{over, between}
+use Rattle.laws.specs.Turns.{over}
 use Rattle.laws.proofs.Tests.{either-way, both-true}
 use Rattle.laws.proofs.Turns.{over-keeps}
 use Rattle.item.specs.Item.{itemAt}
@@ -63,7 +63,7 @@ module _ (rs : List Rule) (starts rows : List ℕ) (k x : ℕ) where
   -- The rules with one symbol are stored and queued in number order.
   module _ (P : ℕ → Pass → Type 0) (skipping : (r : ℕ) (s : Pass) → P r s → P (suc r) s)
       (waiting : (r : ℕ) (s : Pass) → Begins rs rows k x r → getD rs r noRule .second ≡ none → s .at .stopped ≡ 0 → P r s
-          → P (suc r) (andThen (store k r s) (enqueue (s .at .items)))) where
+      → P (suc r) (andThen (store k r s) (enqueue (s .at .items)))) where
     pub unary-goes : (r : ℕ) (s : Pass) → r < length rs → P r s → P (suc r) (completeUnary rs rows k x r s)
     unfolding completeUnary
     unary-goes r s there before =
@@ -82,7 +82,7 @@ module _ (rs : List Rule) (starts rows : List ℕ) (k x : ℕ) where
   -- The rules with two symbols are stored in number order.
   module _ (P : ℕ → Pass → Type 0) (skipping : (r : ℕ) (s : Pass) → P r s → P (suc r) s)
       (waiting : (r : ℕ) (s : Pass) → Begins rs rows k x r → (getD rs r noRule .second ≡ none → ⊥) → s .at .stopped ≡ 0 → P r s
-          → P (suc r) (store k r s)) where
+      → P (suc r) (store k r s)) where
     pub binary-goes : (r : ℕ) (s : Pass) → r < length rs → P r s → P (suc r) (completeBinary rs rows k x r s)
     unfolding completeBinary
     binary-goes r s there before =
