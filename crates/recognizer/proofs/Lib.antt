@@ -1,2 +1,5 @@
 -- Laws on the steps of a token and on histories.
 pub mod Chart
+pub mod Cut
+pub mod Tables
+pub mod Starting
