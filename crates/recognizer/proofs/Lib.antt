@@ -3,3 +3,4 @@ pub mod Chart
 pub mod Cut
 pub mod Tables
 pub mod Starting
+pub mod Ways
