@@ -4,3 +4,6 @@ pub mod Cut
 pub mod Tables
 pub mod Starting
 pub mod Ways
+pub mod Members
+pub mod Moved
+pub mod NextSet
