@@ -7,3 +7,4 @@ pub mod Ways
 pub mod Members
 pub mod Moved
 pub mod NextSet
+pub mod Holding

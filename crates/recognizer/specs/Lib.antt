@@ -3,3 +3,4 @@ pub mod Steps
 pub mod Answers
 pub mod Calls
 pub mod Histories
+pub mod Sentences
