@@ -8,3 +8,4 @@ pub mod Members
 pub mod Moved
 pub mod NextSet
 pub mod Holding
+pub mod Running
