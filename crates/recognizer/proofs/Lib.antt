@@ -9,3 +9,6 @@ pub mod Moved
 pub mod NextSet
 pub mod Holding
 pub mod Running
+pub mod Lasting
+pub mod Finishing
+pub mod Telling
