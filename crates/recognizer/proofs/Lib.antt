@@ -16,3 +16,4 @@ pub mod Running
 pub mod Lasting
 pub mod Finishing
 pub mod Telling
+pub mod OneToken
