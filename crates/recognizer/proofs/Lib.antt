@@ -7,6 +7,7 @@ pub mod Ways
 pub mod Members
 pub mod Moved
 pub mod NextSet
+pub mod Refusing
 pub mod Holding
 pub mod Running
 pub mod Lasting

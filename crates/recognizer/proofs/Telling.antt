@@ -16,21 +16,11 @@ use Rattle.recognizer.specs.Steps.{Outcome, Ended, stepped, ran, lastWra
 use Rattle.recognizer.specs.Calls.{Sound, Ready, Takes, Runs, Finishes}
 use Rattle.recognizer.specs.Histories.{History}
 use Rattle.recognizer.specs.Sentences.{AcceptedOrNoRoom, Judged, TokenTells, RunJudged, RunTells, FinishedJudged, FinishedTells}
-use Rattle.recognizer.proofs.Holding.{CompletesExactly, NoRoom, Refused, Accepts, Refuses, refused-some}
+use Rattle.recognizer.proofs.Refusing.{room-other}
+use Rattle.recognizer.proofs.Holding.{CompletesExactly, Refused, Accepts, Refuses, refused-some}
 use Rattle.recognizer.proofs.Running.{RunHolds}
 use Rattle.recognizer.proofs.Lasting.{Lasts, lasts, lasts-holding, lasts-judged, lasts-ran, no-fault}
 use Rattle.recognizer.proofs.Finishing.{finished-sentence}
-
--- A room refusal is one, and is not 6.
-room-refusal : {n : ℕ} → NoRoom n → AcceptedOrNoRoom n
-room-refusal NoRoom.items = AcceptedOrNoRoom.no-item
-room-refusal NoRoom.queue = AcceptedOrNoRoom.no-entry
-room-refusal NoRoom.sets = AcceptedOrNoRoom.no-set
-
-room-other : {n : ℕ} → NoRoom n → n ≡ 6 → ⊥
-room-other NoRoom.items e = omega arith
-room-other NoRoom.queue e = omega arith
-room-other NoRoom.sets e = omega arith
 
 -- A token that is accepted is judged rightly, ..
 judged-accepted : {g : Grammar} {a : List ℕ} {v : Words} {t : ℕ} {o : Outcome} → Accepts g a v t o → Judged g a t (o .number)
@@ -48,10 +38,10 @@ judged-refused small (Refused.impossible l none) = record {
   possible = λ n. absurd (n refl);
   otherwise = λ n. absurd (n refl);
 }
-judged-refused small (Refused.no-room l begins room) = record {
-  impossible = ((λ e. absurd (room-other room e)), (λ none. absurd (none begins)));
+judged-refused small (Refused.no-room l begins room some) = record {
+  impossible = ((λ e. absurd (room-other room .1 e)), (λ none. absurd (none begins)));
   possible = λ n. begins;
-  otherwise = λ n. room-refusal room;
+  otherwise = λ n. room;
 }
 
 -- A run is judged rightly.
