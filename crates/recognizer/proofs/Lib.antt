@@ -13,3 +13,7 @@ pub mod Running
 pub mod Lasting
 pub mod Finishing
 pub mod Telling
+pub mod Growing
+pub mod Following
+pub mod Popping
+pub mod Exact
