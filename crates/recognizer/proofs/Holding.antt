@@ -5,6 +5,8 @@ use mathlib.Core.List.{List, [], _∷_, _++_}
 use Prim.Native.Nat.{ℕ, _+_, _/_, _≤_, _<_}
 use native.Mathlib.Omega.{arith}
 use lib.ListN.{length}
+use Rattle.laws.specs.Bits.{rowOf}
+use Rattle.laws.proofs.Bits.{true-holds}
 use Rattle.bits.specs.Width.{rowWords}
 use Rattle.grammar.specs.Rules.{Grammar}
 use Rattle.grammar.specs.Sentences.{Begins}
@@ -20,16 +22,12 @@ use Rattle.earley.proofs.Answers.{row-viable}
 use Rattle.recognizer.specs.Steps.{Outcome, noToken, notPredicted, setsFull, completed, started, stepped}
 use Rattle.recognizer.specs.Sentences.{AcceptedOrNoRoom}
 use Rattle.recognizer.proofs.Chart.{chartOf, Completed}
+use Rattle.recognizer.proofs.Exact.{completed-exactly}
 use Rattle.recognizer.proofs.Cut.{Cut, cut-same}
 use Rattle.recognizer.proofs.Starting.{started-sizes, started-fresh, started-well}
 use Rattle.recognizer.proofs.Ways.{Ways, Predicted, kept, keptOf, following, ways}
 use Rattle.recognizer.proofs.Refusing.{stopped-room}
 use Rattle.recognizer.proofs.NextSet.{following-sizes, following-well, following-next}
-
--- A pass that was not refused has completed exactly what the rules of completion give.
-pub record CompletesExactly : Type 1 where
-  pub exactly : (g : Grammar) (s : State) (v : Words) (t : ℕ) → Accepted g → WellFormed (g .symbols) (g .rules) s v → Cut v
-      → t < g .tokens → Predicted s v t → completed g s v t .at .stopped ≡ 0 → Completed g s v t
 
 -- What a parse that has accepted `a` holds, in words within the capacities.
 pub record Holding (g : Grammar) (a : List ℕ) (s : State) (v : Words) : Type 0 where
@@ -72,7 +70,7 @@ module _ {g : Grammar} {table : List (List ℕ)} (accepted : Accepted g) (predic
     holds = begin (started-fresh accepted predicts v some);
   }
 
-  module _ (completes : CompletesExactly) {a : List ℕ} {s : State} {v : Words} (h : Holding g a s v) (t : ℕ) where
+  module _ {a : List ℕ} {s : State} {v : Words} (h : Holding g a s v) (t : ℕ) where
     -- The latest row has the tokens that some sentence goes on with.
     viable : t < g .tokens → Predicted s v t ↔ Begins g (a ++ t ∷ [])
     viable small = row-viable accepted (h .holds) small
@@ -80,7 +78,7 @@ module _ {g : Grammar} {table : List (List ℕ)} (accepted : Accepted g) (predic
     goes : t < g .tokens → Predicted s v t → completed g s v t .at .stopped ≡ 0 → keptOf g s v t + 1 < length (v .rows) / rowWords
         → Accepts g a v t (following g table s v t)
     goes small there going room =
-        let exact : Completed g s v t = completes .exactly g s v t accepted (h .well) (h .cut) small there going in
+        let exact : Completed g s v t = completed-exactly g accepted s v (h .well) (h .cut .few-items) (h .cut .rowed) t small (true-holds (rowOf rowWords (v .rows) (s .set)) t there) going in
         record {
           zero = refl;
           small = small;

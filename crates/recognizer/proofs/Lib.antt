@@ -1,5 +1,9 @@
 -- Laws on the steps of a token and on histories.
 pub mod Chart
+pub mod Growing
+pub mod Following
+pub mod Popping
+pub mod Exact
 pub mod Cut
 pub mod Tables
 pub mod Starting
@@ -13,7 +17,3 @@ pub mod Running
 pub mod Lasting
 pub mod Finishing
 pub mod Telling
-pub mod Growing
-pub mod Following
-pub mod Popping
-pub mod Exact

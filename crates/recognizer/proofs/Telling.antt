@@ -17,7 +17,7 @@ use Rattle.recognizer.specs.Calls.{Sound, Ready, Takes, Runs, Finishes}
 use Rattle.recognizer.specs.Histories.{History}
 use Rattle.recognizer.specs.Sentences.{AcceptedOrNoRoom, Judged, TokenTells, RunJudged, RunTells, FinishedJudged, FinishedTells}
 use Rattle.recognizer.proofs.Refusing.{room-other}
-use Rattle.recognizer.proofs.Holding.{CompletesExactly, Refused, Accepts, Refuses, refused-some}
+use Rattle.recognizer.proofs.Holding.{Refused, Accepts, Refuses, refused-some}
 use Rattle.recognizer.proofs.Running.{RunHolds}
 use Rattle.recognizer.proofs.Lasting.{Lasts, lasts, lasts-holding, lasts-judged, lasts-ran, no-fault}
 use Rattle.recognizer.proofs.Finishing.{finished-sentence}
@@ -56,36 +56,36 @@ run-judged {us = us} {e = e} h = record {
   at-refusal = λ l small. judged-refused small (h .refused l);
 }
 
-module _ (completes : CompletesExactly) {file : List ℕ} {s : State} {w : Words} where
+module _ {file : List ℕ} {s : State} {w : Words} where
   -- EXACTLY THE SENTENCES, of a token.
   pub token-tells : {t : ℕ} {o : Outcome} → Takes file s w t o → TokenTells file s w t (o .number)
-  token-tells (Takes.refused fault) = record { sentences = λ ts h small. absurd (no-fault (lasts completes h) fault) }
+  token-tells (Takes.refused fault) = record { sentences = λ ts h small. absurd (no-fault (lasts h) fault) }
   token-tells {t} (Takes.done {g = g} {table = table} ready) = record {
     sentences = λ ts h small.
         subst (λ (k : Grammar). Judged k ts t (stepped g table s (within w) t .number)) (sym (ready .sound .is))
         (⊎-elim
         (λ (a : Accepts g ts (within w) t (stepped g table s (within w) t)). judged-accepted a)
         (λ (r : Refuses g ts s (within w) t (stepped g table s (within w) t)). judged-refused (subst (λ (k : Grammar). t < k .tokens) (ready .sound .is) small) (r .why))
-        (lasts-judged completes (lasts completes h) (ready .sound) t));
+        (lasts-judged (lasts h) (ready .sound) t));
   }
 
   -- Of a run.
   pub run-tells : {us : List ℕ} {e : Ended} → Runs file s w us e → RunTells file s w us e
-  run-tells (Runs.refused fault) = record { sentences = λ ts h. absurd (no-fault (lasts completes h) fault) }
+  run-tells (Runs.refused fault) = record { sentences = λ ts h. absurd (no-fault (lasts h) fault) }
   run-tells {us} (Runs.done {g = g} {table = table} ready) = record {
     sentences = λ ts h.
         subst (λ (k : Grammar). RunJudged k ts us (ran g table s (within w) us .outcome .number) (ran g table s (within w) us .taken)) (sym (ready .sound .is))
-        (run-judged (lasts-ran completes (lasts completes h) (ready .sound) us));
+        (run-judged (lasts-ran (lasts h) (ready .sound) us));
   }
 
   -- Of finished.
   pub finished-tells : {n : ℕ} {yes : Bool} → Finishes file s w n yes → FinishedTells file s w n yes
-  finished-tells (Finishes.refused fault) = record { sentences = λ ts h. absurd (no-fault (lasts completes h) fault) }
+  finished-tells (Finishes.refused fault) = record { sentences = λ ts h. absurd (no-fault (lasts h) fault) }
   finished-tells (Finishes.done {g = g} ready) = record {
     sentences = λ ts h. record {
       done = refl;
       sentence =
           subst (λ (k : Grammar). (lastWraps s (within w) ≡ true) ↔ Sentence k ts) (sym (ready .sound .is))
-          (finished-sentence (ready .sound .accepted) (lasts-holding (lasts completes h) (ready .sound)));
+          (finished-sentence (ready .sound .accepted) (lasts-holding (lasts h) (ready .sound)));
     };
   }
