@@ -1,6 +1,6 @@
 -- A token's step keeps what a parse holds, or refuses the token for a reason that sentences give.
-use mathlib.Core.Path.{_≡_, refl, sym, ap, _∙_, subst}
-use mathlib.Core.Logic.{_↔_, _⊎_, inl, inr, ⊎-elim}
+use mathlib.Core.Path.{_≡_, refl}
+use mathlib.Core.Logic.{_↔_, _⊎_, inl, inr}
 use mathlib.Core.List.{List, [], _∷_, _++_}
 use Prim.Native.Nat.{ℕ, _+_, _/_, _≤_, _<_}
 use native.Mathlib.Omega.{arith}
@@ -19,13 +19,13 @@ use Rattle.parse.proofs.Capacities.{SameSizes}
 use Rattle.earley.proofs.Charts.{Holds, begin}
 use Rattle.earley.proofs.Token.{token}
 use Rattle.earley.proofs.Answers.{row-viable}
-use Rattle.recognizer.specs.Steps.{Outcome, noToken, notPredicted, setsFull, completed, started, stepped}
+use Rattle.recognizer.specs.Steps.{Outcome, noToken, notPredicted, completed, started, stepped}
 use Rattle.recognizer.specs.Sentences.{AcceptedOrNoRoom}
 use Rattle.recognizer.proofs.Chart.{chartOf, Completed}
 use Rattle.recognizer.proofs.Exact.{completed-exactly}
 use Rattle.recognizer.proofs.Cut.{Cut, cut-same}
 use Rattle.recognizer.proofs.Starting.{started-sizes, started-fresh, started-well}
-use Rattle.recognizer.proofs.Ways.{Ways, Predicted, kept, keptOf, following, ways}
+use Rattle.recognizer.proofs.Ways.{Ways, Predicted, keptOf, following, ways}
 use Rattle.recognizer.proofs.Refusing.{stopped-room}
 use Rattle.recognizer.proofs.NextSet.{following-sizes, following-well, following-next}
 

@@ -1,22 +1,20 @@
 -- What lasts along a history: the file is sound, the state well formed, and the chart holds for the accepted tokens.
-use mathlib.Core.Path.{_≡_, refl, sym, ap, _∙_, subst, subst₂}
-use mathlib.Core.Logic.{_⊎_, inl, inr, ⊎-elim}
-use mathlib.Core.List.{List, [], _∷_, _++_, append-nil}
-use Prim.Native.Nat.{ℕ, _+_, _/_, _≤_, _<_}
+use mathlib.Core.Path.{_≡_, refl, sym, _∙_, subst, subst₂}
+use mathlib.Core.Logic.{_⊎_, ⊎-elim}
+use mathlib.Core.List.{List, [], _∷_, _++_}
+use Prim.Native.Nat.{ℕ, _/_, _≤_, _<_}
 use native.Mathlib.Omega.{arith}
 use lib.ListN.{length, take}
 use Rattle.bits.specs.Width.{rowWords}
 use Rattle.grammar.specs.Rules.{Grammar}
 use Rattle.grammar.specs.Accepted.{Accepted}
-use Rattle.grammar.specs.File.{Malformed, grammarOf}
 use Rattle.grammar.specs.Prediction.{Predicts}
 use Rattle.prediction.proofs.Reaching.{predicts-unique}
 use Rattle.parse.specs.declared.State.{State}
 use Rattle.parse.specs.Words.{Words, setRoom, within, beyond, behind}
-use Rattle.parse.specs.WellFormed.{WellFormed}
 use Rattle.parse.proofs.Capacities.{SameSizes, sets-room, within-new}
-use Rattle.recognizer.specs.Steps.{Outcome, Ended, started, stepped, ran}
-use Rattle.recognizer.specs.Calls.{Sound, FileFault, StartFault, CallFault, Ready, Starts, Takes, Runs, Finishes, Reports}
+use Rattle.recognizer.specs.Steps.{Outcome, Ended, stepped, ran}
+use Rattle.recognizer.specs.Calls.{Sound, FileFault, StartFault, CallFault, Starts, Takes, Runs}
 use Rattle.recognizer.specs.Histories.{History}
 use Rattle.recognizer.proofs.Cut.{within-cut, sizes-refl}
 use Rattle.recognizer.proofs.Starting.{started-sizes}

@@ -1,25 +1,23 @@
 -- What the answers to the calls of a history tell of sentences.
-use mathlib.Core.Path.{_≡_, refl, sym, ap, _∙_, subst}
+use mathlib.Core.Path.{_≡_, refl, sym, subst}
 use mathlib.Core.Bool.{Bool, true}
-use mathlib.Core.Logic.{_↔_, _⊎_, ⊎-elim}
-use mathlib.Core.List.{List, [], _∷_, _++_}
-use Prim.Native.Nat.{ℕ, _≤_, _<_}
+use mathlib.Core.Logic.{_↔_, ⊎-elim}
+use mathlib.Core.List.{List}
+use Prim.Native.Nat.{ℕ, _<_}
 use native.Mathlib.Decide.{decLt}
 use native.Mathlib.Omega.{arith}
 use lib.ListN.{length}
 use Rattle.grammar.specs.Rules.{Grammar}
 use Rattle.grammar.specs.Sentences.{Sentence}
-use Rattle.grammar.specs.File.{grammarOf}
 use Rattle.parse.specs.declared.State.{State}
 use Rattle.parse.specs.Words.{Words, within}
 use Rattle.recognizer.specs.Steps.{Outcome, Ended, stepped, ran, lastWraps}
-use Rattle.recognizer.specs.Calls.{Sound, Ready, Takes, Runs, Finishes}
-use Rattle.recognizer.specs.Histories.{History}
-use Rattle.recognizer.specs.Sentences.{AcceptedOrNoRoom, Judged, TokenTells, RunJudged, RunTells, FinishedJudged, FinishedTells}
+use Rattle.recognizer.specs.Calls.{Takes, Runs, Finishes}
+use Rattle.recognizer.specs.Sentences.{AcceptedOrNoRoom, Judged, TokenTells, RunJudged, RunTells, FinishedTells}
 use Rattle.recognizer.proofs.Refusing.{room-other}
 use Rattle.recognizer.proofs.Holding.{Refused, Accepts, Refuses, refused-some}
 use Rattle.recognizer.proofs.Running.{RunHolds}
-use Rattle.recognizer.proofs.Lasting.{Lasts, lasts, lasts-holding, lasts-judged, lasts-ran, no-fault}
+use Rattle.recognizer.proofs.Lasting.{lasts, lasts-holding, lasts-judged, lasts-ran, no-fault}
 use Rattle.recognizer.proofs.Finishing.{finished-sentence}
 
 -- A token that is accepted is judged rightly, ..
