@@ -17,3 +17,6 @@ pub mod Running
 pub mod Lasting
 pub mod Finishing
 pub mod Telling
+pub mod Again
+pub mod Computed
+pub mod Tabled
