@@ -1,22 +1,20 @@
 -- The last item of the latest set has rule 0 exactly when the accepted tokens are a sentence.
 use mathlib.Core.Path.{_≡_, refl, sym, ap, ap₂, _∙_, subst}
-use mathlib.Core.Bool.{Bool, true, false, _&&_}
-use mathlib.Core.Logic.{_↔_, _⊎_, inl, inr, ⊎-elim}
+use mathlib.Core.Bool.{true, _&&_}
+use mathlib.Core.Logic.{_↔_, ⊎-elim}
 use mathlib.Core.List.{List}
-use Prim.Native.Nat.{ℕ, zero, suc, _+_, _-_, _*_, _/_, _≤_, _<_}
+use Prim.Native.Nat.{ℕ, zero, suc, _+_, _-_, _≤_, _<_}
 use native.Mathlib.Decide.{ℕ-discrete}
 use native.Mathlib.Omega.{arith}
-use lib.ListN.{length, getD}
 use lib.Dec.{eqb, ltb}
 use borrow.Author.Tests.{ltb-true, lt-ltb, eqb-true, eq-eqb}
 use Rattle.laws.proofs.Tests.{both-true}
-use Rattle.bits.specs.Width.{rowWords}
 use Rattle.item.specs.Item.{itemAt, originAt, ruleAt}
 use Rattle.grammar.specs.Rules.{Rule, Grammar, ruleAt as ruleAtG}
 use Rattle.grammar.specs.Sentences.{Sentence}
-use Rattle.grammar.specs.Accepted.{Accepted, maxRules}
+use Rattle.grammar.specs.Accepted.{Accepted}
 use Rattle.parse.specs.declared.State.{State}
-use Rattle.parse.specs.Words.{Words, startOf, maxSets}
+use Rattle.parse.specs.Words.{Words, startOf}
 use Rattle.parse.specs.WellFormed.{WellFormed, InSet, Fits, placing, secondOf}
 use Rattle.earley.proofs.Answers.{Wrapped, wrapped-sentence, end-greatest}
 use Rattle.recognizer.specs.Steps.{lastWraps}

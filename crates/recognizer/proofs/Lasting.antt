@@ -1,26 +1,24 @@
 -- What lasts along a history: the file is sound, the state well formed, and the chart holds for the accepted tokens.
-use mathlib.Core.Path.{_≡_, refl, sym, ap, _∙_, subst, subst₂}
-use mathlib.Core.Logic.{_⊎_, inl, inr, ⊎-elim}
-use mathlib.Core.List.{List, [], _∷_, _++_, append-nil}
-use Prim.Native.Nat.{ℕ, _+_, _/_, _≤_, _<_}
+use mathlib.Core.Path.{_≡_, refl, sym, _∙_, subst, subst₂}
+use mathlib.Core.Logic.{_⊎_, ⊎-elim}
+use mathlib.Core.List.{List, [], _∷_, _++_}
+use Prim.Native.Nat.{ℕ, _/_, _≤_, _<_}
 use native.Mathlib.Omega.{arith}
 use lib.ListN.{length, take}
 use Rattle.bits.specs.Width.{rowWords}
 use Rattle.grammar.specs.Rules.{Grammar}
 use Rattle.grammar.specs.Accepted.{Accepted}
-use Rattle.grammar.specs.File.{Malformed, grammarOf}
 use Rattle.grammar.specs.Prediction.{Predicts}
 use Rattle.prediction.proofs.Reaching.{predicts-unique}
 use Rattle.parse.specs.declared.State.{State}
 use Rattle.parse.specs.Words.{Words, setRoom, within, beyond, behind}
-use Rattle.parse.specs.WellFormed.{WellFormed}
 use Rattle.parse.proofs.Capacities.{SameSizes, sets-room, within-new}
-use Rattle.recognizer.specs.Steps.{Outcome, Ended, started, stepped, ran}
-use Rattle.recognizer.specs.Calls.{Sound, FileFault, StartFault, CallFault, Ready, Starts, Takes, Runs, Finishes, Reports}
+use Rattle.recognizer.specs.Steps.{Outcome, Ended, stepped, ran}
+use Rattle.recognizer.specs.Calls.{Sound, FileFault, StartFault, CallFault, Starts, Takes, Runs}
 use Rattle.recognizer.specs.Histories.{History}
 use Rattle.recognizer.proofs.Cut.{within-cut, sizes-refl}
 use Rattle.recognizer.proofs.Starting.{started-sizes}
-use Rattle.recognizer.proofs.Holding.{CompletesExactly, Holding, Accepts, Refuses, refused-some, start-holds, step-judged}
+use Rattle.recognizer.proofs.Holding.{Holding, Accepts, Refuses, refused-some, start-holds, step-judged}
 use Rattle.recognizer.proofs.Running.{RunHolds, run-holds}
 
 -- A file gives one grammar and one table.
@@ -85,14 +83,14 @@ lasts-not-started : {file : List ℕ} {s : State} {w : Words} {ts : List ℕ} {o
 lasts-not-started l (Starts.refused fault) n = l
 lasts-not-started l (Starts.done sound some) n = absurd (n refl)
 
-module _ (completes : CompletesExactly) {file : List ℕ} {s : State} {w : Words} {ts : List ℕ} (l : Lasts file s w ts) where
+module _ {file : List ℕ} {s : State} {w : Words} {ts : List ℕ} (l : Lasts file s w ts) where
   -- A step in the words of a history accepts its token, or refuses it.
   pub lasts-judged : {g : Grammar} {table : List (List ℕ)} → Sound file g table → (t : ℕ)
       → Accepts g ts (within w) t (stepped g table s (within w) t) ⊎ Refuses g ts s (within w) t (stepped g table s (within w) t)
-  lasts-judged sound t = step-judged (sound .accepted) (sound .predicts) completes (lasts-holding l sound) t
+  lasts-judged sound t = step-judged (sound .accepted) (sound .predicts) (lasts-holding l sound) t
 
   pub lasts-ran : {g : Grammar} {table : List (List ℕ)} → Sound file g table → (us : List ℕ) → RunHolds g ts (within w) us (ran g table s (within w) us)
-  lasts-ran sound us = run-holds (sound .accepted) (sound .predicts) completes us (lasts-holding l sound)
+  lasts-ran sound us = run-holds (sound .accepted) (sound .predicts) us (lasts-holding l sound)
 
   room : 1 ≤ setRoom w
   room = holding-room w (l .holding)
@@ -121,13 +119,13 @@ module _ (completes : CompletesExactly) {file : List ℕ} {s : State} {w : Words
       let h : RunHolds g ts (within w) us (ran g table s (within w) us) = lasts-ran (ready .sound) us in
       in-place w (ready .sound) room (h .sizes) (h .holding)
 
-module _ (completes : CompletesExactly) {file : List ℕ} where
+module _ {file : List ℕ} where
   -- EVERY HISTORY HOLDS.
   pub lasts : {s : State} {w : Words} {ts : List ℕ} → History file s w ts → Lasts file s w ts
   lasts (History.fresh starts zero) = lasts-start starts zero
-  lasts (History.accepted h takes zero) = lasts-accepted completes (lasts h) takes zero
-  lasts (History.not-accepted h takes some) = lasts-not-accepted completes (lasts h) takes some
-  lasts (History.run h runs) = lasts-run completes (lasts h) runs
+  lasts (History.accepted h takes zero) = lasts-accepted (lasts h) takes zero
+  lasts (History.not-accepted h takes some) = lasts-not-accepted (lasts h) takes some
+  lasts (History.run h runs) = lasts-run (lasts h) runs
   lasts (History.not-started h starts some) = lasts-not-started (lasts h) starts some
   lasts (History.asked-finished h finishes) = lasts h
   lasts (History.asked-latest h reports) = lasts h

@@ -1,6 +1,6 @@
 -- The ways of a token's step.
 use mathlib.Core.Path.{_≡_, refl, sym, subst}
-use mathlib.Core.Logic.{_⊎_, inl, inr, ⊎-elim}
+use mathlib.Core.Logic.{⊎-elim}
 use mathlib.Core.List.{List}
 use Prim.Native.Nat.{ℕ, _+_, _/_, _≤_, _<_}
 use native.Mathlib.Decide.{decLt, ℕ-discrete}
@@ -14,7 +14,6 @@ use Rattle.item.specs.Item.{Item}
 use Rattle.grammar.specs.Rules.{Grammar}
 use Rattle.parse.specs.declared.State.{State}
 use Rattle.parse.specs.Words.{Words}
-use Rattle.completion.specs.Pass.{Pass}
 use Rattle.advance.specs.NewItems.{newItems}
 use Rattle.advance.specs.Advance.{greatestOrigin, lastKept, predictions, nextState, nextWords}
 use Rattle.recognizer.specs.Steps.{Outcome, noToken, notPredicted, setsFull, completed, advanced, stepped}
