@@ -4,3 +4,6 @@ pub mod Growing
 pub mod Following
 pub mod Popping
 pub mod Exact
+pub mod Cutting
+pub mod Readying
+pub mod Beginning
