@@ -21,3 +21,6 @@ pub mod OneToken
 pub mod Again
 pub mod Computed
 pub mod Tabled
+pub mod Cutting
+pub mod Readying
+pub mod Beginning
