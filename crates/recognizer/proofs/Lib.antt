@@ -20,3 +20,4 @@ pub mod Telling
 pub mod Again
 pub mod Computed
 pub mod Tabled
+pub mod Examples
