@@ -1,8 +1,7 @@
 -- Histories that there are: grammar A reads "0 1 0", and grammar B reads "0 1 2" and drops a set.
 use mathlib.Core.Path.{_≡_, refl}
-use mathlib.Core.Bool.{true}
 use mathlib.Core.List.{List, [], _∷_}
-use Prim.Native.Nat.{ℕ, _+_, _*_, _≤_, _<_}
+use Prim.Native.Nat.{ℕ, _+_, _*_, _≤_}
 use native.Mathlib.Omega.{arith}
 use lib.ListN.{length, replicate}
 use Rattle.laws.specs.Bits.{union}
@@ -18,19 +17,19 @@ use Rattle.grammar.specs.Accepted.{Accepted}
 use Rattle.grammar.specs.Prediction.{Predicts}
 use Rattle.grammar.specs.File.{Malformed, headerBytes, ruleBytes, versionOf, lengthOf, ruleCountOf, rulesFrom, grammarOf}
 use Rattle.parse.specs.declared.State.{State}
-use Rattle.parse.specs.Words.{Words, setRoom, within}
+use Rattle.parse.specs.Words.{Words}
 use Rattle.completion.specs.Pass.{andThen, store, enqueue}
 use Rattle.completion.specs.Complete.{completeMedial, completeMedialItems, completeUnary, completeUnaryPredictions, completeBinary, completeBinaryPredictions, complete}
 use Rattle.completion.specs.Sums.{nextSummand, popSum, completeSum, completeAllSums}
 use Rattle.advance.specs.NewItems.{itemsFrom, insert, sortInto, binary}
 use Rattle.advance.specs.Advance.{highest, greatestOrigin, predictions}
-use Rattle.recognizer.specs.Steps.{advanced, stepped, ran, lastWraps}
+use Rattle.recognizer.specs.Steps.{advanced, stepped, ran}
 use Rattle.recognizer.specs.Calls.{Sound, Takes, Runs, Finishes}
 use Rattle.recognizer.specs.Histories.{History}
 use Rattle.recognizer.proofs.Again.{Reading, reading-start, reading-on}
 use Rattle.recognizer.proofs.Telling.{token-tells, finished-tells}
-use Rattle.recognizer.proofs.Computed.{every, some, yields, Passes, passes-accepted}
-use Rattle.recognizer.proofs.Tabled.{rowsOf, tableOf, leads, Tabulates, tabulates-predicts}
+use Rattle.recognizer.proofs.Computed.{every, some, yields, passes-accepted}
+use Rattle.recognizer.proofs.Tabled.{rowsOf, tableOf, leads, tabulates-predicts}
 
 -- A file with the right lengths is not malformed.
 whole : (file : List ℕ) → headerBytes ≤ length file → versionOf file ≡ 1 → lengthOf file ≡ length file → lengthOf file ≡ headerBytes + ruleBytes * ruleCountOf file
