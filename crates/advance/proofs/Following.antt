@@ -8,7 +8,8 @@ use native.Mathlib.Omega.{arith}
 use lib.ListN.{length, getD, set, take, replicate, length-append, length-take, length-drop, length-replicate, List·getD-append, List·getD-eq-default}
 use lib.Seq.{ext-getD, length-take-le, getD-take, getD-append-add}
 use Rattle.laws.specs.Bits.{rowOf, withRow}
-use Rattle.laws.proofs.Bits.{union-wide, row-word, with-row-ext}
+use Rattle.laws.proofs.Bits.{union-wide}
+use Rattle.laws.proofs.Rows.{row-word, with-row-ext}
 use Rattle.bits.specs.Width.{rowWords}
 use Rattle.item.specs.Item.{Item, itemWords, itemAt, flat}
 use Rattle.item.proofs.Words.{flat-length, item-of-flat}
@@ -77,7 +78,7 @@ module _ (width size : ℕ) (rows : List ℕ) (k : ℕ) (long : length rows ≡ 
 
   pub row-behind : (row : List ℕ) → length row ≡ width → withRow width (padded size rows) k row ≡ padded size (rows ++ row)
   row-behind row wide =
-      sym (with-row-ext width (padded size rows) (padded size (rows ++ row)) k row wide (omega (arith, whole))
+      sym (with-row-ext width (padded size rows) k row wide (omega (arith, whole)) (padded size (rows ++ row))
       (padded-length size (rows ++ row) (omega (arith, both)) ∙ sym whole)
       (λ i l.
       padded-word size (rows ++ row) (width * k + i)

@@ -6,7 +6,8 @@ use native.Mathlib.Omega.{arith}
 use lib.ListN.{length, getD, take, drop, replicate, length-append, length-take, length-drop}
 use lib.Seq.{length-take-le, take-at, drop-at}
 use Rattle.laws.specs.Bits.{union, rowOf, withRow}
-use Rattle.laws.proofs.Bits.{union-wide, row-word, with-row-ext}
+use Rattle.laws.proofs.Bits.{union-wide}
+use Rattle.laws.proofs.Rows.{row-word, with-row-ext}
 use Rattle.bits.specs.Width.{rowWords}
 use Rattle.item.specs.Item.{itemAt, ruleAt}
 use Rattle.grammar.specs.Rules.{Rule}
@@ -26,7 +27,7 @@ module _ (width : ℕ) (words : List ℕ) (k : ℕ) (fits : width * k + width �
   -- The row that stands there changes nothing.
   pub with-row-self : words ≡ withRow width words k (rowOf width words k)
   with-row-self =
-      with-row-ext width words words k (rowOf width words k) (simp (length-take, length-drop) (omega arith)) fits refl
+      with-row-ext width words k (rowOf width words k) (simp (length-take, length-drop) (omega arith)) fits words refl
       (λ i l. sym (row-word width words k i l)) (λ j o. refl)
 
   module _ (row : List ℕ) (wide : length row ≡ width) where

@@ -1,6 +1,6 @@
 -- What a caller of steps 4 to 6 cites: they may be called on a well formed state, and leave one.
-use mathlib.Core.Path.{_≡_, sym, ap, ap₂, _∙_}
-use mathlib.Core.Bool.{true, false}
+use mathlib.Core.Path.{_≡_, refl, sym, ap, ap₂, _∙_}
+use mathlib.Core.Bool.{Bool, true, false}
 use mathlib.Core.List.{List, [], _++_, append-nil}
 use Prim.Native.Nat.{ℕ, zero, suc, _+_, _-_, _*_, _/_, _≤_, _<_}
 use native.Mathlib.Decide.{decLt}
@@ -21,9 +21,10 @@ use Rattle.parse.specs.declared.State.{State}
 use Rattle.parse.specs.Tells.{Clear}
 use Rattle.parse.specs.Words.{Words, maxItems, maxSets}
 use Rattle.parse.specs.WellFormed.{secondOf, WellFormed}
+use Rattle.advance.specs.declared.Advanced.{Advanced}
 use Rattle.advance.specs.NewItems.{itemsFrom, sorted, binary}
 use Rattle.advance.specs.Order.{All, Stored}
-use Rattle.advance.specs.Advance.{predictions, padded, nextState, nextWords, newOf, reachOf, keptOf, hasRoom, withoutNew}
+use Rattle.advance.specs.Advance.{predictions, padded, nextState, nextWords, newOf, reachOf, keptOf, lent, hasRoom, withoutNew, advanceAnswer, advanceWords, Advances}
 use Rattle.advance.specs.Ready.{Shape, Ready}
 use Rattle.advance.proofs.Placing.{second-in}
 use Rattle.advance.proofs.Ordering.{Rises, Differ, all-both, sorted-rises, differ-apart}
@@ -31,7 +32,7 @@ use Rattle.advance.proofs.Padded.{zeros-word, clear-padded}
 use Rattle.advance.proofs.Sorting.{items-all}
 use Rattle.advance.proofs.Pruning.{kept-pruned, kept-all}
 use Rattle.advance.proofs.Following.{predictions-wide}
-use Rattle.advance.proofs.Advancing.{binary-cases, binary-all, binary-second, new-all, new-few}
+use Rattle.advance.proofs.Advancing.{answer-done, answer-refused, words-done, words-refused, binary-cases, binary-all, binary-second, new-all, new-few}
 use Rattle.advance.proofs.Keeping.{Newcomer, below-zeros, well-formed-again}
 
 -- Words that differ from those of the sets in the new items alone are, without these, those words.
@@ -64,6 +65,59 @@ ready n rules count table s v to w fit held room origins c seconds shape = recor
   seconds = seconds;
   shape = shape;
 }
+
+-- The steps touch no queue: what they ask and leave of the words without it says all of the words with an empty one.
+module _ (rules : List ℕ) (count : ℕ) (table : List (List ℕ)) (s : State) (v : Words) (to : ℕ) where
+  abbrev part : Words
+  part = lent (v .items) (v .starts) (v .rows)
+
+  pub ready-lent : Ready rules count table s v to → Ready rules count table s part to
+  ready-lent h = record {
+    set-fits = h .set-fits;
+    starts-fit = h .starts-fit;
+    never-falls = h .never-falls;
+    last-start = h .last-start;
+    new = h .new;
+    room = h .room;
+    origins = h .origins;
+    spare-items = h .spare-items;
+    spare-starts = h .spare-starts;
+    spare-rows = h .spare-rows;
+    seconds = h .seconds;
+    shape = h .shape;
+  }
+
+  pub advances-whole : (r : Advanced) (items starts rows : List ℕ) → Clear (v .queue) 0
+      → Advances (rulesIn rules count) table s part to r (lent items starts rows)
+      → (r ≡ advanceAnswer (rulesIn rules count) s v to)
+      × (_≡_ {A = Words} (record { items = items; starts = starts; rows = rows; queue = v .queue }) (advanceWords (rulesIn rules count) table s v to))
+  advances-whole r items starts rows c a = by-room (hasRoom rs s v to) refl
+    where
+      rs : List Rule
+      rs = rulesIn rules count
+
+      empty : v .queue ≡ replicate (length (v .queue)) 0
+      empty =
+          let whole : length (v .queue) - 0 ≡ length (v .queue) = omega arith in
+          clear-padded (v .queue) 0 (omega arith) c ∙ ap (λ (n : ℕ). replicate n 0) whole
+
+      words : {x y : Words} → x .items ≡ y .items → x .starts ≡ y .starts → x .rows ≡ y .rows → x .queue ≡ y .queue → x ≡ y
+      words p q i j = λ k. record { items = p k; starts = q k; rows = i k; queue = j k }
+
+      by-room : (b : Bool) → hasRoom rs s v to ≡ b
+          → (r ≡ advanceAnswer rs s v to) × (_≡_ {A = Words} (record { items = items; starts = starts; rows = rows; queue = v .queue }) (advanceWords rs table s v to))
+      by-room true e =
+          let same = words-done rs table s part to e in (
+            a .answer-is ∙ answer-done rs table s part to e ∙ sym (answer-done rs table s v to e),
+            words (a .items-are ∙ ap (λ (x : Words). x .items) same) (a .starts-are ∙ ap (λ (x : Words). x .starts) same) (a .rows-are ∙ ap (λ (x : Words). x .rows) same) empty
+                ∙ sym (words-done rs table s v to e),
+          )
+      by-room false e =
+          let same = words-refused rs table s part to e in (
+            a .answer-is ∙ answer-refused rs table s part to e ∙ sym (answer-refused rs table s v to e),
+            words (a .items-are ∙ ap (λ (x : Words). x .items) same) (a .starts-are ∙ ap (λ (x : Words). x .starts) same) (a .rows-are ∙ ap (λ (x : Words). x .rows) same) refl
+                ∙ sym (words-refused rs table s v to e),
+          )
 
 -- Where there is no room for the new set no set was to be dropped.
 pub full-keeps-all : (rules : List ℕ) (count : ℕ) (table : List (List ℕ)) (s : State) (v : Words) (to : ℕ) → Ready rules count table s v to

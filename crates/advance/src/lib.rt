@@ -20,7 +20,7 @@ pub mod predict;
 pub mod prune;
 pub mod sort;
 pub mod unary;
-mod words;
+pub mod words;
 
 // What the steps answer: the new set would have no room (9), or the state with it.
 pub enum Advanced {

@@ -1,2 +1,2 @@
 -- Laws of the loops over the words of a row.
-pub mod Joining
+pub mod Rewriting

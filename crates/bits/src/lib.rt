@@ -61,3 +61,13 @@ pub fn join_at(rows: &mut [u64], k: usize, row: &Row)
         rows[WIDTH * k + i] = rows[WIDTH * k + i] | row[i];
     }
 }
+
+// Row `k` of words that hold rows one behind the other becomes `row`.
+pub fn put_at(rows: &mut [u64], k: usize, row: &Row)
+    requires { ⌜ (rowWords * k + rowWords ≤ length (now rows)) × (length (now row) ≡ rowWords) ⌝ }
+    ensures { λ r. ⌜ now (rows .exit) ≡ withRow rowWords (now (rows .entry)) k (now (row .entry)) ⌝ }
+{
+    for i in 0..WIDTH {
+        rows[WIDTH * k + i] = row[i];
+    }
+}

@@ -19,7 +19,7 @@ use Rattle.completion.specs.Pass.{Pass, passOf}
 use Rattle.completion.specs.Ready.{RulesFit, IsSet, Rowed}
 use Rattle.completion.proofs.Onward.{SpareQueue}
 use Rattle.completion.proofs.Through.{Inside}
-use Rattle.completion.proofs.Grounds.{Grounds, Pending}
+use Rattle.completion.specs.Pending.{Grounds, Pending}
 
 -- The rules of an accepted grammar fit.
 pub accepted-rules-fit : (g : Grammar) → Accepted g → RulesFit (g .rules)

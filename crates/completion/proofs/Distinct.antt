@@ -23,7 +23,7 @@ use Rattle.completion.proofs.Onward.{Onward, onward-store, onward-enque
 use Rattle.completion.proofs.Through.{Begins, medial-items-keep, unary-predictions-go, binary-predictions-go, complete-cases}
 use Rattle.completion.proofs.Charting.{Charts, Steady, stored-new, steady-store, steady-enqueue, steady-medial-items, greatest-charts}
 use Rattle.completion.proofs.Heaped.{Heaped}
-use Rattle.completion.proofs.Grounds.{Grounds, Pending}
+use Rattle.completion.specs.Pending.{Grounds, Pending}
 use Rattle.completion.proofs.Pending.{Lower, lower-down, lower-other, pending-steady, pending-sum, pop-lower, complete-lower, first-pending}
 use Rattle.completion.proofs.Once.{AllLower, heaped-all, greatest-lower}
 

@@ -11,7 +11,6 @@ pub mod Onward
 pub mod Through
 pub mod Charting
 pub mod Heaped
-pub mod Grounds
 pub mod Pending
 pub mod Remaining
 pub mod Once

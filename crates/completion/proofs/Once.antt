@@ -21,7 +21,7 @@ use Rattle.completion.proofs.Turning.{not-resting}
 use Rattle.completion.proofs.Entries.{entriesOf, each-entry}
 use Rattle.completion.proofs.Charting.{Charts, greatest-charts}
 use Rattle.completion.proofs.Heaped.{Heaped}
-use Rattle.completion.proofs.Grounds.{Grounds, Pending}
+use Rattle.completion.specs.Pending.{Grounds, Pending}
 use Rattle.completion.proofs.Pending.{Lower, lower-down, lower-other, pending-steady, pending-sum, sum-lower, first-lower, first-pending}
 
 -- A set and a symbol.

@@ -16,7 +16,7 @@ use Rattle.completion.specs.Sums.{completeAllSums}
 use Rattle.completion.specs.Ready.{IsSet, Rowed, Sound, Charted}
 use Rattle.completion.proofs.Onward.{Onward, SpareQueue}
 use Rattle.completion.proofs.Charting.{Steady, steady-all-sums}
-use Rattle.completion.proofs.Grounds.{Grounds, Pending}
+use Rattle.completion.specs.Pending.{Grounds, Pending}
 use Rattle.completion.proofs.Pending.{first-lower, first-pending}
 use Rattle.completion.proofs.Distinct.{Fresh, pass-fresh}
 use Rattle.completion.proofs.Refusals.{Ends, on, stops-complete, all-sums-end}

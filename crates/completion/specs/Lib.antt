@@ -4,3 +4,4 @@ pub mod Complete
 pub mod Sums
 pub mod Ready
 pub mod Search
+pub mod Pending

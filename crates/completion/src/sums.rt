@@ -4,14 +4,23 @@ ghost use Prim.Native.Nat.{ℕ, _<_};
 ghost use Rattle.grammar.specs.Decoded.{rulesIn};
 ghost use Rattle.completion.specs.Pass.{passOf};
 ghost use Rattle.completion.specs.Ready.{RulesFit, Rowed, Sound, Charted, RulesRead};
-ghost use Rattle.completion.specs.Sums.{sumEnds, nextSummand, popSum, completeSum};
-use binary_heap::Popped;
+ghost use Rattle.completion.specs.Pending.{Grounds, Pending};
+ghost use Rattle.completion.specs.Sums.{sumEnds, nextSummand, popSum, completeSum, completeAllSums};
 use crate::Progress;
 use crate::complete;
+use binary_heap::Popped;
 use grammar::rules::Rules;
 
 // Whether the queue is empty, or its greatest entry is of another origin or left side.
-fn sum_ends(rules: &Rules, count: usize, items: &[u32], queue: &[u32], k: usize, x: usize, at: Progress) -> bool
+fn sum_ends(
+    rules: &Rules,
+    count: usize,
+    items: &[u32],
+    queue: &[u32],
+    k: usize,
+    x: usize,
+    at: Progress,
+) -> bool
     requires { ⌜ RulesRead (rulesIn (now rules) count) (passOf at (now items) (now queue)) ⌝ }
     ensures { λ r. ⌜ r ≡ sumEnds (rulesIn (now (rules .entry)) count) k x (passOf at (now (items .entry)) (now (queue .entry))) ⌝ }
 {
@@ -47,7 +56,15 @@ fn next_summand(items: &[u32], queue: &mut [u32], at: Progress) -> Progress
 }
 
 // Takes all entries of origin `k` and left side `x` off the queue, which are its greatest.
-fn pop_sum(rules: &Rules, count: usize, items: &[u32], queue: &mut [u32], k: usize, x: usize, at: Progress) -> Progress
+fn pop_sum(
+    rules: &Rules,
+    count: usize,
+    items: &[u32],
+    queue: &mut [u32],
+    k: usize,
+    x: usize,
+    at: Progress,
+) -> Progress
     requires { ⌜ RulesRead (rulesIn (now rules) count) (passOf at (now items) (now queue)) ⌝ }
     ensures { λ r. ⌜ passOf r (now (items .entry)) (now (queue .exit)) ≡ popSum (rulesIn (now (rules .entry)) count) k x (passOf at (now (items .entry)) (now (queue .entry))) ⌝ }
 {
@@ -59,7 +76,15 @@ fn pop_sum(rules: &Rules, count: usize, items: &[u32], queue: &mut [u32], k: usi
 }
 
 // Takes one sum off the queue, and completes its pair.
-fn complete_sum(rules: &Rules, count: usize, items: &mut [u32], starts: &[u32], rows: &[u64], queue: &mut [u32], at: Progress) -> Progress
+fn complete_sum(
+    rules: &Rules,
+    count: usize,
+    items: &mut [u32],
+    starts: &[u32],
+    rows: &[u64],
+    queue: &mut [u32],
+    at: Progress,
+) -> Progress
     requires { ⌜ RulesFit (rulesIn (now rules) count) × Rowed (now starts) (now rows) ⌝ }
     requires { ⌜ Sound (passOf at (now items) (now queue)) × Charted (rulesIn (now rules) count) (now starts) (passOf at (now items) (now queue)) × (0 < at .queued) ⌝ }
     ensures { λ r. ⌜ passOf r (now (items .exit)) (now (queue .exit)) ≡ completeSum (rulesIn (now (rules .entry)) count) (now (starts .entry)) (now (rows .entry)) (passOf at (now (items .entry)) (now (queue .entry))) ⌝ }
@@ -69,6 +94,29 @@ fn complete_sum(rules: &Rules, count: usize, items: &mut [u32], starts: &[u32], 
     let x = grammar::rules::left(rules, wide(item::rule(items, top)));
     let popped = pop_sum(rules, count, items, queue, k, x, at);
     complete(rules, count, items, starts, rows, queue, k, x, popped)
+}
+
+// Completes sum after sum, until the queue is empty or a push is refused.
+pub fn complete_all_sums_entirely(
+    rules: &Rules,
+    count: usize,
+    items: &mut [u32],
+    starts: &[u32],
+    rows: &[u64],
+    queue: &mut [u32],
+    at: Progress,
+) -> Progress
+    requires { ⌜ Grounds (rulesIn (now rules) count) (now starts) (now rows) × Pending (rulesIn (now rules) count) (now starts) (passOf at (now items) (now queue)) ⌝ }
+    ensures { λ r. ⌜ passOf r (now (items .exit)) (now (queue .exit)) ≡ completeAllSums (rulesIn (now (rules .entry)) count) (now (starts .entry)) (now (rows .entry)) (passOf at (now (items .entry)) (now (queue .entry))) ⌝ }
+{
+    let mut now = at;
+    while now.queued > 0 {
+        if now.stopped != 0 {
+            return now;
+        }
+        now = complete_sum(rules, count, items, starts, rows, queue, now);
+    }
+    now
 }
 
 fn wide(word: u32) -> usize

@@ -184,3 +184,10 @@ formed file n = record {
 -- An accepted grammar's numbers.
 pub accepted-sized : (g : Grammar) → Accepted g → Sized (g .symbols) (g .tokens) (ruleCount g)
 accepted-sized g h = record { a-token = h .a-token; room = h .room; few-symbols = h .few-symbols; a-rule = h .a-rule; few-rules = h .few-rules }
+
+-- Every symbol of an accepted grammar's rules is below the limit.
+pub accepted-low : (words : List ℕ) (n t count : ℕ) → Accepted (grammarIn words n t count) → Low words count
+accepted-low words n t count h = low words n t count size (accepted-wraps words n t count size h) (accepted-ruled words n t count size h)
+  where
+    size : Sized n t count
+    size = subst (Sized n t) (in-count words n t count) (accepted-sized (grammarIn words n t count) h)

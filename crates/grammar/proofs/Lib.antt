@@ -7,3 +7,4 @@ pub mod Judging
 pub mod Verdicts
 pub mod Facts
 pub mod Reached
+pub mod Linking

@@ -1,4 +1,5 @@
--- What the check asks, as it asks it: of the header's numbers, of rule 0, of each other rule, of pairs of rules.
+-- What the parts of the check promise: of the header's numbers, of rule 0, of each other rule, of pairs of rules, of marks.
+-- Only those parts' contracts cite this. What `check` itself promises is over `Malformed` and `Accepted` alone.
 use mathlib.Core.Path.{_≡_}
 use mathlib.Core.Bool.{Bool, true, false}
 use mathlib.Core.List.{List}

@@ -7,3 +7,4 @@ pub mod Decoded
 pub mod Prediction
 pub mod Checking
 pub mod Answers
+pub mod Chains

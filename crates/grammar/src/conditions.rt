@@ -4,15 +4,13 @@ ghost use Prim.Native.Nat.{_+_, _≤_, _<_};
 ghost use Rattle.laws.specs.Decides.{Decides};
 ghost use Rattle.grammar.specs.Accepted.{maxRules, maxSymbols};
 ghost use Rattle.grammar.specs.Checking.{Sized, Wraps, Drawn, Adjoins, Precedes, Ruled, FoundLeft};
+use crate::limits::RULES;
+use crate::limits::SYMBOLS;
 use crate::rules::NONE;
-use crate::rules::RULES;
 use crate::rules::Rules;
 use crate::rules::first;
 use crate::rules::left;
 use crate::rules::second;
-
-// The most symbols.
-pub const SYMBOLS: usize = 128;
 
 // Whether T ≥ 1, T+3 ≤ N ≤ 128 and 1 ≤ R ≤ 512.
 pub fn sized(n: usize, t: usize, count: usize) -> bool

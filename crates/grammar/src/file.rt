@@ -13,6 +13,7 @@ pub const HEADER: usize = 11;
 
 pub const RULE: usize = 6;
 
+// A byte as a number to compute with.
 fn wide(byte: u8) -> usize
     ensures { λ r. ⌜ (r ≡ byte) × (r < 256) ⌝ }
 {

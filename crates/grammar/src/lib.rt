@@ -5,8 +5,10 @@ ghost use Rattle.grammar.specs.Answers.{Verdict, numberOf};
 ghost use Rattle.grammar.specs.Checking.{Sized};
 ghost use Rattle.grammar.specs.Decoded.{grammarIn};
 
+pub mod chains;
 mod conditions;
 pub mod file;
+pub mod limits;
 mod pairs;
 mod productive;
 pub mod rules;

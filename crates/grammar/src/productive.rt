@@ -8,7 +8,7 @@ ghost use Rattle.laws.specs.Decides.{Decides};
 ghost use Rattle.grammar.specs.Accepted.{maxRules, maxSymbols};
 ghost use Rattle.grammar.specs.Decoded.{grammarIn};
 ghost use Rattle.grammar.specs.Checking.{Low, Fires, AllProductive, TokensMarked, AllMarked};
-use crate::conditions::SYMBOLS;
+use crate::limits::SYMBOLS;
 use crate::rules::NONE;
 use crate::rules::Rules;
 use crate::rules::first;

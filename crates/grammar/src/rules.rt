@@ -9,11 +9,8 @@ use crate::file::HEADER;
 use crate::file::RULE;
 use crate::file::rule_count;
 use crate::file::u16_at;
-
-// The most rules, and the words that hold them.
-pub const RULES: usize = 512;
-
-pub const WORDS: usize = 1536;
+use crate::limits::EACH;
+use crate::limits::WORDS;
 
 // What stands for the second symbol of a rule that has one symbol.
 pub const NONE: usize = 65535;
@@ -21,7 +18,8 @@ pub const NONE: usize = 65535;
 // The decoded rules.
 pub type Rules = [u16; WORDS];
 
-fn wide(word: u16) -> usize
+// A word as a number to compute with.
+pub fn wide(word: u16) -> usize
     ensures { λ r. ⌜ (r ≡ word) × (r < 65536) ⌝ }
 {
     word as usize
@@ -32,7 +30,7 @@ pub fn left(rules: &Rules, r: usize) -> usize
     requires { ⌜ r < maxRules ⌝ }
     ensures { λ s. ⌜ (s ≡ leftIn (now (rules .entry)) r) × (s < 65536) ⌝ }
 {
-    wide(rules[3 * r])
+    wide(rules[EACH * r])
 }
 
 // The first symbol of rule `r`.
@@ -40,7 +38,7 @@ pub fn first(rules: &Rules, r: usize) -> usize
     requires { ⌜ r < maxRules ⌝ }
     ensures { λ s. ⌜ (s ≡ firstIn (now (rules .entry)) r) × (s < 65536) ⌝ }
 {
-    wide(rules[3 * r + 1])
+    wide(rules[EACH * r + 1])
 }
 
 // The second symbol of rule `r`, or `NONE`.
@@ -48,7 +46,7 @@ pub fn second(rules: &Rules, r: usize) -> usize
     requires { ⌜ r < maxRules ⌝ }
     ensures { λ s. ⌜ (s ≡ secondIn (now (rules .entry)) r) × (s < 65536) ⌝ }
 {
-    wide(rules[3 * r + 2])
+    wide(rules[EACH * r + 2])
 }
 
 // The rules of a file that is whole and has few enough.
@@ -60,9 +58,9 @@ pub fn decode(file: &[u8]) -> Rules
     let count = rule_count(file);
     for r in 0..count {
         let at = HEADER + RULE * r;
-        rules[3 * r] = u16_at(file, at) as u16;
-        rules[3 * r + 1] = u16_at(file, at + 2) as u16;
-        rules[3 * r + 2] = u16_at(file, at + 4) as u16;
+        rules[EACH * r] = u16_at(file, at) as u16;
+        rules[EACH * r + 1] = u16_at(file, at + 2) as u16;
+        rules[EACH * r + 2] = u16_at(file, at + 4) as u16;
     }
     rules
 }

@@ -7,13 +7,13 @@ use Prim.Native.Nat.{ℕ, zero, suc, _+_, _-_, _*_, _/_, _%_, _^_, _≤_, _<_, m
 use native.Mathlib.Nat.{div-self, div-eq-of-lt, mul-div-cancel, div-div-eq-div-mul, pow-suc, mod-lt, zero-div, mul-comm, mul-mod-left, div-lt-iff-lt-mul, one-mul}
 use native.Mathlib.Decide.{ℕ-discrete, decLt}
 use native.Mathlib.Omega.{arith}
-use lib.ListN.{length, getD, set, take, length-set, length-append, length-take, length-drop, List·getD-eq-default, List·getD-append}
-use lib.Seq.{getD-set-same, getD-set-other, ext-getD, length-take-le, getD-take, getD-drop, getD-append-add}
+use lib.ListN.{length, getD, set, length-set, List·getD-eq-default}
+use lib.Seq.{getD-set-same, getD-set-other, ext-getD}
 use lib.Bits.{bitOr, or-shr, or-step, or-zero-l, or-zero-r, or-lt}
 use lib.Pow.{shl-exact, pow-pos, pow-lt, pow-add}
 use lib.Arith.{digits-div, digits-mod}
 use borrow.Author.Tests.{eqb-true, eqb-false, eq-eqb, ne-eqb}
-use Rattle.laws.specs.Bits.{wordBits, bit, bitAt, Holds, holds, Row, Below, union, adding, rowOf, withRow}
+use Rattle.laws.specs.Bits.{wordBits, bit, bitAt, Holds, holds, Row, Below, union, adding}
 
 -- A bit is 0 or 1.
 pub bit-small : (w k : ℕ) → bit w k < 2
@@ -189,39 +189,3 @@ adding-row width row s r = record {
 -- A union has no bit at n or above where neither row has one.
 pub union-below : (n : ℕ) (a b : List ℕ) → Below n a → Below n b → Below n (union a b)
 union-below n a b ha hb = record { none-above = λ s l h. ⊎-elim (ha .none-above s l) (hb .none-above s l) (union-one a b s h) }
-
--- A word of row `k` stands behind the rows before it.
-pub row-word : (w : ℕ) (words : List ℕ) (k i : ℕ) → i < w → getD (rowOf w words k) i 0 ≡ getD words (w * k + i) 0
-row-word w words k i l = getD-take w _ i 0 l ∙ getD-drop (w * k) words i 0
-
--- Words that hold `row` at row `k`, and elsewhere what stood there, are the old words with that row.
-pub with-row-ext : (w : ℕ) (words new : List ℕ) (k : ℕ) (row : List ℕ) → length row ≡ w → w * k + w ≤ length words
-    → length new ≡ length words
-    → ((i : ℕ) → i < w → getD new (w * k + i) 0 ≡ getD row i 0)
-    → ((j : ℕ) → (j < w * k) ⊎ (w * k + w ≤ j) → getD new j 0 ≡ getD words j 0)
-    → new ≡ withRow w words k row
-with-row-ext w words new k row lr fits ln inside outside =
-    ext-getD 0 new (withRow w words k row) (omega (arith, whole)) (λ j l. at j (decLt j (w * k)) (decLt j (w * k + w)))
-  where
-    front : length (take (w * k) words) ≡ w * k
-    front = length-take-le (w * k) words (omega arith)
-
-    whole : length (withRow w words k row) ≡ length words
-    whole = simp (length-append, length-take, length-drop) (omega arith)
-
-    at : (j : ℕ) → Dec (j < w * k) → Dec (j < w * k + w) → getD new j 0 ≡ getD (withRow w words k row) j 0
-    at j (yes l) d =
-        outside j (inl l) ∙ sym (List·getD-append (take (w * k) words) _ 0 j (omega (arith, front)) ∙ getD-take (w * k) words j 0 l)
-    at j (no n) (yes l) =
-        let i : ℕ = j - w * k in
-        let e : j ≡ w * k + i = omega arith in
-        let e′ : j ≡ length (take (w * k) words) + i = omega (arith, front) in
-        ap (λ (m : ℕ). getD new m 0) e ∙ inside i (omega arith)
-        ∙ sym (ap (λ (m : ℕ). getD (withRow w words k row) m 0) e′ ∙ getD-append-add (take (w * k) words) _ i 0 ∙ List·getD-append row _ 0 i (omega arith))
-    at j (no n) (no m) =
-        let i : ℕ = j - (w * k + w) in
-        let e : j ≡ length (take (w * k) words) + (length row + i) = omega (arith, front) in
-        let e′ : w * k + w + i ≡ j = omega arith in
-        outside j (inr (omega arith))
-        ∙ sym (ap (λ (m : ℕ). getD (withRow w words k row) m 0) e ∙ getD-append-add (take (w * k) words) _ (length row + i) 0
-        ∙ getD-append-add row _ i 0 ∙ getD-drop (w * k + w) words i 0 ∙ ap (λ (m : ℕ). getD words m 0) e′)

@@ -1,6 +1,7 @@
 -- Laws that several crates cite.
 pub mod Bits
 pub mod Counts
+pub mod Rows
 pub mod Filled
 pub mod Lists
 pub mod Records

@@ -1,6 +1,9 @@
 -- Document 01's number and values determine the answer: two results that meet a promise agree.
-use mathlib.Core.Path.{_≡_, refl, ap, _∙_}
+use mathlib.Core.Path.{_≡_, refl, sym, ap, _∙_}
+use mathlib.Core.List.{List}
+use Prim.Native.Nat.{ℕ}
 use Rattle.node.specs.Answers.{answer, written, found, walked}
+use Rattle.node.specs.Writing.{Outcome}
 use Rattle.node.specs.declared.Written.{Written}
 use Rattle.node.specs.declared.Written.the-variants.{Behind, Unfit, NoRoom}
 use Rattle.node.specs.declared.Found.{Found}
@@ -44,3 +47,17 @@ walks-agree (ToFault c p) (ToFault d q) e =
     let h : c ≡ d = cc in
     let k : p ≡ q = cc in
     ap (λ x. ToFault x p) h ∙ ap (ToFault d) k
+
+-- Two outcomes of a write that are what its definition gives have one answer and leave one store.
+pub record Settled (a b : Written) (s t : List ℕ) : Type 0 where
+  pub answers : a ≡ b
+  pub stores : s ≡ t
+
+pub writes-settled :
+    (a b : Written) (s t : List ℕ) (o : Outcome) → record { answer = written a; store = s } ≡ o
+    → record { answer = written b; store = t } ≡ o
+    → Settled a b s t
+writes-settled a b s t o first second =
+    let same : _≡_ {A = Outcome} (record { answer = written a; store = s }) (record { answer = written b; store = t }) = first
+    ∙ sym second in
+    record { answers = writes-agree a b (ap (λ x. x .answer) same); stores = ap (λ x. x .store) same }

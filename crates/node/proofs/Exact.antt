@@ -6,10 +6,10 @@ use mathlib.Core.List.{List, [], _∷_}
 use native.Mathlib.Omega.{arith}
 use lib.ListN.{length}
 use lib.Dec.{ltb}
-use borrow.Author.Tests.{lt-ltb, le-ltb, ltb-true}
+use borrow.Author.Tests.{ltb-false, lt-ltb, le-ltb, ltb-true}
 use Rattle.node.specs.Choice.{pick}
 use Rattle.node.specs.Rows.{unitsAt, unitsOf, listOf}
-use Rattle.node.specs.Answers.{answer, done, noNode, node, end, nothing, position}
+use Rattle.node.specs.Answers.{Answer, answer, done, noNode, node, end, nothing, position}
 use Rattle.node.specs.Reading.{headFrom, stand, standAll, spelt, takeNode, readHere, readUnits, Exactly}
 use Rattle.node.specs.declared.Node.{Node}
 use Rattle.node.specs.declared.Units.{Units}
@@ -68,7 +68,9 @@ here-taken {k} s h n b e = spelt-case (spelt s h) e
     spelt-case (Like m) e = stand-case m (stand s h (unitsAt h m)) refl e
     spelt-case Unknown e = record { stands = cc; behind = cc }
 
-pub here-read : (s : List ℕ) (h : ℕ) (n : Node) → stand s h (unitsAt h n) ≡ true → readHere s h ≡ answer done (node n (h + length (unitsAt h n)))
+pub here-read :
+    (s :
+    List ℕ) (h : ℕ) (n : Node) → stand s h (unitsAt h n) ≡ true → readHere s h ≡ answer done (node n (h + length (unitsAt h n)))
 unfolding readHere takeNode
 here-read s h n st = ap (takeNode s h) (units-spell s h n st) ∙ rw st
 
@@ -118,6 +120,37 @@ reads-exactly s p = record {
   ended = λ past. rw (le-ltb (headFrom s p) (length s) past);
 }
 
+-- To be exact says all: there is one exact answer, and the table of heads need not be believed.
+pub exactly-is : (s : List ℕ) (p : ℕ) (r : Answer) → Exactly s p r → r ≡ readUnits s p
+exactly-is s p r exact = end-case (ltb (headFrom s p) (length s)) refl
+  where
+    absurd-test : (t : Bool) → t ≡ true → t ≡ false → ⊥
+    absurd-test t a b = let z : _≡_ {A = ℕ} 0 1 = cc in omega arith
+
+    stand-case : (m : Node) → headFrom s p < length s → spelt s (headFrom s p) ≡ Like m
+        → (t : Bool) → stand s (headFrom s p) (unitsAt (headFrom s p) m) ≡ t → r ≡ readUnits s p
+    stand-case m before like true st = exact .taken m st ∙ sym (read-stands s p m st)
+    stand-case m before like false st =
+        let never : (n : Node) → stand s (headFrom s p) (unitsAt (headFrom s p) n) ≡ true → ⊥ = λ n sn.
+        let both : Like m ≡ Like n = sym like ∙ units-spell s (headFrom s p) n sn in
+        let same : n ≡ m = cc in
+        absurd-test _ (subst (λ k. stand s (headFrom s p) (unitsAt (headFrom s p) k) ≡ true) same sn) st in
+        exact .fault before never ∙ sym (reads-exactly s p .fault before never)
+
+    spelt-case : headFrom s p < length s → (x : Spelt) → spelt s (headFrom s p) ≡ x → r ≡ readUnits s p
+    spelt-case before (Like m) like = stand-case m before like (stand s (headFrom s p) (unitsAt (headFrom s p) m)) refl
+    spelt-case before Unknown like =
+        let never : (n : Node) → stand s (headFrom s p) (unitsAt (headFrom s p) n) ≡ true → ⊥ = λ n sn.
+        let both : Unknown ≡ Like n = sym like ∙ units-spell s (headFrom s p) n sn in
+        let z : _≡_ {A = ℕ} 0 1 = cc in omega arith in
+        exact .fault before never ∙ sym (reads-exactly s p .fault before never)
+
+    end-case : (t : Bool) → ltb (headFrom s p) (length s) ≡ t → r ≡ readUnits s p
+    end-case true e = spelt-case (ltb-true (headFrom s p) (length s) e) (spelt s (headFrom s p)) refl
+    end-case false e =
+        let past : length s ≤ headFrom s p = ltb-false (headFrom s p) (length s) e in
+        exact .ended past ∙ sym (reads-exactly s p .ended past)
+
 -- A read goes on, and stays within the store.
 pub record Onward (s : List ℕ) (p b : ℕ) : Type 0 where
   pub onward : p < b
@@ -128,3 +161,10 @@ read-onward s p n b e =
     let r : Read s p n b = read-taken s p n b e in
     let w : Within s (headFrom s p) (unitsAt (headFrom s p) n) = within s (headFrom s p) _ (r .taken .stands) in
     record { onward = omega (arith, w .some, r .taken .behind); inside = omega (arith, w .inside, r .taken .behind) }
+
+-- A node comes with the number 0.
+pub read-done :
+    {k : ℕ} (s : List ℕ) (p : ℕ) (n : Node) (b : ℕ) → readUnits s p ≡ answer k (node n b) → readUnits s p ≡ answer done (node n b)
+read-done s p n b e =
+    let r : Read s p n b = read-taken s p n b e in
+    read-stands s p n (r .taken .stands) ∙ ap (λ x. answer done (node n x)) (sym (r .taken .behind))

@@ -1,22 +1,22 @@
 -- Nodes written one behind another are read and walked in order.
-use Prim.Native.Nat.{ℕ, suc, _+_, _≤_, _<_}
+use Prim.Native.Nat.{ℕ, zero, suc, _+_, _≤_, _<_}
 use mathlib.Core.Path.{_≡_, refl, sym, ap, subst, _∙_}
 use mathlib.Core.Bool.{Bool, true, false}
 use mathlib.Core.List.{List, [], _∷_, _++_}
 use native.Mathlib.Omega.{arith}
-use native.Mathlib.Nat.{add-zero}
+use native.Mathlib.Nat.{add-zero, zero-add}
 use lib.ListN.{length, getD, drop, length-drop}
 use lib.Seq.{getD-drop}
 use lib.Dec.{eqb}
 use Rattle.node.specs.Rows.{unitsAt}
-use Rattle.node.specs.Answers.{answer, done, node, position}
+use Rattle.node.specs.Answers.{Answer, answer, done, node, position, nothing, end, nodes}
 use Rattle.node.specs.Writing.{usable, writeAt}
 use Rattle.node.specs.Reading.{filler, fillers, headFrom, stand, readUnits, readAt}
-use Rattle.node.specs.Walking.{walkFrom}
+use Rattle.node.specs.Walking.{goOn, walkOn, walkFrom, walkAt}
 use Rattle.node.specs.declared.Node.{Node}
 use Rattle.node.proofs.Runs.{length-usable, length-put}
 use Rattle.node.proofs.Stands.{Holds, all-held, all-stand}
-use Rattle.node.proofs.Exact.{Within, within, Read, read-taken, read-stands, read-onward}
+use Rattle.node.proofs.Exact.{Onward, read-done, Within, within, Read, read-taken, read-stands, read-onward}
 use Rattle.node.proofs.Puts.{put-below, usable-unit}
 use Rattle.node.proofs.RoundTrip.{Wrote, did-write, write-then-read, stand-all, all-of-stand}
 use Rattle.node.proofs.Walks.{walk-node}
@@ -25,7 +25,8 @@ use Rattle.node.proofs.Walks.{walk-node}
 pub data WrittenFrom : List ℕ → ℕ → List Node → List ℕ → ℕ → Type 0 where
   none : {s : List ℕ} {p : ℕ} → WrittenFrom s p [] s p
   more : {s t u : List ℕ} {p q b : ℕ} {n : Node} {ns : List Node}
-      → writeAt s p n ≡ record { answer = answer done (position q); store = t } → WrittenFrom t q ns u b → WrittenFrom s p (n ∷ ns) u b
+      → writeAt s p n ≡ record { answer = answer done (position q); store = t } → WrittenFrom t q ns u b
+      → WrittenFrom s p (n ∷ ns) u b
 
 -- Nodes that are read one behind another from p on, and b is behind the last.
 pub data ReadFrom (s : List ℕ) : ℕ → List Node → ℕ → Type 0 where
@@ -77,7 +78,8 @@ same-head s t p b same h inside =
 
 -- What is read up to b is read the same from units that are the same below b.
 pub same-read :
-    (s t : List ℕ) (p : ℕ) (n : Node) (b : ℕ) → Same b s t → readUnits s p ≡ answer done (node n b) → readUnits t p ≡ answer done (node n b)
+    (s t : List ℕ) (p : ℕ) (n : Node) (b : ℕ) → Same b s t → readUnits s p ≡ answer done (node n b)
+    → readUnits t p ≡ answer done (node n b)
 same-read s t p n b same e =
     let r : Read s p n b = read-taken s p n b e in
     let h = headFrom s p in
@@ -156,3 +158,51 @@ pub read-on :
 read-on {s} {t} {p} {q} {b} n none w = more (write-then-read s q n b t w) none
 read-on {s} {t} {p} {q} {b} n (more {q = c} {n = m} e rest) w =
     more (read-keeps s p m c q n b t e (reads-rise rest) w) (read-on n rest w)
+
+-- So a walk over nodes that were written one behind another counts them, and goes on behind the last.
+pub walk-written :
+    {s t : List ℕ} {p b : ℕ} {ns : List Node} → WrittenFrom s p ns t b → walkAt t p ≡ walkFrom (usable t) b (length ns)
+walk-written {t = t} {b = b} {ns = ns} w =
+    walk-in-order 0 (read-in-order w) ∙ ap (walkFrom (usable t) b) (zero-add (length ns))
+
+-- What a walk from p becomes by a write where it ended.
+record After (t : List ℕ) (p c k q b : ℕ) : Type 0 where
+  rises : p ≤ q
+  walks : walkFrom (usable t) p c ≡ walkFrom (usable t) b (k + 1)
+
+module _ (s t : List ℕ) (q : ℕ) (n : Node) (b m k : ℕ) (w : writeAt s q n ≡ record { answer = answer done (position b); store = t }) where
+  after-here : (p c number : ℕ) → answer number (nodes c p) ≡ answer m (nodes k q) → After t p c k q b
+  after-here p c number e =
+      let at : p ≡ q = cc in
+      let counted : c ≡ k = cc in
+      record {
+        rises = omega (arith, at);
+        walks = ap (λ x. walkFrom (usable t) x c) at ∙ walk-node (usable t) q n b c (write-then-read s q n b t w)
+            ∙ ap (λ x. walkFrom (usable t) b (x + 1)) counted;
+      }
+
+  after-step :
+      (p c : ℕ) (f : ℕ → Answer) (r : Answer) → readUnits (usable s) p ≡ r → goOn r f c p ≡ answer m (nodes k q)
+      → ((x : ℕ) → f x ≡ answer m (nodes k q) → After t x (c + 1) k q b) → After t p c k q b
+  after-step p c f (answer number (node l x)) e walked rest =
+      let a : After t x (c + 1) k q b = rest x walked in
+      let o : Onward (usable s) p x = read-onward (usable s) p l x e in
+      let is : readUnits (usable s) p ≡ answer done (node l x) = read-done (usable s) p l x e in
+      record {
+        rises = omega (arith, o .onward, a .rises);
+        walks = walk-node (usable t) p l x c (read-keeps s p l x q n b t is (a .rises) w) ∙ a .walks;
+      }
+  after-step p c f (answer number nothing) e walked rest = after-here p c number walked
+  after-step p c f (answer number (position x)) e walked rest = after-here p c number walked
+  after-step p c f (answer number end) e walked rest = after-here p c number walked
+  after-step p c f (answer number (nodes j x)) e walked rest = after-here p c number walked
+
+  after-write : (reads p c : ℕ) → walkOn reads (usable s) p c ≡ answer m (nodes k q) → After t p c k q b
+  unfolding walkOn
+  after-write zero p c e = after-here p c done e
+  after-write (suc reads) p c e =
+      after-step p c (λ x. walkOn reads (usable s) x (c + 1)) (readUnits (usable s) p) refl e (λ x h. after-write reads x (c + 1) h)
+
+  -- After a write where a walk ended, the walk from before reads on: it counts one more, and goes on behind the node that was written.
+  pub walk-then-write : (p : ℕ) → walkAt s p ≡ answer m (nodes k q) → walkAt t p ≡ walkFrom (usable t) b (k + 1)
+  walk-then-write p e = after-write (suc (length (usable s))) p 0 e .walks

@@ -7,7 +7,8 @@ use native.Mathlib.Omega.{arith}
 use lib.ListN.{length, getD}
 use borrow.Author.Tests.{lt-ltb, lt-leb, ne-eqb}
 use Rattle.node.specs.Choice.{both, bothBelow}
-use Rattle.node.specs.Rows.{unitsOf, unitsAt, listOf, rowOf, sumRow, aloneRow, pairRow, productRow, longProduct, leafRow, unfit, unfitRight, distance, low, high, allOnes, countLimit, actionLimit}
+use Rattle.node.specs.Rows.{unitsOf, unitsAt, listOf, rowOf, sumRow, aloneRow, pairRow, productRow, longProduct, leafRow}
+use Rattle.node.specs.Rows.{unfit, unfitRight, distance, low, high, allOnes, countLimit, actionLimit}
 use Rattle.node.specs.Answers.{answer, noNode, nothing}
 use Rattle.node.specs.Reading.{filler, headFrom, standAll, stand, spelt, readUnits}
 use Rattle.node.specs.declared.Right.the-variants.{At, Nothing}
@@ -55,7 +56,13 @@ due-pair :
     → unitsAt p (Product a l (At r)) ≡ (0x6000 + distance p r * 256 + distance p l) ∷ a ∷ []
 unfolding unitsOf unfit unfitRight rowOf productRow pairRow bothBelow
 due-pair p a l r hr hl ha present =
-    simp (lt-leb actionLimit a (omega arith), ne-eqb r allOnes present, lt-ltb a 65536 ha, lt-ltb (distance p r) 32 hr, lt-ltb (distance p l) 256 hl)
+    simp (
+      lt-leb actionLimit a (omega arith),
+      ne-eqb r allOnes present,
+      lt-ltb a 65536 ha,
+      lt-ltb (distance p r) 32 hr,
+      lt-ltb (distance p l) 256 hl,
+    )
 
 due-evaluated : (p n : ℕ) → n < 4096 → unitsAt p (Evaluated n) ≡ (0x8000 + n) ∷ []
 unfolding unitsOf unfit rowOf leafRow
@@ -80,12 +87,14 @@ not-own s p x n u us before is no-filler like own other =
     subst (λ l. stand s p l ≡ true) own (subst (λ k. stand s p (unitsAt p k) ≡ true) (sym same) here) in
     other (sym is ∙ S.first-stands s p u us own-stands .first .there))
 
-pub longer-is-12 : (s : List ℕ) (p : ℕ) {n : Node} {us : List ℕ} → Longer p n us → stand s p us ≡ true → readUnits s p ≡ answer noNode nothing
+pub longer-is-12 :
+    (s : List ℕ) (p : ℕ) {n : Node} {us : List ℕ} → Longer p n us → stand s p us ≡ true → readUnits s p ≡ answer noNode nothing
 unfolding stand longProduct
 longer-is-12 s p (sum {count = c} {nonterminal = n} hc hn) st =
     let f : S.Four s p (0xE000 + high c) (low c) (high n * 65536 + low n) = S.four-stand s p _ _ _ _ _ st in
     not-own s p (0xE000 + high c) (Sum c n) _ _ (S.first-stands s p _ _ st .first .within) (f .head) (λ e. omega (arith, e))
-    (Sp.long-sum s p _ c n (omega arith) (f .head) (f .second) (f .value ∙ Sp.halves n)) (due-sum p c n hc hn) (λ e. omega (arith, e))
+    (Sp.long-sum s p _ c n (omega arith) (f .head) (f .second) (f .value ∙ Sp.halves n))
+    (due-sum p c n hc hn) (λ e. omega (arith, e))
 longer-is-12 s p (middle {action = a} {left = l} hl ha) st =
     let f : S.First s p (0x4000 + distance p l) (a ∷ []) = S.first-stands s p _ _ st in
     not-own s p (0x4000 + distance p l) (Product a l Nothing) _ _ (f .first .within) (f .first .there) (λ e. omega (arith, e))
@@ -103,10 +112,16 @@ longer-is-12 s p (alone {action = a} {left = l} hl ha) st = on (bothBelow (dista
     on : (t : Bool) → bothBelow (distance p l) 32 a 256 ≡ t → readUnits s p ≡ answer noNode nothing
     on true e =
         let b : Below (distance p l) 32 a 256 = below (sym e) refl in
-        not-own s p (0xC000 + high a) (Product a l Nothing) _ _ (S.first-stands s p _ _ st .first .within) begins (λ e. omega (arith, e))
+        not-own s p (0xC000 + high a) (Product a l Nothing) _ _ (S.first-stands s p _ _ st .first .within) begins (λ e. omega (
+          arith,
+          e,
+        ))
         spells (due-short p a l (b .first) (b .second)) (λ e. omega (arith, e, b .first, b .second))
     on false e =
-        not-own s p (0xC000 + high a) (Product a l Nothing) _ _ (S.first-stands s p _ _ st .first .within) begins (λ e. omega (arith, e))
+        not-own s p (0xC000 + high a) (Product a l Nothing) _ _ (S.first-stands s p _ _ st .first .within) begins (λ e. omega (
+          arith,
+          e,
+        ))
         spells (due-middle p a l e hl ha) (λ e. omega (arith, e))
 longer-is-12 s p (pair {action = a} {left = l} {right = r} hr hl ha present) st =
     not-own s p (0xC000 + high a) (Product a l (At r)) _ _ (S.first-stands s p _ _ st .first .within) (S.first-stands s p _ _ st .first .there)

@@ -1,8 +1,9 @@
 -- Document 01's numbers to try, as rows of one table under one statement.
 use mathlib.Core.Path.{_≡_, refl}
-use mathlib.Core.List.{List, [], _∷_}
+use mathlib.Core.List.{List, [], _∷_, _++_}
 use Rattle.node.specs.Choice.{bothBelow}
-use Rattle.node.specs.Rows.{unitsOf, unitsAt, rowOf, sumRow, longProduct, aloneRow, pairRow, productRow, leafRow, unfit, unfitRight, distance}
+use Rattle.node.specs.Rows.{unitsOf, unitsAt, rowOf, sumRow, longProduct, aloneRow, pairRow, productRow, leafRow, unfit}
+use Rattle.node.specs.Rows.{unfitRight, distance}
 use Rattle.node.specs.declared.Right.the-variants.{At, Nothing}
 use Rattle.node.specs.declared.Node.the-variants.{Sum, Product, NullingLeaf}
 
@@ -16,6 +17,11 @@ Agrees (row given printed) = given ≡ printed
 abbrev pub All : List Row → Type 0
 All [] = Unit
 All (r ∷ rows) = Agrees r × All rows
+
+-- Tables are joined: rows of other crates stand under the same statement.
+pub joined : (xs ys : List Row) → All xs → All ys → All (xs ++ ys)
+joined [] ys a b = b
+joined (x ∷ xs) ys a b = (a .0, joined xs ys (a .1) b)
 
 -- The node rows.
 unfoldable pub nodeRows : List Row

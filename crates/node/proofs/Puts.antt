@@ -27,7 +27,9 @@ put-behind s p (u ∷ us) i h =
 
 -- The units put are where they were put.
 pub put-there :
-    (s : List ℕ) (p : ℕ) (us : List ℕ) → p + length us ≤ length s → (k : ℕ) → k < length us → getD (put s p us) (p + k) 0 ≡ getD us k 0
+    (s :
+    List ℕ) (p : ℕ) (us : List ℕ) → p + length us ≤ length s → (k : ℕ) → k < length us
+    → getD (put s p us) (p + k) 0 ≡ getD us k 0
 unfolding put
 put-there s p [] fits k h = absurd (omega (arith, h))
 put-there s p (u ∷ us) fits zero h =
@@ -44,7 +46,8 @@ pub usable-unit : (s : List ℕ) (i : ℕ) → i < usableUnits → getD (usable 
 usable-unit s i h = getD-take usableUnits s i 0 h
 
 -- So the units put stand there.
-pub put-stands : (s : List ℕ) (p : ℕ) (us : List ℕ) → p + length us ≤ min usableUnits (length s) → standAll (usable (put s p us)) p us ≡ true
+pub put-stands :
+    (s : List ℕ) (p : ℕ) (us : List ℕ) → p + length us ≤ min usableUnits (length s) → standAll (usable (put s p us)) p us ≡ true
 put-stands s p us fits = all-stand (usable (put s p us)) p us (λ k h. record {
   within = omega (arith, fits, length-usable (put s p us), length-put s p us);
   there = usable-unit (put s p us) (p + k) (omega (arith, fits)) ∙ put-there s p us (omega (arith, fits)) k h;

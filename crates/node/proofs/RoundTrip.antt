@@ -19,11 +19,11 @@ use Rattle.node.specs.declared.Units.the-variants.{Unfit}
 use Rattle.node.specs.declared.Spelt.the-variants.{Like}
 use Rattle.node.proofs.Fit.{fit-sum}
 use Rattle.node.proofs.Fillers.{head-here}
-use Rattle.node.proofs.Runs.{length-usable, place-done, write-some}
+use Rattle.node.proofs.Runs.{length-usable, length-put, place-done, write-some}
 use Rattle.node.proofs.Stands.{all-stand}
 use Rattle.node.proofs.Spells.{units-spell}
 use Rattle.node.proofs.Exact.{Within, within, Read, read-taken, read-stands}
-use Rattle.node.proofs.Puts.{put-stands, put-standing}
+use Rattle.node.proofs.Puts.{put-stands, put-standing, put-below, put-behind}
 
 -- A node that stands somewhere is fit.
 pub standing-fit : (s : List ℕ) (q : ℕ) (n : Node) → stand s q (unitsAt q n) ≡ true → unfit n ≡ false
@@ -50,7 +50,9 @@ head-standing s q n st =
     head-here s q (omega (arith, w .some, w .inside)) (no-filler s q n st)
 
 pub read-standing :
-    (s : List ℕ) (q : ℕ) (n : Node) → stand s q (unitsAt q n) ≡ true → readUnits s q ≡ answer done (node n (q + length (unitsAt q n)))
+    (s :
+    List ℕ) (q : ℕ) (n : Node) → stand s q (unitsAt q n) ≡ true
+    → readUnits s q ≡ answer done (node n (q + length (unitsAt q n)))
 read-standing s q n st =
     let at : headFrom s q ≡ q = head-standing s q n st in
     read-stands s q n (subst (λ h. stand s h (unitsAt h n) ≡ true) (sym at) st)
@@ -102,6 +104,23 @@ pub all-of-stand : (s : List ℕ) (q : ℕ) (us : List ℕ) → stand s q us ≡
 unfolding stand standAll
 all-of-stand s q [] e = refl
 all-of-stand s q (u ∷ us) e = e
+
+-- A write changes no other unit, and no length.
+pub record Elsewhere (p b : ℕ) (s t : List ℕ) : Type 0 where
+  pub size : length t ≡ length s
+  pub before : (i : ℕ) → i < p → getD t i 0 ≡ getD s i 0
+  pub after : (i : ℕ) → b ≤ i → getD t i 0 ≡ getD s i 0
+
+pub write-elsewhere :
+    (s : List ℕ) (p : ℕ) (n : Node) (b : ℕ) (t : List ℕ) → writeAt s p n ≡ record { answer = answer done (position b); store = t }
+    → Elsewhere p b s t
+write-elsewhere s p n b t e =
+    let w : Wrote s p (unitsAt p n) b t = did-write s p (unitsAt p n) b t e in
+    record {
+      size = ap length (w .left) ∙ length-put s p (unitsAt p n);
+      before = λ i h. ap (λ l. getD l i 0) (w .left) ∙ put-below s p (unitsAt p n) i h;
+      after = λ i h. ap (λ l. getD l i 0) (w .left) ∙ put-behind s p (unitsAt p n) i (omega (arith, h, w .behind));
+    }
 
 -- A node that was written stands where it was written.
 pub written-stands :
@@ -155,7 +174,9 @@ units-in front us rest some = stand-all (front ++ (us ++ rest)) (length front) u
 
 -- The units determine the node, and so their number: no node's units are a beginning of another's.
 pub units-determine :
-    (p : ℕ) (n m : Node) (x y : List ℕ) → 0 < length (unitsAt p n) → 0 < length (unitsAt p m) → unitsAt p n ++ x ≡ unitsAt p m ++ y → n ≡ m
+    (p :
+    ℕ) (n m : Node) (x y : List ℕ) → 0 < length (unitsAt p n) → 0 < length (unitsAt p m) → unitsAt p n ++ x ≡ unitsAt p m ++ y
+    → n ≡ m
 units-determine p n m x y a b e =
     let front : List ℕ = replicate p 0 in
     let at : length front ≡ p = length-replicate p 0 in

@@ -57,9 +57,12 @@ more-fall s q a b us e = on (holds s q a) (holds s (q + 1) b) (standAll s (q + 1
     on false y z h = refl
 
 -- Units are put two and then the others.
-pub more-put : (s : List ℕ) (p a b : ℕ) (us : List ℕ) → put (put s p (a ∷ b ∷ [])) (p + 2) us ≡ put s p (a ∷ b ∷ us)
+pub more-put :
+    (s mid last : List ℕ) (p a b : ℕ) (us : List ℕ) → mid ≡ put s p (a ∷ b ∷ []) → last ≡ put mid (p + 2) us
+    → last ≡ put s p (a ∷ b ∷ us)
 unfolding put
-more-put s p a b us = ap (λ k. put (set (set s p a) (p + 1) b) k us) (sym (add-assoc p 1 1))
+more-put s mid last p a b us two others =
+    others ∙ ap (λ l. put l (p + 2) us) two ∙ ap (λ k. put (set (set s p a) (p + 1) b) k us) (sym (add-assoc p 1 1))
 
 -- Putting units changes no length.
 pub length-put : (s : List ℕ) (p : ℕ) (us : List ℕ) → length (put s p us) ≡ length s
@@ -68,7 +71,9 @@ length-put s p [] = refl
 length-put s p (u ∷ us) = length-put (set s p u) (p + 1) us ∙ length-set s p u
 
 -- A node with no units is unfit; one with units is placed.
-pub write-none : (s : List ℕ) (p : ℕ) (us : List ℕ) → length us ≡ 0 → writeUnits s p us ≡ record { answer = answer valueUnfit nothing; store = s }
+pub write-none :
+    (s :
+    List ℕ) (p : ℕ) (us : List ℕ) → length us ≡ 0 → writeUnits s p us ≡ record { answer = answer valueUnfit nothing; store = s }
 unfolding writeUnits
 write-none s p [] e = refl
 write-none s p (u ∷ us) e = absurd (omega (arith, e))

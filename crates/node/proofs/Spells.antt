@@ -8,8 +8,10 @@ use lib.ListN.{getD}
 use lib.Dec.{ltb, leb, eqb}
 use borrow.Author.Tests.{lt-ltb, le-ltb, le-leb, leb-true, ltb-true}
 use Rattle.node.specs.Choice.{pick, both, bothBelow}
-use Rattle.node.specs.Rows.{distance, unitsOf, unitsAt, listOf, rowOf, sumRow, longProduct, aloneRow, pairRow, productRow, leafRow, unfit, unfitRight, low, high, allOnes, countLimit, actionLimit}
-use Rattle.node.specs.Reading.{factorAt, alone, paired, longRight, valueAt, nearSpelt, leafSpelt, longSpelt, speltBy, spelt, stand}
+use Rattle.node.specs.Rows.{distance, unitsOf, unitsAt, listOf, rowOf, sumRow, longProduct, aloneRow, pairRow, productRow}
+use Rattle.node.specs.Rows.{leafRow, unfit, unfitRight, low, high, allOnes, countLimit, actionLimit}
+use Rattle.node.specs.Reading.{factorAt, alone, paired, longRight, valueAt, nearSpelt, leafSpelt, longSpelt, speltBy, spelt}
+use Rattle.node.specs.Reading.{stand}
 use Rattle.node.specs.declared.Right.{Right}
 use Rattle.node.specs.declared.Right.the-variants.{At, Nothing}
 use Rattle.node.specs.declared.Node.{Node}
@@ -41,7 +43,8 @@ module _ (s : List ℕ) (q x : ℕ) where
       let m : x % 256 ≡ n = omega arith in
       simp (lt-ltb x 0x8000 (omega arith), lt-ltb x 0x2000 (omega arith), d, m)
 
-  short-alone : (d a f : ℕ) → d < 32 → a < 256 → x ≡ 0x2000 + d * 256 + a → factorAt q d ≡ At f → speltBy s q x ≡ Like (Product a f Nothing)
+  short-alone :
+      (d a f : ℕ) → d < 32 → a < 256 → x ≡ 0x2000 + d * 256 + a → factorAt q d ≡ At f → speltBy s q x ≡ Like (Product a f Nothing)
   unfolding nearSpelt alone
   short-alone d a f hd ha e back =
       let k : (x - 0x2000) / 256 ≡ d = omega arith in
@@ -49,7 +52,8 @@ module _ (s : List ℕ) (q x : ℕ) where
       simp (lt-ltb x 0x8000 (omega arith), le-ltb x 0x2000 (omega arith), lt-ltb x 0x4000 (omega arith), k, m, back)
 
   pub middle-alone :
-      (d a f : ℕ) → d < 8192 → x ≡ 0x4000 + d → getD s (q + 1) 0 ≡ a → factorAt q d ≡ At f → speltBy s q x ≡ Like (Product a f Nothing)
+      (d a f : ℕ) → d < 8192 → x ≡ 0x4000 + d → getD s (q + 1) 0 ≡ a → factorAt q d ≡ At f
+      → speltBy s q x ≡ Like (Product a f Nothing)
   unfolding nearSpelt alone
   middle-alone d a f hd e action back =
       let k : x - 0x4000 ≡ d = omega arith in
@@ -64,7 +68,8 @@ module _ (s : List ℕ) (q x : ℕ) where
       )
 
   short-pair :
-      (r l a f g : ℕ) → r < 32 → l < 256 → x ≡ 0x6000 + r * 256 + l → getD s (q + 1) 0 ≡ a → factorAt q l ≡ At f → factorAt q r ≡ At g
+      (r l a f g : ℕ) → r < 32 → l < 256 → x ≡ 0x6000 + r * 256 + l → getD s (q + 1) 0 ≡ a → factorAt q l ≡ At f
+      → factorAt q r ≡ At g
       → speltBy s q x ≡ Like (Product a f (At g))
   unfolding nearSpelt paired
   short-pair r l a f g hr hl e action left right =
@@ -153,7 +158,8 @@ module _ (s : List ℕ) (q : ℕ) where
           long-sum s q _ c n h (f .head) (f .second) (f .value ∙ halves n)
 
   pub product-spells :
-      (a l v : ℕ) (r : Right) → a < actionLimit → longRight (high v * 65536 + low v) ≡ r → stand s q (listOf (longProduct a l v)) ≡ true
+      (a l v : ℕ) (r : Right) → a < actionLimit → longRight (high v * 65536 + low v) ≡ r
+      → stand s q (listOf (longProduct a l v)) ≡ true
       → spelt s q ≡ Like (Product a l r)
   unfolding longProduct stand
   product-spells a l v r h right st =
@@ -166,7 +172,8 @@ module _ (s : List ℕ) (q : ℕ) where
   alone-spells a l h st = short (bothBelow (distance q l) 32 a 256) refl st
     where
       middle : (t : Bool) → bothBelow (distance q l) 8192 a 65536 ≡ t
-          → stand s q (listOf (pick t (Two (0x4000 + distance q l) a) (longProduct a l allOnes))) ≡ true → spelt s q ≡ Like (Product a l Nothing)
+          → stand s q (listOf (pick t (Two (0x4000 + distance q l) a) (longProduct a l allOnes))) ≡ true
+          → spelt s q ≡ Like (Product a l Nothing)
       middle true e st =
           let b : Below (distance q l) 8192 a 65536 = below (sym e) refl in
           let f : S.First s q (0x4000 + distance q l) (a ∷ []) = S.first-stands s q _ _ st in
@@ -222,7 +229,8 @@ module _ (s : List ℕ) (q : ℕ) where
   unfolding rowOf productRow unfit unfitRight
   row-spells (Sum c n) fit st = sum-spells c n (fit-sum {nonterminal = n} refl fit) st
   row-spells (Product a l Nothing) fit st = alone-spells a l (fit-product {left = l} {right = Nothing} refl fit) st
-  row-spells (Product a l (At r)) fit st = pair-spells a l r (fit-product {left = l} {right = At r} refl fit) (either-second (leb actionLimit a) (eqb r allOnes) fit) st
+  row-spells (Product a l (At r)) fit st =
+      pair-spells a l r (fit-product {left = l} {right = At r} refl fit) (either-second (leb actionLimit a) (eqb r allOnes) fit) st
   row-spells (NullingLeaf n) fit st = leaf-spells NullingLeaf 0x9000 0xA001 n (short-nulling s q _ n) (wide-nulling s q _ n) st
   row-spells (Evaluated n) fit st = leaf-spells Evaluated 0x8000 0xA000 n (short-evaluated s q _ n) (wide-evaluated s q _ n) st
 

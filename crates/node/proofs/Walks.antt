@@ -22,7 +22,8 @@ same-onward s p count (answer number (nodes k q)) f g e same = refl
 
 -- More reads than there are units from p on change nothing.
 pub enough :
-    (f g : ℕ) (s : List ℕ) (p count : ℕ) → length s < f + p → length s < g + p → 0 < f → 0 < g → walkOn f s p count ≡ walkOn g s p count
+    (f g : ℕ) (s : List ℕ) (p count : ℕ) → length s < f + p → length s < g + p → 0 < f → 0 < g
+    → walkOn f s p count ≡ walkOn g s p count
 unfolding walkOn
 enough zero g s p count a b c d = absurd (omega (arith, c))
 enough (suc f) zero s p count a b c d = absurd (omega (arith, d))
@@ -47,6 +48,7 @@ pub walk-end : (s : List ℕ) (p count : ℕ) → readUnits s p ≡ answer done 
 unfolding walkOn
 walk-end s p count e = ap (λ r. goOn r (λ b. walkOn (length s) s b (count + 1)) count p) e
 
-pub walk-fault : (s : List ℕ) (p count : ℕ) → readUnits s p ≡ answer noNode nothing → walkFrom s p count ≡ answer noNode (nodes count p)
+pub walk-fault :
+    (s : List ℕ) (p count : ℕ) → readUnits s p ≡ answer noNode nothing → walkFrom s p count ≡ answer noNode (nodes count p)
 unfolding walkOn
 walk-fault s p count e = ap (λ r. goOn r (λ b. walkOn (length s) s b (count + 1)) count p) e

@@ -65,8 +65,8 @@ longRight right = pick (eqb right allOnes) Nothing (At right)
 unfoldable pub valueAt : List ℕ → ℕ → ℕ
 valueAt s i = getD s (i + 1) 0 * 65536 + getD s i 0
 
--- The table of rows from right to left: the one node whose units could stand at q, by the range of the head unit. Below 0x8000 stand the
--- short Sum and the Products with distances.
+-- The table of rows from right to left: the one node whose units could stand at q, by the range of the head unit. (`Exactly`, below, says what
+-- is read without this table.) Below 0x8000 stand the short Sum and the Products with distances.
 unfoldable pub nearSpelt : List ℕ → ℕ → ℕ → Spelt
 nearSpelt s q head =
     pick (ltb head 0x2000) (Like (Sum (head / 256) (head % 256)))

@@ -7,7 +7,7 @@ ghost use Rattle.node.specs.Walking.{walkAt};
 
 mod placing;
 mod reading;
-pub mod rows;
+mod rows;
 mod spelling;
 
 // The right factor of a Product: a node's position, or none.

@@ -96,7 +96,8 @@ pub fn place_units(store: &mut [u16], p: usize, units: Units) -> Written
     }
     if room(store.len(), p, count) {
         put_units(store, p, units);
-        return Written::Behind(p + count);
+        let behind = p + count;
+        return Written::Behind(behind);
     }
     Written::NoRoom
 }

@@ -94,7 +94,8 @@ fn read_here(s: &[u16], q: usize) -> Found
     };
     let units = units_of(q, node);
     if stand(s, q, units) {
-        return Found::Whole(node, q + width(units));
+        let behind = q + width(units);
+        return Found::Whole(node, behind);
     }
     Found::NoNode // cut off, unfit, or in another form than its own
 }

@@ -76,27 +76,27 @@ fn both_below(a: usize, a_limit: usize, b: usize, b_limit: usize) -> bool
     if a < a_limit { b < b_limit } else { false }
 }
 
+// Sum: the short row, and the other.
 fn sum_row(count: u32, nonterminal: u32) -> Units
     requires { ⌜ count < U.countLimit ⌝ }
     ensures { λ r. ⌜ r ≡ U.sumRow count nonterminal ⌝ }
 {
     if both_below(count as usize, 32, nonterminal as usize, 256) {
-        return Units::One((count * 256 + nonterminal) as u16);
+        let unit = (count * 256 + nonterminal) as u16;
+        return Units::One(unit);
     }
-    Units::Four(
-        0xE000 + high(count),
-        low(count),
-        low(nonterminal),
-        high(nonterminal),
-    )
+    let head = 0xE000 + high(count);
+    Units::Four(head, low(count), low(nonterminal), high(nonterminal))
 }
 
+// Other Product: its right factor as it stands, NO_FACTOR for none.
 fn long_product(action: u32, left: u32, right: u32) -> Units
     requires { ⌜ action < U.actionLimit ⌝ }
     ensures { λ r. ⌜ r ≡ U.longProduct action left right ⌝ }
 {
+    let head = 0xC000 + high(action);
     Units::Six(
-        0xC000 + high(action),
+        head,
         low(action),
         low(left),
         high(left),
@@ -105,20 +105,25 @@ fn long_product(action: u32, left: u32, right: u32) -> Units
     )
 }
 
+// Product without a right factor: one unit, two units, and the other.
 fn alone_row(p: usize, action: u32, left: u32) -> Units
     requires { ⌜ action < U.actionLimit ⌝ }
     ensures { λ r. ⌜ r ≡ U.aloneRow p action left ⌝ }
 {
     let back = distance(p, left);
     if both_below(back, 32, action as usize, 256) {
-        return Units::One((0x2000 + back * 256 + action as usize) as u16);
+        let unit = (0x2000 + back * 256 + action as usize) as u16;
+        return Units::One(unit);
     }
     if both_below(back, 8192, action as usize, 65536) {
-        return Units::Two((0x4000 + back) as u16, action as u16);
+        let head = (0x4000 + back) as u16;
+        let second = action as u16;
+        return Units::Two(head, second);
     }
     long_product(action, left, NO_FACTOR)
 }
 
+// Product with a right factor: two units, and the other.
 fn pair_row(p: usize, action: u32, left: u32, right: u32) -> Units
     requires { ⌜ action < U.actionLimit ⌝ }
     ensures { λ r. ⌜ r ≡ U.pairRow p action left right ⌝ }
@@ -129,10 +134,9 @@ fn pair_row(p: usize, action: u32, left: u32, right: u32) -> Units
     let left_back = distance(p, left);
     let right_back = distance(p, right);
     if both_below(right_back, 32, left_back, 256) {
-        return Units::Two(
-            (0x6000 + right_back * 256 + left_back) as u16,
-            action as u16,
-        );
+        let head = (0x6000 + right_back * 256 + left_back) as u16;
+        let second = action as u16;
+        return Units::Two(head, second);
     }
     long_product(action, left, right)
 }
@@ -153,11 +157,13 @@ fn leaf_row(short: u16, wide: u16, symbol: u32) -> Units
     ensures { λ r. ⌜ r ≡ U.leafRow short wide symbol ⌝ }
 {
     if symbol < 4096 {
-        return Units::One(short + symbol as u16);
+        let unit = short + symbol as u16;
+        return Units::One(unit);
     }
     Units::Four(wide, 0, low(symbol), high(symbol))
 }
 
+// The units of a node at p, by the first row that fits.
 pub fn units_of(p: usize, node: Node) -> Units
     ensures { λ r. ⌜ r ≡ U.unitsOf p node ⌝ }
 {

@@ -32,7 +32,8 @@ fn factor(q: usize, distance: usize) -> Right
     ensures { λ r. ⌜ r ≡ R.factorAt q distance ⌝ }
 {
     if distance <= q {
-        Right::At((q - distance) as u32)
+        let at = (q - distance) as u32;
+        Right::At(at)
     } else {
         Right::Nothing
     }
@@ -133,14 +134,17 @@ fn long(s: &[u16], q: usize, head: u32) -> Spelt
     let second = unit(s, q + 1);
     let third = value(s, q + 2);
     if head < 0xE000 {
+        let action = (head - 0xC000) * 65536 + second;
+        let right = long_right(value(s, q + 4));
         return Spelt::Like(Node::Product {
-            action: (head - 0xC000) * 65536 + second,
+            action,
             left: third,
-            right: long_right(value(s, q + 4)),
+            right,
         });
     }
+    let count = (head - 0xE000) * 65536 + second;
     Spelt::Like(Node::Sum {
-        count: (head - 0xE000) * 65536 + second,
+        count,
         nonterminal: third,
     })
 }

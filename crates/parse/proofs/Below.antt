@@ -8,7 +8,8 @@ use native.Mathlib.Omega.{arith}
 use lib.ListN.{length, getD, length-take}
 use lib.Pow.{shr-shr, shr-le, pow-lt, pow-pos}
 use Rattle.laws.specs.Bits.{wordBits, bit, bitAt, Holds, rowOf, Below}
-use Rattle.laws.proofs.Bits.{bit-small, bit-zero, bit-place, word-ext, row-word, past-end}
+use Rattle.laws.proofs.Bits.{bit-small, bit-zero, bit-place, word-ext, past-end}
+use Rattle.laws.proofs.Rows.{row-word}
 use Rattle.parse.specs.Parts.{WordBelow}
 
 -- A word whose bits from k on are 0 is 0 when shifted by k.

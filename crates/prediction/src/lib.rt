@@ -10,12 +10,13 @@ use bits::Row;
 use bits::add;
 use bits::has;
 use bits::join;
+use grammar::limits::SYMBOLS;
 use grammar::rules::Rules;
 use grammar::rules::first;
 use grammar::rules::left;
 
 // A row for each symbol.
-pub type Table = [Row; 128];
+pub type Table = [Row; SYMBOLS];
 
 // The table with each symbol below `n` in its own row, and the first symbol of each rule in its left side's row.
 fn seed(rules: &Rules, n: usize, count: usize) -> Table

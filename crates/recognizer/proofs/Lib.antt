@@ -17,6 +17,7 @@ pub mod Running
 pub mod Lasting
 pub mod Finishing
 pub mod Telling
+pub mod OneToken
 pub mod Again
 pub mod Computed
 pub mod Tabled

@@ -9,34 +9,75 @@ new-items-requires : tie.Need-new-items-requires
 new-items-requires c κs = (c .before .before .before .before .pre .new, c .before .before .before .before .pre .spare-items)
 
 greatest-origin-requires : tie.Need-greatest-origin-requires
-greatest-origin-requires c κs = reach-asks _ _ _ _ _ _ (c .before .before .before .before .before .before .before .before .pre) _ _ (c .before .before .before .new-items .ensures .0) (c .before .before .before .new-items .ensures .1)
+greatest-origin-requires c κs =
+    reach-asks _ _ _ _ _ _ (c .before .before .before .before .before .before .before .before .pre) _ _
+    (c .before .before .before .new-items .ensures .0) (c .before .before .before .new-items .ensures .1)
 
 last-kept-requires : tie.Need-last-kept-requires
-last-kept-requires c κs = reaches _ _ _ _ _ _ (c .before .before .before .before .before .before .before .before .before .pre) _ _ (c .before .before .before .before .new-items .ensures .0) (c .before .before .before .before .new-items .ensures .1) _ (c .greatest-origin .ensures)
+last-kept-requires c κs =
+    reaches _ _ _ _ _ _ (c .before .before .before .before .before .before .before .before .before .pre) _ _
+    (c .before .before .before .before .new-items .ensures .0) (c .before .before .before .before .new-items .ensures .1) _
+    (c .greatest-origin .ensures)
 
 add-if1 : tie.Need-add-if1
-add-if1 c = omega (arith, kept-below _ _ _ _ _ _ (c .before .before .before .before .before .before .before .before .before .before .pre) _ _ (c .before .before .before .before .before .new-items .ensures .0) (c .before .before .before .before .before .new-items .ensures .1) _ (c .before .greatest-origin .ensures) _ (c .last-kept .ensures), c .before .before .before .before .before .before .before .before .before .before .pre .set-fits)
+add-if1 c =
+    omega (
+      arith,
+      kept-below _ _ _ _ _ _ (c .before .before .before .before .before .before .before .before .before .before .pre) _ _
+          (c .before .before .before .before .before .new-items .ensures .0) (c .before .before .before .before .before .new-items .ensures .1) _
+          (c .before .greatest-origin .ensures) _
+          (c .last-kept .ensures),
+      c .before .before .before .before .before .before .before .before .before .before .pre .set-fits,
+    )
 
 mul-clear-words : tie.Need-mul-clear-words
-mul-clear-words c = omega (arith, clear-asks _ _ _ _ _ _ (c .before .before .before .before .before .before .before .before .before .before .before .before .pre) _ _ (c .before .before .before .before .before .before .before .new-items .ensures .0) (c .before .before .before .before .before .before .before .new-items .ensures .1) .0)
+mul-clear-words c =
+    omega (
+      arith,
+      clear-asks _ _ _ _ _ _ (c .before .before .before .before .before .before .before .before .before .before .before .before .pre) _ _
+          (c .before .before .before .before .before .before .before .new-items .ensures .0)
+          (c .before .before .before .before .before .before .before .new-items .ensures .1) .0,
+    )
 
 mul-clear-words-2 : tie.Need-mul-clear-words-2
-mul-clear-words-2 c = omega (arith, clear-asks _ _ _ _ _ _ (c .before .before .before .before .before .before .before .before .before .before .before .before .pre) _ _ (c .before .before .before .before .before .before .before .new-items .ensures .0) (c .before .before .before .before .before .before .before .new-items .ensures .1) .1)
+mul-clear-words-2 c =
+    omega (
+      arith,
+      clear-asks _ _ _ _ _ _ (c .before .before .before .before .before .before .before .before .before .before .before .before .pre) _ _
+          (c .before .before .before .before .before .before .before .new-items .ensures .0)
+          (c .before .before .before .before .before .before .before .new-items .ensures .1) .1,
+    )
 
 clear-words-requires : tie.Need-clear-words-requires
-clear-words-requires c κs = clear-asks _ _ _ _ _ _ (c .before .before .before .before .before .before .before .before .before .before .before .before .pre) _ _ (c .before .before .before .before .before .before .before .new-items .ensures .0) (c .before .before .before .before .before .before .before .new-items .ensures .1)
+clear-words-requires c κs =
+    clear-asks _ _ _ _ _ _ (c .before .before .before .before .before .before .before .before .before .before .before .before .pre) _ _
+    (c .before .before .before .before .before .before .before .new-items .ensures .0)
+    (c .before .before .before .before .before .before .before .new-items .ensures .1)
 
 same-length : tie.Need-same-length
 same-length c = c .before .before .clear-words .kept .0 ∙ c .before .before .before .before .before .before .before .before .before .before .new-items .kept .1 .1 .0
 
 returns : tie.Need-returns
-returns c = refuses _ _ _ _ _ _ (c .before .before .before .before .before .before .before .before .before .before .before .before .before .before .before .pre) _ _ (c .before .before .before .before .before .before .before .before .before .before .new-items .ensures .0) (c .before .before .before .before .before .before .before .before .before .before .new-items .ensures .1) _ (c .before .before .before .before .before .before .greatest-origin .ensures) _ (c .before .before .before .before .before .last-kept .ensures) (c .before .before .before .before .if1 .taken) (c .before .before .clear-words .ensures)
+returns c =
+    refuses _ _ _ _ _ _
+    (c .before .before .before .before .before .before .before .before .before .before .before .before .before .before .before .pre) _ _
+    (c .before .before .before .before .before .before .before .before .before .before .new-items .ensures .0)
+    (c .before .before .before .before .before .before .before .before .before .before .new-items .ensures .1) _
+    (c .before .before .before .before .before .before .greatest-origin .ensures) _ (c .before .before .before .before .before .last-kept .ensures)
+    (c .before .before .before .before .if1 .taken) (c .before .before .clear-words .ensures)
 
 next-set-requires : tie.Need-next-set-requires
-next-set-requires c κs = next-asks _ _ _ _ _ _ (c .before .before .before .before .before .before .before .before .before .before .before .before .before .before .pre) _ _ (c .before .before .before .before .before .before .before .before .before .new-items .ensures .0) (c .before .before .before .before .before .before .before .before .before .new-items .ensures .1) _ (c .before .before .before .before .before .greatest-origin .ensures) _ (c .before .before .before .before .last-kept .ensures) (c .before .before .before .if1 .left)
+next-set-requires c κs =
+    next-asks _ _ _ _ _ _ (c .before .before .before .before .before .before .before .before .before .before .before .before .before .before .pre) _ _
+    (c .before .before .before .before .before .before .before .before .before .new-items .ensures .0)
+    (c .before .before .before .before .before .before .before .before .before .new-items .ensures .1) _
+    (c .before .before .before .before .before .greatest-origin .ensures) _ (c .before .before .before .before .last-kept .ensures)
+    (c .before .before .before .if1 .left)
 
 same-length-2 : tie.Need-same-length-2
-same-length-2 c = c .before .before .before .before .before .before .next-set .kept .1 .1 .1 .1 .0 ∙ c .before .before .before .before .before .before .before .before .before .before .before .before .before .before .before .before .new-items .kept .1 .1 .0
+same-length-2 c =
+    c .before .before .before .before .before .before .next-set .kept .1 .1 .1 .1 .0
+    ∙ c .before .before .before .before .before .before .before .before .before .before .before .before .before .before .before .before .new-items .kept .1 .1 .0
 
 same-length-3 : tie.Need-same-length-3
 same-length-3 c = c .before .before .before .before .before .before .next-set .kept .1 .1 .1 .1 .1 .0
@@ -45,7 +86,15 @@ same-length-4 : tie.Need-same-length-4
 same-length-4 c = c .before .before .before .before .before .before .next-set .kept .1 .1 .1 .1 .1 .1 .0
 
 returns-2 : tie.Need-returns-2
-returns-2 c = advances _ _ _ _ _ _ (c .before .before .before .before .before .before .before .before .before .before .before .before .before .before .before .before .before .before .before .before .before .pre) _ _ (c .before .before .before .before .before .before .before .before .before .before .before .before .before .before .before .before .new-items .ensures .0) (c .before .before .before .before .before .before .before .before .before .before .before .before .before .before .before .before .new-items .ensures .1) _ (c .before .before .before .before .before .before .before .before .before .before .before .before .greatest-origin .ensures) _ (c .before .before .before .before .before .before .before .before .before .before .before .last-kept .ensures) (c .before .before .before .before .before .before .before .before .before .before .if1 .left) (c .before .before .before .before .before .before .next-set .ensures)
+returns-2 c =
+    advances _ _ _ _ _ _
+    (c .before .before .before .before .before .before .before .before .before .before .before .before .before .before .before .before .before .before .before .before .before .pre) _ _
+    (c .before .before .before .before .before .before .before .before .before .before .before .before .before .before .before .before .new-items .ensures .0)
+    (c .before .before .before .before .before .before .before .before .before .before .before .before .before .before .before .before .new-items .ensures .1) _
+    (c .before .before .before .before .before .before .before .before .before .before .before .before .greatest-origin .ensures) _
+    (c .before .before .before .before .before .before .before .before .before .before .before .last-kept .ensures)
+    (c .before .before .before .before .before .before .before .before .before .before .if1 .left)
+    (c .before .before .before .before .before .before .next-set .ensures)
 
 pub advance-spec : {M : Type 1} → statement M
 advance-spec =

@@ -17,10 +17,24 @@ sub-end : tie.Need-sub-end
 sub-end c = omega (arith, c .before .before .before .before .before .before .before .before .before .before .before .before .before .before .pre .prunable .runs)
 
 add-end : tie.Need-add-end
-add-end c = omega (arith, end-fits _ _ _ _ _ _ _ _ _ _ (c .before .before .before .before .before .before .before .before .before .before .before .before .before .before .pre) _ _ _ _ _ (c .before .before .before .before .before .before .before .before .before .before .last-kept .ensures) (c .before .before .before .before .before .before .remove-unreachable-sets .ensures))
+add-end c =
+    omega (
+      arith,
+      end-fits _ _ _ _ _ _ _ _ _ _
+          (c .before .before .before .before .before .before .before .before .before .before .before .before .before .before .pre) _ _ _ _ _
+          (c .before .before .before .before .before .before .before .before .before .before .last-kept .ensures)
+          (c .before .before .before .before .before .before .remove-unreachable-sets .ensures),
+    )
 
 cast-starts : tie.Need-cast-starts
-cast-starts c = omega (arith, end-fits _ _ _ _ _ _ _ _ _ _ (c .before .before .before .before .before .before .before .before .before .before .before .before .before .before .pre) _ _ _ _ _ (c .before .before .before .before .before .before .before .before .before .before .last-kept .ensures) (c .before .before .before .before .before .before .remove-unreachable-sets .ensures))
+cast-starts c =
+    omega (
+      arith,
+      end-fits _ _ _ _ _ _ _ _ _ _
+          (c .before .before .before .before .before .before .before .before .before .before .before .before .before .before .pre) _ _ _ _ _
+          (c .before .before .before .before .before .before .before .before .before .before .last-kept .ensures)
+          (c .before .before .before .before .before .before .remove-unreachable-sets .ensures),
+    )
 
 add-starts : tie.Need-add-starts
 add-starts c = search needs
@@ -29,13 +43,26 @@ mul-starts : tie.Need-mul-starts
 mul-starts c = search needs
 
 slice-write-starts : tie.Need-slice-write-starts
-slice-write-starts c = omega (arith, starts-long _ _ _ _ _ _ _ _ _ _ (c .before .before .before .before .before .before .before .before .before .before .before .before .before .before .pre) _ _ _ _ _ (c .before .before .before .before .before .before .before .before .before .before .last-kept .ensures) (c .before .before .before .before .before .before .remove-unreachable-sets .ensures), c .before .before .before .before .before .before .before .before .before .before .before .before .before .before .pre .starts-fit, c .before .before .before .before .before .before .before .before .before .before .last-kept .ensures)
+slice-write-starts c =
+    omega (
+      arith,
+      starts-long _ _ _ _ _ _ _ _ _ _
+          (c .before .before .before .before .before .before .before .before .before .before .before .before .before .before .pre) _ _ _ _ _
+          (c .before .before .before .before .before .before .before .before .before .before .last-kept .ensures)
+          (c .before .before .before .before .before .before .remove-unreachable-sets .ensures),
+      c .before .before .before .before .before .before .before .before .before .before .before .before .before .before .pre .starts-fit,
+      c .before .before .before .before .before .before .before .before .before .before .last-kept .ensures,
+    )
 
 add-prediction-pass : tie.Need-add-prediction-pass
 add-prediction-pass c = search needs
 
 prediction-pass-requires : tie.Need-prediction-pass-requires
-prediction-pass-requires c κs = follows-asks _ _ _ _ _ _ _ _ _ _ (c .before .before .before .before .before .before .before .before .before .before .before .before .before .before .before .before .pre) _ _ _ _ _ (c .before .before .before .before .before .before .before .before .before .before .before .before .last-kept .ensures) (c .before .before .before .before .before .before .before .before .remove-unreachable-sets .ensures)
+prediction-pass-requires c κs =
+    follows-asks _ _ _ _ _ _ _ _ _ _
+    (c .before .before .before .before .before .before .before .before .before .before .before .before .before .before .before .before .pre) _ _ _ _ _
+    (c .before .before .before .before .before .before .before .before .before .before .before .before .last-kept .ensures)
+    (c .before .before .before .before .before .before .before .before .remove-unreachable-sets .ensures)
 
 add-t22 : tie.Need-add-t22
 add-t22 c = search needs
@@ -47,10 +74,17 @@ same-length-2 : tie.Need-same-length-2
 same-length-2 c = simp length-set (c .before .before .before .before .before .before .before .before .before .before .before .remove-unreachable-sets .kept .1 .1 .0)
 
 same-length-3 : tie.Need-same-length-3
-same-length-3 c = c .before .before .prediction-pass .kept .1 .1 .1 .1 .0 ∙ c .before .before .before .before .before .before .before .before .before .before .before .remove-unreachable-sets .kept .1 .1 .1 .0
+same-length-3 c =
+    c .before .before .prediction-pass .kept .1 .1 .1 .1 .0
+    ∙ c .before .before .before .before .before .before .before .before .before .before .before .remove-unreachable-sets .kept .1 .1 .1 .0
 
 returns : tie.Need-returns
-returns c = follows _ _ _ _ _ _ _ _ _ _ (c .before .before .before .before .before .before .before .before .before .before .before .before .before .before .before .before .before .before .before .pre) _ _ _ _ _ (c .before .before .before .before .before .before .before .before .before .before .before .before .before .before .before .last-kept .ensures) (c .before .before .before .before .before .before .before .before .before .before .before .remove-unreachable-sets .ensures) (c .before .before .prediction-pass .ensures)
+returns c =
+    follows _ _ _ _ _ _ _ _ _ _
+    (c .before .before .before .before .before .before .before .before .before .before .before .before .before .before .before .before .before .before .before .pre) _ _ _ _ _
+    (c .before .before .before .before .before .before .before .before .before .before .before .before .before .before .before .last-kept .ensures)
+    (c .before .before .before .before .before .before .before .before .before .before .before .remove-unreachable-sets .ensures)
+    (c .before .before .prediction-pass .ensures)
 
 pub next-set-spec : {M : Type 1} → statement M
 next-set-spec =

@@ -1,3 +1,4 @@
+-- `bits::add` meets its contract. The word with the bit set is the or with a power of 2.
 use lib.Bits.{bitOr}
 use lib.ListN.{getD, set}
 use Rattle.laws.proofs.Bits.{one-shifted}
@@ -24,7 +25,9 @@ array-write-to : tie.Need-array-write-to
 array-write-to c = search needs
 
 returns : tie.Need-returns
-returns c = ap (λ (p : ℕ). set (c .args .row) (c .args .symbol / 64) (bitOr (getD (c .args .row) (c .args .symbol / 64) 0) p)) (one-shifted (c .args .symbol % 64) (omega arith))
+returns c =
+    ap (λ (p : ℕ). set (c .args .row) (c .args .symbol / 64) (bitOr (getD (c .args .row) (c .args .symbol / 64) 0) p))
+    (one-shifted (c .args .symbol % 64) (omega arith))
 
 pub add-spec : {M : Type 1} → statement M
 add-spec = tie.close (tie.spec mul-to array-read-to shl-to mul-to-2 array-write-to returns)

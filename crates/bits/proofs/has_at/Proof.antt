@@ -1,7 +1,8 @@
+-- `bits::has_at` meets its contract. The word read is the row's own word of that number.
 use Rattle.bits.specs.Width.{rowWords}
 use lib.Dec.{eqb}
 use Rattle.laws.specs.Bits.{bit}
-use Rattle.laws.proofs.Bits.{row-word}
+use Rattle.laws.proofs.Rows.{row-word}
 use mathlib.Core.Path.{sym, ap}
 use Prim.Native.Nat.{ℕ, _/_, _%_}
 use native.Mathlib.Omega.{arith}
@@ -25,7 +26,9 @@ shr-result : tie.Need-shr-result
 shr-result c = search needs
 
 returns : tie.Need-returns
-returns c = ap (λ (w : ℕ). eqb (bit w (c .before .args .symbol % 64)) 1) (sym (row-word rowWords (c .before .args .rows .now) (c .before .args .k) (c .before .args .symbol / 64) (omega arith)))
+returns c =
+    ap (λ (w : ℕ). eqb (bit w (c .before .args .symbol % 64)) 1)
+    (sym (row-word rowWords (c .before .args .rows .now) (c .before .args .k) (c .before .args .symbol / 64) (omega arith)))
 
 pub has-at-spec : {M : Type 1} → statement M
 has-at-spec =

@@ -1,3 +1,4 @@
+-- `bits::join` meets its contract. The invariant: the words passed are the or of the two rows' words.
 use Rattle.bits.specs.Width.{rowWords}
 use lib.Seq.{ext-getD}
 use Rattle.laws.specs.Bits.{union}

@@ -1,18 +1,19 @@
+-- `bits::join_at` meets its contract. The invariant, `Rewritten`: the words passed are joined, and every other word is as it was.
 use Rattle.bits.specs.Width.{rowWords}
-use Rattle.bits.proofs.Joining.{Joined, none-joined, more-joined, all-joined}
+use Rattle.bits.proofs.Rewriting.{Rewritten, none-rewritten, more-rewritten, all-joined, joinedWord, still-old}
 use borrow.Author.Needs.{needs}
 use Prim.Native.Nat.{_-_}
 use Rattle.bits.proofs.join_at.Statement.{statement}
 use Rattle.bits.proofs.join_at.Tie as tie
 
 abbrev Inv-loop : tie.InvT-loop
-Inv-loop rows₀ k row i₀ rows i = Joined rowWords rows₀ k row i rows
+Inv-loop rows₀ k row i₀ rows i = Rewritten rowWords rows₀ k (joinedWord rowWords rows₀ k row) i rows
 
 abbrev μ-loop : tie.MeasureT-loop
 μ-loop rows₀ k row i₀ rows i = rowWords - i
 
 loop-holds : tie.Need-loop-holds Inv-loop μ-loop
-loop-holds c = none-joined rowWords _ _ _ (c .pre .0)
+loop-holds c = none-rewritten rowWords _ _ _ (c .pre .0)
 
 mul-rows : tie.Need-mul-rows Inv-loop μ-loop
 mul-rows c = search needs
@@ -51,13 +52,17 @@ loop-less : tie.Need-loop-less Inv-loop μ-loop
 loop-less c = search needs
 
 loop-again : tie.Need-loop-again Inv-loop μ-loop
-loop-again c = more-joined rowWords _ _ _ (c .before .before .before .before .pre .0) _ _ (c .before .before .before .loop .inv) (c .before .before .loop-test .taken)
+loop-again c = let start = c .before .before .before .before in
+    let at-loop = c .before .before .before in
+    more-rewritten rowWords _ _ _ (start .pre .0) _ _ _ (at-loop .loop .inv) (c .before .before .loop-test .taken)
+    (still-old rowWords _ _ _ _ _ (start .args .row .now) (at-loop .loop .inv))
 
 same-length : tie.Need-same-length Inv-loop μ-loop
 same-length c = search needs
 
 returns : tie.Need-returns Inv-loop μ-loop
-returns c = all-joined rowWords _ _ _ (c .before .before .pre .0) _ _ (c .before .loop .inv) (c .loop-test .left) (c .before .before .pre .1)
+returns c = let start = c .before .before in
+    all-joined rowWords _ _ _ _ _ (start .pre .0) (start .pre .1) (c .before .loop .inv) (c .loop-test .left)
 
 pub join-at-spec : {M : Type 1} → statement M
 join-at-spec =

@@ -1,3 +1,4 @@
+-- `grammar::accepted` meets its contract. One condition a return.
 use borrow.Author.Tests.{not-true, not-false}
 use Rattle.laws.proofs.Decides.{says-no, decides-map}
 use Rattle.grammar.proofs.Judging.{accepted-wraps, accepted-ruled, accepted-distinct, accepted-productive, low, judged}
@@ -15,13 +16,17 @@ ruled-requires : tie.Need-ruled-requires
 ruled-requires c κs = search needs
 
 returns-2 : tie.Need-returns-2
-returns-2 c = says-no (λ h. c .before .ruled .ensures .if-no (not-true _ (c .if2 .taken)) (accepted-ruled _ _ _ _ (c .before .before .before .before .pre) h))
+returns-2 c =
+    let start = c .before .before .before .before in
+    says-no (λ h. c .before .ruled .ensures .if-no (not-true _ (c .if2 .taken)) (accepted-ruled _ _ _ _ (start .pre) h))
 
 equal-pair-requires : tie.Need-equal-pair-requires
 equal-pair-requires c κs = search needs
 
 returns-3 : tie.Need-returns-3
-returns-3 c = says-no (λ h. accepted-distinct _ _ _ _ (c .before .before .before .before .before .before .pre) h (c .before .equal-pair .ensures .if-yes (c .if3 .taken)))
+returns-3 c =
+    let start = c .before .before .before .before .before .before in
+    says-no (λ h. accepted-distinct _ _ _ _ (start .pre) h (c .before .equal-pair .ensures .if-yes (c .if3 .taken)))
 
 all-productive-requires : tie.Need-all-productive-requires
 all-productive-requires c κs = (

@@ -1,3 +1,4 @@
+-- `grammar::check` meets its contract. One verdict a return.
 use borrow.Author.Tests.{not-true, not-false}
 use Rattle.grammar.proofs.Judging.{formed}
 use Rattle.grammar.specs.Accepted.{Accepted}
@@ -27,19 +28,47 @@ sized-requires : tie.Need-sized-requires
 sized-requires c κs = search needs
 
 returns-2 : tie.Need-returns-2
-returns-2 c = verdict-two _ (c .before .before .before .before .before .before .malformed .ensures .if-no (c .before .before .before .before .before .if1 .left)) (not-sized _ _ _ _ (record { symbols = c .before .before .before .before .symbols .ensures .0; tokens = c .before .before .before .tokens .ensures .0; rules = c .before .before .rule-count .ensures .0 }) (c .before .sized .ensures .if-no (not-true _ (c .if2 .taken))))
+returns-2 c =
+    let at-rule-count = c .before .before in
+    let at-tokens = c .before .before .before in
+    let at-symbols = c .before .before .before .before in
+    let at-if1 = c .before .before .before .before .before in
+    let at-malformed = c .before .before .before .before .before .before in
+    verdict-two _ (at-malformed .malformed .ensures .if-no (at-if1 .if1 .left))
+    (not-sized _ _ _ _ (record { symbols = at-symbols .symbols .ensures .0; tokens = at-tokens .tokens .ensures .0; rules = at-rule-count .rule-count .ensures .0 }) (c .before .sized .ensures .if-no (not-true _ (c .if2 .taken))))
 
 decode-requires : tie.Need-decode-requires
-decode-requires c κs = readable _ (c .before .before .before .before .before .before .malformed .ensures .if-no (c .before .before .before .before .before .if1 .left)) (omega (arith, c .before .sized .ensures .if-yes (not-false _ (c .if2 .left)), c .before .before .rule-count .ensures))
+decode-requires c κs =
+    let at-rule-count = c .before .before in
+    let at-if1 = c .before .before .before .before .before in
+    let at-malformed = c .before .before .before .before .before .before in
+    readable _ (at-malformed .malformed .ensures .if-no (at-if1 .if1 .left))
+    (omega (arith, c .before .sized .ensures .if-yes (not-false _ (c .if2 .left)), at-rule-count .rule-count .ensures))
 
 accepted-requires : tie.Need-accepted-requires
 accepted-requires c κs = c .before .before .before .sized .ensures .if-yes (not-false _ (c .before .before .if2 .left))
 
 returns-3 : tie.Need-returns-3
-returns-3 c = verdict-zero _ (c .before .before .before .before .before .before .before .before .before .before .malformed .ensures .if-no (c .before .before .before .before .before .before .before .before .before .if1 .left)) (subst Accepted (read-grammar _ _ _ _ _ (record { symbols = c .before .before .before .before .before .before .before .before .symbols .ensures .0; tokens = c .before .before .before .before .before .before .before .tokens .ensures .0; rules = c .before .before .before .before .before .before .rule-count .ensures .0 }) (c .before .before .before .decode .ensures)) (c .before .accepted .ensures .if-yes (c .if3 .taken)))
+returns-3 c =
+    let at-decode = c .before .before .before in
+    let at-rule-count = c .before .before .before .before .before .before in
+    let at-tokens = c .before .before .before .before .before .before .before in
+    let at-symbols = c .before .before .before .before .before .before .before .before in
+    let at-if1 = c .before .before .before .before .before .before .before .before .before in
+    let at-malformed = c .before .before .before .before .before .before .before .before .before .before in
+    verdict-zero _ (at-malformed .malformed .ensures .if-no (at-if1 .if1 .left))
+    (subst Accepted (read-grammar _ _ _ _ _ (record { symbols = at-symbols .symbols .ensures .0; tokens = at-tokens .tokens .ensures .0; rules = at-rule-count .rule-count .ensures .0 }) (at-decode .decode .ensures)) (c .before .accepted .ensures .if-yes (c .if3 .taken)))
 
 returns-4 : tie.Need-returns-4
-returns-4 c = verdict-two _ (c .before .before .before .before .before .before .before .before .before .before .malformed .ensures .if-no (c .before .before .before .before .before .before .before .before .before .if1 .left)) (λ h. c .before .accepted .ensures .if-no (c .if3 .left) (subst⁻¹ Accepted (read-grammar _ _ _ _ _ (record { symbols = c .before .before .before .before .before .before .before .before .symbols .ensures .0; tokens = c .before .before .before .before .before .before .before .tokens .ensures .0; rules = c .before .before .before .before .before .before .rule-count .ensures .0 }) (c .before .before .before .decode .ensures)) h))
+returns-4 c =
+    let at-decode = c .before .before .before in
+    let at-rule-count = c .before .before .before .before .before .before in
+    let at-tokens = c .before .before .before .before .before .before .before in
+    let at-symbols = c .before .before .before .before .before .before .before .before in
+    let at-if1 = c .before .before .before .before .before .before .before .before .before in
+    let at-malformed = c .before .before .before .before .before .before .before .before .before .before in
+    verdict-two _ (at-malformed .malformed .ensures .if-no (at-if1 .if1 .left))
+    (λ h. c .before .accepted .ensures .if-no (c .if3 .left) (subst⁻¹ Accepted (read-grammar _ _ _ _ _ (record { symbols = at-symbols .symbols .ensures .0; tokens = at-tokens .tokens .ensures .0; rules = at-rule-count .rule-count .ensures .0 }) (at-decode .decode .ensures)) h))
 
 pub check-spec : {M : Type 1} → statement M
 check-spec =

@@ -1,3 +1,4 @@
+-- `prediction::close` meets its contract. The invariants: `Level` before a turn, and `InTurn` within it, whatever the seed was.
 use mathlib.Core.List.{List}
 use borrow.Author.Tests.{not-true, not-false}
 use Rattle.laws.proofs.Bits.{holds-true, holds-false}
@@ -44,7 +45,9 @@ loop2-less : tie.Need-loop2-less Inv-loop2 μ-loop2 Inv-loop μ-loop
 loop2-less c = search needs
 
 loop2-again : tie.Need-loop2-again Inv-loop2 μ-loop2 Inv-loop μ-loop
-loop2-again c = λ s h. row-passed _ _ _ _ _ (c .before .before .before .before .before .loop2 .inv s h) (holds-false _ _ (sym (c .before .has .ensures) ∙ not-true _ (c .if1 .taken)))
+loop2-again c =
+    let at-loop2 = c .before .before .before .before .before in
+    λ s h. row-passed _ _ _ _ _ (at-loop2 .loop2 .inv s h) (holds-false _ _ (sym (c .before .has .ensures) ∙ not-true _ (c .if1 .taken)))
 
 mul-other : tie.Need-mul-other Inv-loop2 μ-loop2 Inv-loop μ-loop
 mul-other c = search needs
@@ -53,7 +56,12 @@ array-copy-out-other : tie.Need-array-copy-out-other Inv-loop2 μ-loop2 Inv-loop
 array-copy-out-other c = search needs
 
 join-requires : tie.Need-join-requires Inv-loop2 μ-loop2 Inv-loop μ-loop
-join-requires c κs = (c .before .before .before .before .before .before .before .before .loop2 .inv _ (c .before .before .before .before .before .before .before .before .before .before .loop .inv) .shape .row (c .before .before .before .before .before .before .before .before .loop2 .i) (omega arith) .width-is, c .before .before .before .before .before .before .before .before .loop2 .inv _ (c .before .before .before .before .before .before .before .before .before .before .loop .inv) .shape .row (c .before .before .before .before .before .before .before .before .before .before .loop .k) (omega arith) .width-is)
+join-requires c κs =
+    let at-loop2 = c .before .before .before .before .before .before .before .before in
+    let at-loop = c .before .before .before .before .before .before .before .before .before .before in (
+      at-loop2 .loop2 .inv _ (at-loop .loop .inv) .shape .row (at-loop2 .loop2 .i) (omega arith) .width-is,
+      at-loop2 .loop2 .inv _ (at-loop .loop .inv) .shape .row (at-loop .loop .k) (omega arith) .width-is,
+    )
 
 mul-table : tie.Need-mul-table Inv-loop2 μ-loop2 Inv-loop μ-loop
 mul-table c = search needs
@@ -68,7 +76,12 @@ loop2-less-2 : tie.Need-loop2-less-2 Inv-loop2 μ-loop2 Inv-loop μ-loop
 loop2-less-2 c = search needs
 
 loop2-again-2 : tie.Need-loop2-again-2 Inv-loop2 μ-loop2 Inv-loop μ-loop
-loop2-again-2 c = λ s h. row-joined _ _ _ _ _ _ (c .join .ensures) (c .before .before .before .before .before .before .before .before .before .loop2 .inv s h) (omega arith) (omega arith) (holds-true _ _ (sym (c .before .before .before .before .before .has .ensures) ∙ not-false _ (c .before .before .before .before .if1 .left)))
+loop2-again-2 c =
+    let at-if1 = c .before .before .before .before in
+    let at-has = c .before .before .before .before .before in
+    let at-loop2 = c .before .before .before .before .before .before .before .before .before in
+    λ s h. row-joined _ _ _ _ _ _ (c .join .ensures) (at-loop2 .loop2 .inv s h) (omega arith) (omega arith)
+    (holds-true _ _ (sym (at-has .has .ensures) ∙ not-false _ (at-if1 .if1 .left)))
 
 add-k : tie.Need-add-k Inv-loop2 μ-loop2 Inv-loop μ-loop
 add-k c = search needs
@@ -77,7 +90,10 @@ loop-less : tie.Need-loop-less Inv-loop2 μ-loop2 Inv-loop μ-loop
 loop-less c = search needs
 
 loop-again : tie.Need-loop-again Inv-loop2 μ-loop2 Inv-loop μ-loop
-loop-again c = turn-ends _ _ _ _ _ _ (c .before .before .before .before .pre .2) (c .before .loop2 .inv _ (c .before .before .before .loop .inv)) (c .loop2-test .left)
+loop-again c =
+    let at-loop = c .before .before .before in
+    let start = c .before .before .before .before in
+    turn-ends _ _ _ _ _ _ (start .pre .2) (c .before .loop2 .inv _ (at-loop .loop .inv)) (c .loop2-test .left)
 
 returns : tie.Need-returns Inv-loop2 μ-loop2 Inv-loop μ-loop
 returns c = closed _ _ _ _ _ (c .before .before .pre .2) (c .before .loop .inv) (c .loop-test .left)

@@ -1,3 +1,4 @@
+-- `prediction::seed` meets its contract. The invariant, `Seeded`: the table of the symbols and rules passed.
 use Rattle.bits.specs.Width.{rowWords}
 use Rattle.prediction.specs.Tables.{Seeded}
 use Rattle.prediction.proofs.Cells.{seeded-none, seeded-own, seeded-first, seeded-at}
@@ -57,19 +58,30 @@ mul-row-2 : tie.Need-mul-row-2 Inv-loop μ-loop Inv-loop2 μ-loop2
 mul-row-2 c = search needs
 
 array-copy-out-row-2 : tie.Need-array-copy-out-row-2 Inv-loop μ-loop Inv-loop2 μ-loop2
-array-copy-out-row-2 c = omega (arith, c .before .before .before .before .before .pre .1 .few, c .before .before .before .before .before .pre .1 .left (c .before .before .loop2 .r) (c .before .loop2-test .taken))
+array-copy-out-row-2 c =
+    let at-loop2 = c .before .before in
+    let start = c .before .before .before .before .before in
+    omega (arith, start .pre .1 .few, start .pre .1 .left (at-loop2 .loop2 .r) (c .before .loop2-test .taken))
 
 first-requires : tie.Need-first-requires Inv-loop μ-loop Inv-loop2 μ-loop2
 first-requires c κs = search needs
 
 add-requires-2 : tie.Need-add-requires-2 Inv-loop μ-loop Inv-loop2 μ-loop2
-add-requires-2 c κs = omega (arith, c .before .before .before .before .before .before .before .pre .1 .few, c .before .before .before .before .before .before .before .pre .1 .first (c .before .before .before .before .loop2 .r) (c .before .before .before .loop2-test .taken))
+add-requires-2 c κs =
+    let at-loop2-test = c .before .before .before in
+    let at-loop2 = c .before .before .before .before in
+    let start = c .before .before .before .before .before .before .before in
+    omega (arith, start .pre .1 .few, start .pre .1 .first (at-loop2 .loop2 .r) (at-loop2-test .loop2-test .taken))
 
 mul-table-2 : tie.Need-mul-table-2 Inv-loop μ-loop Inv-loop2 μ-loop2
 mul-table-2 c = search needs
 
 array-set-from-table-2 : tie.Need-array-set-from-table-2 Inv-loop μ-loop Inv-loop2 μ-loop2
-array-set-from-table-2 c = omega (arith, c .before .before .before .before .before .before .before .before .pre .1 .few, c .before .before .before .before .before .before .before .before .pre .1 .left (c .before .before .before .before .before .loop2 .r) (c .before .before .before .before .loop2-test .taken))
+array-set-from-table-2 c =
+    let at-loop2-test = c .before .before .before .before in
+    let at-loop2 = c .before .before .before .before .before in
+    let start = c .before .before .before .before .before .before .before .before in
+    omega (arith, start .pre .1 .few, start .pre .1 .left (at-loop2 .loop2 .r) (at-loop2-test .loop2-test .taken))
 
 add-r : tie.Need-add-r Inv-loop μ-loop Inv-loop2 μ-loop2
 add-r c = search needs
@@ -78,12 +90,16 @@ loop2-less : tie.Need-loop2-less Inv-loop μ-loop Inv-loop2 μ-loop2
 loop2-less c = search needs
 
 loop2-again : tie.Need-loop2-again Inv-loop μ-loop Inv-loop2 μ-loop2
-loop2-again c = (
-  omega arith,
-  seeded-first _ _ _ (omega arith) _ _ _ _ _ (c .add2 .ensures) (c .before .before .before .before .before .loop2 .inv .1) (c .before .before .before .left .ensures .0) (c .before .first .ensures .0)
-      (omega (arith, c .before .before .before .before .before .before .before .before .pre .1 .few, c .before .before .before .before .before .before .before .before .pre .1 .left (c .before .before .before .before .before .loop2 .r) (c .before .before .before .before .loop2-test .taken)))
-      (omega (arith, c .before .before .before .before .before .before .before .before .pre .1 .few, c .before .before .before .before .before .before .before .before .pre .1 .first (c .before .before .before .before .before .loop2 .r) (c .before .before .before .before .loop2-test .taken))),
-)
+loop2-again c =
+    let at-left = c .before .before .before in
+    let at-loop2-test = c .before .before .before .before in
+    let at-loop2 = c .before .before .before .before .before in
+    let start = c .before .before .before .before .before .before .before .before in (
+      omega arith,
+      seeded-first _ _ _ (omega arith) _ _ _ _ _ (c .add2 .ensures) (at-loop2 .loop2 .inv .1) (at-left .left .ensures .0)
+          (c .before .first .ensures .0) (omega (arith, start .pre .1 .few, start .pre .1 .left (at-loop2 .loop2 .r) (at-loop2-test .loop2-test .taken)))
+          (omega (arith, start .pre .1 .few, start .pre .1 .first (at-loop2 .loop2 .r) (at-loop2-test .loop2-test .taken))),
+    )
 
 returns : tie.Need-returns Inv-loop μ-loop Inv-loop2 μ-loop2
 returns c = seeded-at _ _ _ _ _ _ _ (c .before .loop2 .inv .1) refl (omega arith)

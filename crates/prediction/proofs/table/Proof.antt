@@ -1,3 +1,4 @@
+-- `prediction::table` meets its contract. The closed table of the steps predicts.
 use Rattle.prediction.proofs.Reaching.{seed-low, predicts}
 use borrow.Author.Needs.{needs}
 use Rattle.prediction.proofs.table.Statement.{statement}

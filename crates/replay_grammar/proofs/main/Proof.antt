@@ -1,3 +1,4 @@
+-- `replay_grammar::main` meets its contract. The measure is the number of turns that are left.
 use borrow.Author.Needs.{needs}
 use Rattle.replay_grammar.proofs.main.Statement.{statement}
 use Rattle.replay_grammar.proofs.main.Tie as tie

@@ -1,3 +1,4 @@
+-- `replay_grammar::print_rows` meets its contract. The measure is the number of rows that are left.
 use borrow.Author.Needs.{needs}
 use Prim.Native.Nat.{_-_}
 use Rattle.replay_grammar.proofs.print_rows.Statement.{statement}

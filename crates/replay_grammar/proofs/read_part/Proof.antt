@@ -1,3 +1,4 @@
+-- `replay_grammar::read_part` meets its contract. The part lent has the length asked.
 use mathlib.Core.Path.{sym}
 use lib.Seq.{length-take-le}
 use borrow.Author.Needs.{needs}

@@ -1,3 +1,4 @@
+-- `replay_grammar::show` meets its contract. What the check promises of an accepted file is what the calls below ask.
 use Rattle.grammar.proofs.Verdicts.{accepted-file, accepted-words}
 use Rattle.prediction.proofs.Reaching.{accepted-within}
 use native.Mathlib.Omega.{arith}
@@ -22,16 +23,32 @@ rule-count-requires : tie.Need-rule-count-requires
 rule-count-requires c κs = accepted-file _ _ (c .before .before .before .check .ensures) (c .before .enum-told .given .1) .header
 
 decode-requires : tie.Need-decode-requires
-decode-requires c κs = (accepted-file _ _ (c .before .before .before .before .check .ensures) (c .before .before .enum-told .given .1) .whole, accepted-file _ _ (c .before .before .before .before .check .ensures) (c .before .before .enum-told .given .1) .few-rules)
+decode-requires c κs =
+    let at-enum-told = c .before .before in
+    let at-check = c .before .before .before .before in (
+      accepted-file _ _ (at-check .check .ensures) (at-enum-told .enum-told .given .1) .whole,
+      accepted-file _ _ (at-check .check .ensures) (at-enum-told .enum-told .given .1) .few-rules,
+    )
 
 table-requires : tie.Need-table-requires
-table-requires c κs = (
-  omega (arith, accepted-file _ _ (c .before .before .before .before .before .before .check .ensures) (c .before .before .before .before .enum-told .given .1) .few-rules, c .before .before .rule-count .ensures),
-  accepted-within _ _ _ _ (accepted-words (c .before .before .before .before .before .before .before .before .args .file .now) _ _ _ _ (accepted-file _ _ (c .before .before .before .before .before .before .check .ensures) (c .before .before .before .before .enum-told .given .1)) (c .before .before .before .symbols .ensures .0) refl (c .before .before .rule-count .ensures .0) (c .before .decode .ensures)),
-)
+table-requires c κs =
+    let at-rule-count = c .before .before in
+    let at-symbols = c .before .before .before in
+    let at-enum-told = c .before .before .before .before in
+    let at-check = c .before .before .before .before .before .before in
+    let start = c .before .before .before .before .before .before .before .before in (
+      omega (arith, accepted-file _ _ (at-check .check .ensures) (at-enum-told .enum-told .given .1) .few-rules, at-rule-count .rule-count .ensures),
+      accepted-within _ _ _ _
+          (accepted-words (start .args .file .now) _ _ _ _ (accepted-file _ _ (at-check .check .ensures) (at-enum-told .enum-told .given .1)) (at-symbols .symbols .ensures .0) refl (at-rule-count .rule-count .ensures .0) (c .before .decode .ensures)),
+    )
 
 print-rows-requires : tie.Need-print-rows-requires
-print-rows-requires c κs = omega (arith, accepted-file _ _ (c .before .before .before .before .before .before .before .before .check .ensures) (c .before .before .before .before .before .before .enum-told .given .1) .accepted .few-symbols, c .before .before .before .before .before .symbols .ensures)
+print-rows-requires c κs =
+    let at-symbols = c .before .before .before .before .before in
+    let at-enum-told = c .before .before .before .before .before .before in
+    let at-check = c .before .before .before .before .before .before .before .before in
+    omega
+    (arith, accepted-file _ _ (at-check .check .ensures) (at-enum-told .enum-told .given .1) .accepted .few-symbols, at-symbols .symbols .ensures)
 
 returns-2 : tie.Need-returns-2
 returns-2 c = search needs

@@ -25,22 +25,50 @@ wide-requires : tie.Need-wide-requires Inv-loop μ-loop
 wide-requires c κs = search needs
 
 second-requires : tie.Need-second-requires Inv-loop μ-loop
-second-requires c κs = omega (arith, c .wide .ensures, c .before .rule .ensures, c .before .before .before .before .before .before .pre .held .rules (c .before .before .before .loop .p - 1) (omega arith) (omega (arith, c .before .before .before .loop .inv .below)), c .before .before .before .before .before .before .pre .held .few)
+second-requires c κs =
+    omega (
+      arith,
+      c .wide .ensures,
+      c .before .rule .ensures,
+      c .before .before .before .before .before .before .pre .held .rules
+          (c .before .before .before .loop .p - 1) (omega arith)
+          (omega (arith, c .before .before .before .loop .inv .below)),
+      c .before .before .before .before .before .before .pre .held .few,
+    )
 
 mul-join-at : tie.Need-mul-join-at Inv-loop μ-loop
 mul-join-at c = search needs
 
 index-1-join-at : tie.Need-index-1-join-at Inv-loop μ-loop
-index-1-join-at c = predicting-symbol _ _ _ _ _ _ _ _ (c .before .before .before .before .before .before .before .before .pre) _ _ (c .before .before .before .before .before .loop .inv) (c .before .before .before .before .loop-test .taken) _ _ _ (c .before .before .before .rule .ensures) (c .before .before .wide .ensures) (c .before .second .ensures .0)
+index-1-join-at c =
+    predicting-symbol _ _ _ _ _ _ _ _ (c .before .before .before .before .before .before .before .before .pre) _ _
+    (c .before .before .before .before .before .loop .inv) (c .before .before .before .before .loop-test .taken) _ _ _
+    (c .before .before .before .rule .ensures) (c .before .before .wide .ensures) (c .before .second .ensures .0)
 
 join-at-requires : tie.Need-join-at-requires Inv-loop μ-loop
-join-at-requires c κs = (omega (arith, predicting-length _ _ _ _ _ _ _ _ (c .before .before .before .before .before .before .before .before .before .pre) _ _ (c .before .before .before .before .before .before .loop .inv), c .before .before .before .before .before .before .before .before .before .pre .row-there), predicting-wide _ _ _ _ _ _ _ _ (c .before .before .before .before .before .before .before .before .before .pre) _ _ (c .before .before .before .before .before .before .loop .inv) (c .before .before .before .before .before .loop-test .taken) _ _ _ (c .before .before .before .before .rule .ensures) (c .before .before .before .wide .ensures) (c .before .before .second .ensures .0))
+join-at-requires c κs = (
+  omega (
+    arith,
+    predicting-length _ _ _ _ _ _ _ _ (c .before .before .before .before .before .before .before .before .before .pre) _ _
+        (c .before .before .before .before .before .before .loop .inv),
+    c .before .before .before .before .before .before .before .before .before .pre .row-there,
+  ),
+  predicting-wide _ _ _ _ _ _ _ _
+      (c .before .before .before .before .before .before .before .before .before .pre) _ _
+      (c .before .before .before .before .before .before .loop .inv) (c .before .before .before .before .before .loop-test .taken) _ _ _
+      (c .before .before .before .before .rule .ensures) (c .before .before .before .wide .ensures) (c .before .before .second .ensures .0),
+)
 
 loop-less : tie.Need-loop-less Inv-loop μ-loop
 loop-less c = search needs
 
 loop-again : tie.Need-loop-again Inv-loop μ-loop
-loop-again c = predicting-next _ _ _ _ _ _ _ _ (c .before .before .before .before .before .before .before .before .before .before .before .before .pre) _ _ (c .before .before .before .before .before .before .before .before .before .loop .inv) (c .before .before .before .before .before .before .before .before .loop-test .taken) _ _ _ (c .before .before .before .before .before .before .before .rule .ensures) (c .before .before .before .before .before .before .wide .ensures) (c .before .before .before .before .before .second .ensures .0) (c .before .before .join-at .ensures)
+loop-again c =
+    predicting-next _ _ _ _ _ _ _ _ (c .before .before .before .before .before .before .before .before .before .before .before .before .pre) _ _
+    (c .before .before .before .before .before .before .before .before .before .loop .inv)
+    (c .before .before .before .before .before .before .before .before .loop-test .taken) _ _ _
+    (c .before .before .before .before .before .before .before .rule .ensures) (c .before .before .before .before .before .before .wide .ensures)
+    (c .before .before .before .before .before .second .ensures .0) (c .before .before .join-at .ensures)
 
 same-length : tie.Need-same-length Inv-loop μ-loop
 same-length c = predicting-length _ _ _ _ _ _ _ _ (c .before .before .before .before .pre) _ _ (c .before .loop .inv)

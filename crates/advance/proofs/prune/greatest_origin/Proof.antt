@@ -35,7 +35,9 @@ loop-less : tie.Need-loop-less Inv-loop μ-loop
 loop-less c = search needs
 
 loop-again : tie.Need-loop-again Inv-loop μ-loop
-loop-again c = reaching-next _ _ _ _ _ (c .before .before .before .before .loop .inv) (c .before .before .before .loop-test .taken) (c .larger .ensures ∙ ap (λ (o : ℕ). max o (c .before .before .before .before .loop .m)) (c .before .wide .ensures ∙ c .before .before .origin .ensures))
+loop-again c =
+    reaching-next _ _ _ _ _ (c .before .before .before .before .loop .inv) (c .before .before .before .loop-test .taken) (c .larger .ensures
+    ∙ ap (λ (o : ℕ). max o (c .before .before .before .before .loop .m)) (c .before .wide .ensures ∙ c .before .before .origin .ensures))
 
 returns-2 : tie.Need-returns-2 Inv-loop μ-loop
 returns-2 c = reaching-ends _ _ _ _ _ _ (c .before .loop .inv) (c .loop-test .left) (c .before .before .if1 .left)

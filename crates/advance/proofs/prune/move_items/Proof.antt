@@ -26,7 +26,22 @@ add-copy-2 : tie.Need-add-copy-2 Inv-loop μ-loop
 add-copy-2 c = search needs
 
 copy-requires : tie.Need-copy-requires Inv-loop μ-loop
-copy-requires c κs = (omega (arith, moving-length _ _ _ _ (c .before .before .before .before .pre .0) (c .before .before .before .before .pre .1) (c .before .before .before .before .pre .2) _ _ (c .before .before .loop .inv), c .before .before .before .before .pre .2), omega (arith, moving-length _ _ _ _ (c .before .before .before .before .pre .0) (c .before .before .before .before .pre .1) (c .before .before .before .before .pre .2) _ _ (c .before .before .loop .inv), c .before .before .before .before .pre .2))
+copy-requires c κs = (
+  omega (
+    arith,
+    moving-length _ _ _ _ (c .before .before .before .before .pre .0) (c .before .before .before .before .pre .1)
+        (c .before .before .before .before .pre .2) _ _
+        (c .before .before .loop .inv),
+    c .before .before .before .before .pre .2,
+  ),
+  omega (
+    arith,
+    moving-length _ _ _ _
+        (c .before .before .before .before .pre .0) (c .before .before .before .before .pre .1) (c .before .before .before .before .pre .2) _ _
+        (c .before .before .loop .inv),
+    c .before .before .before .before .pre .2,
+  ),
+)
 
 add-q : tie.Need-add-q Inv-loop μ-loop
 add-q c = search needs
@@ -35,7 +50,10 @@ loop-less : tie.Need-loop-less Inv-loop μ-loop
 loop-less c = search needs
 
 loop-again : tie.Need-loop-again Inv-loop μ-loop
-loop-again c = moving-next _ _ _ _ (c .before .before .before .before .before .before .before .pre .0) (c .before .before .before .before .before .before .before .pre .1) (c .before .before .before .before .before .before .before .pre .2) _ _ (c .before .before .before .before .before .loop .inv) (c .before .before .before .before .loop-test .taken) (c .before .before .copy .ensures)
+loop-again c =
+    moving-next _ _ _ _ (c .before .before .before .before .before .before .before .pre .0)
+    (c .before .before .before .before .before .before .before .pre .1) (c .before .before .before .before .before .before .before .pre .2) _ _
+    (c .before .before .before .before .before .loop .inv) (c .before .before .before .before .loop-test .taken) (c .before .before .copy .ensures)
 
 add-clear-words : tie.Need-add-clear-words Inv-loop μ-loop
 add-clear-words c = search needs
@@ -47,13 +65,38 @@ mul-clear-words-2 : tie.Need-mul-clear-words-2 Inv-loop μ-loop
 mul-clear-words-2 c = search needs
 
 clear-words-requires : tie.Need-clear-words-requires Inv-loop μ-loop
-clear-words-requires c κs = (omega (arith, moving-length _ _ _ _ (c .before .before .before .before .pre .0) (c .before .before .before .before .pre .1) (c .before .before .before .before .pre .2) _ _ (c .before .before .loop .inv), c .before .before .before .before .pre .2), omega (arith, moving-length _ _ _ _ (c .before .before .before .before .pre .0) (c .before .before .before .before .pre .1) (c .before .before .before .before .pre .2) _ _ (c .before .before .loop .inv), c .before .before .before .before .pre .2), moving-clear _ _ _ _ (c .before .before .before .before .pre .0) (c .before .before .before .before .pre .1) (c .before .before .before .before .pre .2) _ _ (c .before .before .loop .inv) (c .before .before .before .before .pre .3))
+clear-words-requires c κs = (
+  omega (
+    arith,
+    moving-length _ _ _ _ (c .before .before .before .before .pre .0) (c .before .before .before .before .pre .1)
+        (c .before .before .before .before .pre .2) _ _
+        (c .before .before .loop .inv),
+    c .before .before .before .before .pre .2,
+  ),
+  omega (
+    arith,
+    moving-length _ _ _ _
+        (c .before .before .before .before .pre .0) (c .before .before .before .before .pre .1) (c .before .before .before .before .pre .2) _ _
+        (c .before .before .loop .inv),
+    c .before .before .before .before .pre .2,
+  ),
+  moving-clear _ _ _ _ (c .before .before .before .before .pre .0)
+      (c .before .before .before .before .pre .1) (c .before .before .before .before .pre .2) _ _ (c .before .before .loop .inv)
+      (c .before .before .before .before .pre .3),
+)
 
 same-length : tie.Need-same-length Inv-loop μ-loop
-same-length c = c .before .before .clear-words .kept .0 ∙ moving-length _ _ _ _ (c .before .before .before .before .before .before .before .pre .0) (c .before .before .before .before .before .before .before .pre .1) (c .before .before .before .before .before .before .before .pre .2) _ _ (c .before .before .before .before .before .loop .inv)
+same-length c =
+    c .before .before .clear-words .kept .0 ∙ moving-length _ _ _ _ (c .before .before .before .before .before .before .before .pre .0)
+    (c .before .before .before .before .before .before .before .pre .1) (c .before .before .before .before .before .before .before .pre .2) _ _
+    (c .before .before .before .before .before .loop .inv)
 
 returns : tie.Need-returns Inv-loop μ-loop
-returns c = moving-ends _ _ _ _ (c .before .before .before .before .before .before .before .pre .0) (c .before .before .before .before .before .before .before .pre .1) (c .before .before .before .before .before .before .before .pre .2) _ _ (c .before .before .before .before .before .loop .inv) (c .before .before .before .before .loop-test .left) (c .before .before .clear-words .ensures)
+returns c =
+    moving-ends _ _ _ _ (c .before .before .before .before .before .before .before .pre .0)
+    (c .before .before .before .before .before .before .before .pre .1) (c .before .before .before .before .before .before .before .pre .2) _ _
+    (c .before .before .before .before .before .loop .inv) (c .before .before .before .before .loop-test .left)
+    (c .before .before .clear-words .ensures)
 
 pub move-items-spec : {M : Type 1} → statement M
 move-items-spec =

@@ -23,7 +23,13 @@ wide-requires : tie.Need-wide-requires
 wide-requires c κs = search needs
 
 move-items-requires : tie.Need-move-items-requires
-move-items-requires c κs = (base-below _ _ _ _ _ _ _ (c .before .before .before .before .before .before .before .pre) (c .before .before .before .if1 .left) (c .before .wide .ensures), c .before .before .before .before .before .before .before .pre .runs, c .before .before .before .before .before .before .before .pre .there, c .before .before .before .before .before .before .before .pre .spare-items)
+move-items-requires c κs = (
+  base-below _ _ _ _ _ _ _ (c .before .before .before .before .before .before .before .pre) (c .before .before .before .if1 .left)
+      (c .before .wide .ensures),
+  c .before .before .before .before .before .before .before .pre .runs,
+  c .before .before .before .before .before .before .before .pre .there,
+  c .before .before .before .before .before .before .before .pre .spare-items,
+)
 
 add-clear-words : tie.Need-add-clear-words
 add-clear-words c = search needs
@@ -59,7 +65,13 @@ same-length-3 : tie.Need-same-length-3
 same-length-3 c = c .before .before .clear-rows .kept .0
 
 returns-2 : tie.Need-returns-2
-returns-2 c = sets-dropped _ _ _ _ _ _ _ (c .before .before .before .before .before .before .before .before .before .before .before .before .before .before .before .before .before .before .pre) (c .before .before .before .before .before .before .before .before .before .before .before .before .before .before .if1 .left) (c .before .before .before .before .before .before .before .before .before .before .before .before .wide .ensures) (c .before .before .before .before .before .before .before .before .before .before .move-items .ensures) (c .before .before .before .before .before .before .clear-words .ensures) (c .before .before .clear-rows .ensures)
+returns-2 c =
+    sets-dropped _ _ _ _ _ _ _
+    (c .before .before .before .before .before .before .before .before .before .before .before .before .before .before .before .before .before .before .pre)
+    (c .before .before .before .before .before .before .before .before .before .before .before .before .before .before .if1 .left)
+    (c .before .before .before .before .before .before .before .before .before .before .before .before .wide .ensures)
+    (c .before .before .before .before .before .before .before .before .before .before .move-items .ensures)
+    (c .before .before .before .before .before .before .clear-words .ensures) (c .before .before .clear-rows .ensures)
 
 pub remove-unreachable-sets-spec : {M : Type 1} → statement M
 remove-unreachable-sets-spec =

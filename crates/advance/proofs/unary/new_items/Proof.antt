@@ -13,7 +13,9 @@ sort-medial-items-requires : tie.Need-sort-medial-items-requires
 sort-medial-items-requires c κs = search needs
 
 remove-unary-medial-items-requires : tie.Need-remove-unary-medial-items-requires
-remove-unary-medial-items-requires c κs = sorted-asks _ _ _ _ _ (c .before .before .before .before .before .before .pre .0) (c .before .before .before .before .before .before .pre .1) (c .before .before .before .sort-medial-items .ensures)
+remove-unary-medial-items-requires c κs =
+    sorted-asks _ _ _ _ _ (c .before .before .before .before .before .before .pre .0) (c .before .before .before .before .before .before .pre .1)
+    (c .before .before .before .sort-medial-items .ensures)
 
 same-length : tie.Need-same-length
 same-length c = search needs
@@ -22,7 +24,9 @@ returns : tie.Need-returns
 returns c =
     let sorted-are = c .before .before .before .before .before .before .sort-medial-items .ensures in
     let removed = c .before .before .remove-unary-medial-items .ensures in (
-      removed .0 ∙ ap (λ (is : List Item). c .before .before .before .before .before .before .before .before .before .args .from + length is) (sorted-new _ _ _ _ _ (c .before .before .before .before .before .before .before .before .before .pre .0) sorted-are),
+      removed .0
+          ∙ ap (λ (is : List Item). c .before .before .before .before .before .before .before .before .before .args .from + length is) (sorted-new _ _ _ _ _
+          (c .before .before .before .before .before .before .before .before .before .pre .0) sorted-are),
       removed .1 ∙ sorted-ending _ _ _ _ _ (c .before .before .before .before .before .before .before .before .before .pre .0) sorted-are,
     )
 

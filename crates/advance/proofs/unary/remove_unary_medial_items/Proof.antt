@@ -25,7 +25,8 @@ returns : tie.Need-returns
 returns c =
     let near = c .before .before .before .before .binary-end .ensures in (
       cut-count _ _ _ _ (near .0 .0) (near .1),
-      c .before .before .clear-words .ensures ∙ cut-ending _ _ _ _ (near .0 .0) (omega (arith, near .0 .1, c .before .before .before .before .before .before .before .pre .0 .there)) (near .1),
+      c .before .before .clear-words .ensures ∙ cut-ending _ _ _ _ (near .0 .0)
+          (omega (arith, near .0 .1, c .before .before .before .before .before .before .before .pre .0 .there)) (near .1),
     )
 
 pub remove-unary-medial-items-spec : {M : Type 1} → statement M

@@ -89,10 +89,13 @@ complete-requires c κs =
     let few : ruleAt (a .items .now) top < a .count = omega (arith, c .before .before .before .before .before .before .before .before .before .before .before .before .before .before .before .before .before .before .before .before .pre .1 .1 .rules top there, rules-length (a .rules .now) (a .count)) in
     let set : c .before .before .before .before .before .before .before .before .before .before .before .wide2 .result ≡ originAt (a .items .now) top = c .before .before .before .before .before .before .before .before .before .before .before .wide2 .ensures ∙ c .before .before .before .before .before .before .before .before .before .before .before .before .origin .ensures ∙ ap (originAt (a .items .now)) (c .before .before .before .before .before .before .before .before .before .before .before .before .before .before .wide .ensures) in
     let symbol : c .before .before .before .before .before .before .before .left .result ≡ getD rs (ruleAt (a .items .now) top) noRule .left = c .before .before .before .before .before .before .before .left .ensures .0 ∙ ap (leftIn (a .rules .now)) rule ∙ rule-left (a .rules .now) (a .count) (ruleAt (a .items .now) top) few in
-    let popped = steady-pop rs (a .starts .now) s (c .before .before .before .before .before .before .before .before .before .before .before .wide2 .result) (c .before .before .before .before .before .before .before .left .result) s (steady-refl rs (a .starts .now) s (c .before .before .before .before .before .before .before .before .before .before .before .before .before .before .before .before .before .before .before .before .pre .1 .0) (c .before .before .before .before .before .before .before .before .before .before .before .before .before .before .before .before .before .before .before .before .pre .1 .1)) in
-    (c .before .before .before .before .before .before .before .before .before .before .before .before .before .before .before .before .before .before .before .before .pre .0,
-    ((subst (IsSet (a .starts .now)) (sym set) (c .before .before .before .before .before .before .before .before .before .before .before .before .before .before .before .before .before .before .before .before .pre .1 .1 .origins top there), omega (arith, symbol, c .before .before .before .before .before .before .before .before .before .before .before .before .before .before .before .before .before .before .before .before .pre .0 .0 .lefts (ruleAt (a .items .now) top))),
-    (subst Sound (sym (c .before .before .before .before .pop-sum .ensures)) (popped .sound), subst (Charted rs (a .starts .now)) (sym (c .before .before .before .before .pop-sum .ensures)) (popped .charted))))
+    let popped = steady-pop rs (a .starts .now) s (c .before .before .before .before .before .before .before .before .before .before .before .wide2 .result) (c .before .before .before .before .before .before .before .left .result) s (steady-refl rs (a .starts .now) s (c .before .before .before .before .before .before .before .before .before .before .before .before .before .before .before .before .before .before .before .before .pre .1 .0) (c .before .before .before .before .before .before .before .before .before .before .before .before .before .before .before .before .before .before .before .before .pre .1 .1)) in (
+      c .before .before .before .before .before .before .before .before .before .before .before .before .before .before .before .before .before .before .before .before .pre .0,
+      (
+        (subst (IsSet (a .starts .now)) (sym set) (c .before .before .before .before .before .before .before .before .before .before .before .before .before .before .before .before .before .before .before .before .pre .1 .1 .origins top there), omega (arith, symbol, c .before .before .before .before .before .before .before .before .before .before .before .before .before .before .before .before .before .before .before .before .pre .0 .0 .lefts (ruleAt (a .items .now) top))),
+        (subst Sound (sym (c .before .before .before .before .pop-sum .ensures)) (popped .sound), subst (Charted rs (a .starts .now)) (sym (c .before .before .before .before .pop-sum .ensures)) (popped .charted)),
+      ),
+    )
 
 -- src/sums.rt:62:1
 same-length : tie.Need-same-length

@@ -72,10 +72,11 @@ loop-again c =
     let l = c .before .before .before .before .before .before .before .loop in
     let u = passOf (l .now) (a .items .now) (l .queue) in
     let on : sumEnds rs (a .k) (a .x) u ≡ false = sym (c .before .before .before .before .before .sum-ends .ensures) ∙ not-true (c .before .before .before .before .before .sum-ends .result) (c .before .before .before .before .if1 .taken) in
-    let some : 0 < l .now .queued = goes-on-sum rs [] u (a .k) (a .x) u on in
-    (sum-turn rs (a .k) (a .x) u (passOf (c .before .before .next-summand .result) (a .items .now) (c .before .before .next-summand .last .1 .0)) on some (c .before .before .next-summand .ensures) ∙ l .inv .0,
-    subst (RulesRead rs) (sym (c .before .before .next-summand .ensures)) (read-next rs u (l .inv .1) some (next-sound u (l .inv .1 .sound) some)),
-    c .before .before .next-summand .kept .1 .0 ∙ l .inv .2)
+    let some : 0 < l .now .queued = goes-on-sum rs [] u (a .k) (a .x) u on in (
+      sum-turn rs (a .k) (a .x) u (passOf (c .before .before .next-summand .result) (a .items .now) (c .before .before .next-summand .last .1 .0)) on some (c .before .before .next-summand .ensures) ∙ l .inv .0,
+      subst (RulesRead rs) (sym (c .before .before .next-summand .ensures)) (read-next rs u (l .inv .1) some (next-sound u (l .inv .1 .sound) some)),
+      c .before .before .next-summand .kept .1 .0 ∙ l .inv .2,
+    )
 
 -- src/sums.rt:50:1
 same-length : tie.Need-same-length Inv-loop μ-loop

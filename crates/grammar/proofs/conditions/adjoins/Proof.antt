@@ -1,3 +1,4 @@
+-- `grammar::conditions::adjoins` meets its contract. The rule before has the same left side, or the search tells.
 use Rattle.laws.proofs.Decides.{says-yes, says-leb}
 use Rattle.grammar.proofs.Asked.{adjoins-next, adjoins-none, adjoins-not}
 use mathlib.Core.Path.{sym, _∙_}
@@ -21,9 +22,12 @@ find-left-requires : tie.Need-find-left-requires
 find-left-requires c κs = search needs
 
 returns-2 : tie.Need-returns-2
-returns-2 c = says-leb (c .before .before .before .before .args .r) (c .find-left .result)
-    (adjoins-none _ _ _ _ (c .find-left .ensures) (c .before .before .before .left .ensures .0))
-    (adjoins-not _ _ _ _ _ (c .find-left .ensures) (c .before .before .before .left .ensures .0) (c .before .before .left2 .ensures .0) (c .before .if1 .left))
+returns-2 c =
+    let at-left2 = c .before .before in
+    let at-left = c .before .before .before in
+    let start = c .before .before .before .before in
+    says-leb (start .args .r) (c .find-left .result) (adjoins-none _ _ _ _ (c .find-left .ensures) (at-left .left .ensures .0))
+    (adjoins-not _ _ _ _ _ (c .find-left .ensures) (at-left .left .ensures .0) (at-left2 .left2 .ensures .0) (c .before .if1 .left))
 
 pub adjoins-spec : {M : Type 1} → statement M
 adjoins-spec =

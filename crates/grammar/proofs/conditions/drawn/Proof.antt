@@ -1,3 +1,4 @@
+-- `grammar::conditions::drawn` meets its contract. One symbol a return.
 use Rattle.laws.proofs.Decides.{says-yes, says-no, says-ltb}
 use Rattle.grammar.proofs.Asked.{high-second}
 use mathlib.Core.Logic.{inl, inr}
@@ -38,7 +39,11 @@ sub-result : tie.Need-sub-result
 sub-result c = search needs
 
 returns-5 : tie.Need-returns-5
-returns-5 c = says-ltb (c .before .second .result) (c .before .before .before .before .before .before .before .args .n - 2) (λ l. record { no-token = omega arith; no-wrapper = omega arith; first = omega arith; second = inr (omega arith) }) (λ l d. high-second _ _ _ _ d (omega arith) (omega arith))
+returns-5 c =
+    let start = c .before .before .before .before .before .before .before in
+    says-ltb (c .before .second .result) (start .args .n - 2)
+    (λ l. record { no-token = omega arith; no-wrapper = omega arith; first = omega arith; second = inr (omega arith) })
+    (λ l d. high-second _ _ _ _ d (omega arith) (omega arith))
 
 pub drawn-spec : {M : Type 1} → statement M
 drawn-spec =

@@ -1,3 +1,4 @@
+-- `grammar::conditions::find_left` meets its contract. The invariant: no rule passed has that left side.
 use borrow.Author.Count.{below-more}
 use Rattle.grammar.specs.Decoded.{leftIn}
 use borrow.Author.Needs.{needs}

@@ -1,3 +1,4 @@
+-- `grammar::conditions::precedes` meets its contract. The rule has two symbols, or the search tells.
 use Rattle.laws.proofs.Decides.{says-yes, says-ltb}
 use Rattle.grammar.proofs.Asked.{precedes-two, precedes-none, precedes-not}
 use borrow.Author.Needs.{needs}
@@ -20,9 +21,12 @@ find-left-requires : tie.Need-find-left-requires
 find-left-requires c κs = search needs
 
 returns-2 : tie.Need-returns-2
-returns-2 c = says-ltb (c .before .before .before .before .args .r) (c .find-left .result)
-    (precedes-none _ _ _ _ (c .find-left .ensures) (c .before .first .ensures .0))
-    (precedes-not _ _ _ _ _ (c .find-left .ensures) (c .before .first .ensures .0) (c .before .before .before .second .ensures .0) (c .before .before .if1 .left))
+returns-2 c =
+    let at-if1 = c .before .before in
+    let at-second = c .before .before .before in
+    let start = c .before .before .before .before in
+    says-ltb (start .args .r) (c .find-left .result) (precedes-none _ _ _ _ (c .find-left .ensures) (c .before .first .ensures .0))
+    (precedes-not _ _ _ _ _ (c .find-left .ensures) (c .before .first .ensures .0) (at-second .second .ensures .0) (at-if1 .if1 .left))
 
 pub precedes-spec : {M : Type 1} → statement M
 precedes-spec =

@@ -1,3 +1,4 @@
+-- `grammar::conditions::ruled` meets its contract. The invariant: every rule passed is as asked.
 use Rattle.laws.proofs.Decides.{says-yes, says-no}
 use borrow.Author.Tests.{not-true, not-false}
 use Rattle.grammar.specs.Checking.{Ruled}
@@ -21,19 +22,25 @@ drawn-requires : tie.Need-drawn-requires Inv-loop μ-loop
 drawn-requires c κs = search needs
 
 returns : tie.Need-returns Inv-loop μ-loop
-returns c = says-no (λ h. c .before .drawn .ensures .if-no (not-true _ (c .if1 .taken)) (h .drawn _ (omega arith) (c .before .before .loop-test .taken)))
+returns c =
+    let at-loop-test = c .before .before in
+    says-no (λ h. c .before .drawn .ensures .if-no (not-true _ (c .if1 .taken)) (h .drawn _ (omega arith) (at-loop-test .loop-test .taken)))
 
 adjoins-requires : tie.Need-adjoins-requires Inv-loop μ-loop
 adjoins-requires c κs = search needs
 
 returns-2 : tie.Need-returns-2 Inv-loop μ-loop
-returns-2 c = says-no (λ h. c .before .adjoins .ensures .if-no (not-true _ (c .if2 .taken)) (h .adjoins _ (omega arith) (c .before .before .before .before .loop-test .taken)))
+returns-2 c =
+    let at-loop-test = c .before .before .before .before in
+    says-no (λ h. c .before .adjoins .ensures .if-no (not-true _ (c .if2 .taken)) (h .adjoins _ (omega arith) (at-loop-test .loop-test .taken)))
 
 precedes-requires : tie.Need-precedes-requires Inv-loop μ-loop
 precedes-requires c κs = search needs
 
 returns-3 : tie.Need-returns-3 Inv-loop μ-loop
-returns-3 c = says-no (λ h. c .before .precedes .ensures .if-no (not-true _ (c .if3 .taken)) (h .precedes _ (omega arith) (c .before .before .before .before .before .before .loop-test .taken)))
+returns-3 c =
+    let at-loop-test = c .before .before .before .before .before .before in
+    says-no (λ h. c .before .precedes .ensures .if-no (not-true _ (c .if3 .taken)) (h .precedes _ (omega arith) (at-loop-test .loop-test .taken)))
 
 add-r : tie.Need-add-r Inv-loop μ-loop
 add-r c = search needs

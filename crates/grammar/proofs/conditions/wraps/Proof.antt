@@ -1,3 +1,4 @@
+-- `grammar::conditions::wraps` meets its contract. One part of rule 0 a return.
 use Rattle.laws.proofs.Decides.{says-no, says-ltb}
 use native.Mathlib.Omega.{arith}
 use Prim.Native.Nat.{_-_}
@@ -33,7 +34,10 @@ sub-result : tie.Need-sub-result
 sub-result c = search needs
 
 returns-4 : tie.Need-returns-4
-returns-4 c = says-ltb (c .before .first .result) (c .before .before .before .before .before .before .args .n - 2) (λ l. record { left = omega arith; second = omega arith; no-token = omega arith; no-wrapper = omega arith }) (λ l d. omega arith)
+returns-4 c =
+    let start = c .before .before .before .before .before .before in
+    says-ltb (c .before .first .result) (start .args .n - 2)
+    (λ l. record { left = omega arith; second = omega arith; no-token = omega arith; no-wrapper = omega arith }) (λ l d. omega arith)
 
 pub wraps-spec : {M : Type 1} → statement M
 wraps-spec =

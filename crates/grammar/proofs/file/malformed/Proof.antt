@@ -1,3 +1,4 @@
+-- `grammar::file::malformed` meets its contract. One way to be malformed a return, and a file that passes all four tests is not.
 use Rattle.laws.proofs.Decides.{says-yes, says-differ}
 use Rattle.grammar.specs.File.Malformed.{short, version, real-length, told-length}
 use Rattle.grammar.proofs.Asked.{well-formed}
@@ -35,7 +36,10 @@ add-result : tie.Need-add-result
 add-result c = search needs
 
 returns-4 : tie.Need-returns-4
-returns-4 c = says-differ (c .before .before .u32-at .result) (11 + 6 * c .rule-count .result) (λ n. told-length (λ e. omega arith)) (λ e. well-formed _ (search needs) (omega arith) (omega arith) (omega arith))
+returns-4 c =
+    let at-u32-at = c .before .before in
+    says-differ (at-u32-at .u32-at .result) (11 + 6 * c .rule-count .result) (λ n. told-length (λ e. omega arith))
+    (λ e. well-formed _ (search needs) (omega arith) (omega arith) (omega arith))
 
 pub malformed-spec : {M : Type 1} → statement M
 malformed-spec =

@@ -1,3 +1,4 @@
+-- `grammar::pairs::equal_pair` meets its contract. The invariants: no pair of lower rules is equal, and none of the rules passed equals this one.
 use Rattle.grammar.proofs.Asked.{PairsPassed, RowPassed, no-pairs, no-row, row-more, pairs-more, pairs-all}
 use Rattle.laws.proofs.Decides.{says-yes, says-no}
 use Rattle.grammar.specs.Checking.{EqualPair}
@@ -38,7 +39,9 @@ loop-less : tie.Need-loop-less Inv-loop μ-loop Inv-pairs μ-pairs
 loop-less c = search needs
 
 loop-again : tie.Need-loop-again Inv-loop μ-loop Inv-pairs μ-pairs
-loop-again c = (c .before .before .before .loop .inv .0, omega arith, row-more _ _ _ (c .before .before .before .loop .inv .2) (c .before .same .ensures .if-no (c .if1 .left)))
+loop-again c =
+    let at-loop = c .before .before .before in
+    (at-loop .loop .inv .0, omega arith, row-more _ _ _ (at-loop .loop .inv .2) (c .before .same .ensures .if-no (c .if1 .left)))
 
 add-r : tie.Need-add-r Inv-loop μ-loop Inv-pairs μ-pairs
 add-r c = search needs
@@ -47,13 +50,22 @@ pairs-less : tie.Need-pairs-less Inv-loop μ-loop Inv-pairs μ-pairs
 pairs-less c = search needs
 
 pairs-again : tie.Need-pairs-again Inv-loop μ-loop Inv-pairs μ-pairs
-pairs-again c = (c .before .loop .inv .0, omega arith, pairs-more _ _ _ (c .before .before .before .pairs .inv .2) (c .before .loop .inv .2) (omega arith))
+pairs-again c =
+    let at-pairs = c .before .before .before in
+    (c .before .loop .inv .0, omega arith, pairs-more _ _ _ (at-pairs .pairs .inv .2) (c .before .loop .inv .2) (omega arith))
 
 returns : tie.Need-returns Inv-loop μ-loop Inv-pairs μ-pairs
-returns c = subst⁻¹ (λ (b : Bool). Decides b (EqualPair (c .before .before .args .rules .now) (c .before .before .args .count))) (c .before .pairs .inv .0) (says-no (pairs-all _ _ _ (c .before .pairs .inv .2) (omega arith)))
+returns c =
+    let start = c .before .before in
+    subst⁻¹ (λ (b : Bool). Decides b (EqualPair (start .args .rules .now) (start .args .count))) (c .before .pairs .inv .0)
+    (says-no (pairs-all _ _ _ (c .before .pairs .inv .2) (omega arith)))
 
 returns-2 : tie.Need-returns-2 Inv-loop μ-loop Inv-pairs μ-pairs
-returns-2 c = says-yes (record { lower = c .before .before .before .loop .q; higher = c .before .before .before .before .before .pairs .r; order = omega arith; there = omega arith; same = c .before .same .ensures .if-yes (c .if1 .taken) })
+returns-2 c =
+    let at-loop = c .before .before .before in
+    let at-pairs = c .before .before .before .before .before in
+    says-yes
+    (record { lower = at-loop .loop .q; higher = at-pairs .pairs .r; order = omega arith; there = omega arith; same = c .before .same .ensures .if-yes (c .if1 .taken) })
 
 pub equal-pair-spec : {M : Type 1} → statement M
 equal-pair-spec =

@@ -1,3 +1,4 @@
+-- `grammar::pairs::same` meets its contract. One symbol a return.
 use Rattle.laws.proofs.Decides.{says-no, says-eqb}
 use native.Mathlib.Omega.{arith}
 use borrow.Author.Needs.{needs}
@@ -29,7 +30,9 @@ second-requires-2 : tie.Need-second-requires-2
 second-requires-2 c κs = search needs
 
 returns-3 : tie.Need-returns-3
-returns-3 c = says-eqb (c .before .second .result) (c .second2 .result) (λ l. record { left = omega arith; first = omega arith; second = omega arith }) (λ l d. omega arith)
+returns-3 c =
+    says-eqb (c .before .second .result) (c .second2 .result) (λ l. record { left = omega arith; first = omega arith; second = omega arith })
+    (λ l d. omega arith)
 
 pub same-spec : {M : Type 1} → statement M
 same-spec =

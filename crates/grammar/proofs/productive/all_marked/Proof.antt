@@ -1,3 +1,4 @@
+-- `grammar::productive::all_marked` meets its contract. The invariant: all symbols passed are marked.
 use borrow.Author.Tests.{not-true, not-false}
 use Rattle.grammar.specs.Checking.{AllMarked}
 use Rattle.laws.proofs.Decides.{says-yes, says-no}
@@ -21,7 +22,10 @@ element-copy-out-if1 : tie.Need-element-copy-out-if1 Inv-loop μ-loop
 element-copy-out-if1 c = search needs
 
 returns : tie.Need-returns Inv-loop μ-loop
-returns c = says-no (one-unmarked _ _ _ _ (c .before .before .before .loop .inv .0) (c .before .before .loop-test .taken) (not-true _ (c .if1 .taken)))
+returns c =
+    let at-loop-test = c .before .before in
+    let at-loop = c .before .before .before in
+    says-no (one-unmarked _ _ _ _ (at-loop .loop .inv .0) (at-loop-test .loop-test .taken) (not-true _ (c .if1 .taken)))
 
 add-a : tie.Need-add-a Inv-loop μ-loop
 add-a c = search needs

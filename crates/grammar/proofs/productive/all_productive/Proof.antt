@@ -1,3 +1,4 @@
+-- `grammar::productive::all_productive` meets its contract. The invariants: `Marking`, that every mark is right, and `Round`, what a round has marked so far; the number of symbols not marked falls.
 use borrow.Author.Tests.{not-true, not-false}
 use Rattle.grammar.proofs.Marks.{low-less}
 use Rattle.grammar.proofs.Productivity.{unmarked, Marking, Round, marking-tokens, round-begins, round-passes, round-marks, decided}
@@ -38,13 +39,21 @@ loop2-less : tie.Need-loop2-less Inv-loop2 μ-loop2 Inv-loop μ-loop
 loop2-less c = search needs
 
 loop2-again : tie.Need-loop2-again Inv-loop2 μ-loop2 Inv-loop μ-loop
-loop2-again c = round-passes _ _ _ _ _ _ _ _ (c .before .before .before .before .loop2 .inv) (c .before .before .before .loop2-test .taken) (c .before .fires .ensures .if-no (not-true _ (c .if1 .taken)))
+loop2-again c =
+    let at-loop2-test = c .before .before .before in
+    let at-loop2 = c .before .before .before .before in
+    round-passes _ _ _ _ _ _ _ _ (at-loop2 .loop2 .inv) (at-loop2-test .loop2-test .taken)
+    (c .before .fires .ensures .if-no (not-true _ (c .if1 .taken)))
 
 left-requires : tie.Need-left-requires Inv-loop2 μ-loop2 Inv-loop μ-loop
 left-requires c κs = search needs
 
 array-write-marks : tie.Need-array-write-marks Inv-loop2 μ-loop2 Inv-loop μ-loop
-array-write-marks c = omega (arith, c .before .before .before .before .before .before .before .before .pre .3 .left (c .before .before .before .before .before .loop2 .r) (c .before .before .before .before .loop2-test .taken))
+array-write-marks c =
+    let at-loop2-test = c .before .before .before .before in
+    let at-loop2 = c .before .before .before .before .before in
+    let start = c .before .before .before .before .before .before .before .before in
+    omega (arith, start .pre .3 .left (at-loop2 .loop2 .r) (at-loop2-test .loop2-test .taken))
 
 add-r-2 : tie.Need-add-r-2 Inv-loop2 μ-loop2 Inv-loop μ-loop
 add-r-2 c = search needs
@@ -53,7 +62,14 @@ loop2-less-2 : tie.Need-loop2-less-2 Inv-loop2 μ-loop2 Inv-loop μ-loop
 loop2-less-2 c = search needs
 
 loop2-again-2 : tie.Need-loop2-again-2 Inv-loop2 μ-loop2 Inv-loop μ-loop
-loop2-again-2 c = round-marks _ _ _ _ _ _ _ _ _ (c .before .before .before .before .before .loop2 .inv) (c .before .before .before .before .loop2-test .taken) (c .before .before .fires .ensures .if-yes (not-false _ (c .before .if1 .left))) (c .left .ensures .0) (omega (arith, c .before .before .before .before .before .before .before .before .pre .3 .left (c .before .before .before .before .before .loop2 .r) (c .before .before .before .before .loop2-test .taken)))
+loop2-again-2 c =
+    let at-fires = c .before .before in
+    let at-loop2-test = c .before .before .before .before in
+    let at-loop2 = c .before .before .before .before .before in
+    let start = c .before .before .before .before .before .before .before .before in
+    round-marks _ _ _ _ _ _ _ _ _ (at-loop2 .loop2 .inv) (at-loop2-test .loop2-test .taken)
+    (at-fires .fires .ensures .if-yes (not-false _ (c .before .if1 .left))) (c .left .ensures .0)
+    (omega (arith, start .pre .3 .left (at-loop2 .loop2 .r) (at-loop2-test .loop2-test .taken)))
 
 loop-less : tie.Need-loop-less Inv-loop2 μ-loop2 Inv-loop μ-loop
 loop-less c = c .before .before .loop2 .inv .less (not-false _ (c .if2 .left))
@@ -68,7 +84,12 @@ all-marked-requires : tie.Need-all-marked-requires Inv-loop2 μ-loop2 Inv-loop �
 all-marked-requires c κs = search needs
 
 returns : tie.Need-returns Inv-loop2 μ-loop2 Inv-loop μ-loop
-returns c = decided _ _ _ _ _ _ (c .before .before .before .before .before .before .before .pre .0) (c .before .before .before .before .loop2 .inv .right) (λ q l. c .before .before .before .before .loop2 .inv .quiet (not-true _ (c .before .before .if2 .taken)) q (omega arith)) (c .all-marked .ensures)
+returns c =
+    let at-if2 = c .before .before in
+    let at-loop2 = c .before .before .before .before in
+    let start = c .before .before .before .before .before .before .before in
+    decided _ _ _ _ _ _ (start .pre .0) (at-loop2 .loop2 .inv .right)
+    (λ q l. at-loop2 .loop2 .inv .quiet (not-true _ (at-if2 .if2 .taken)) q (omega arith)) (c .all-marked .ensures)
 
 pub all-productive-spec : {M : Type 1} → statement M
 all-productive-spec =

@@ -1,3 +1,4 @@
+-- `grammar::productive::fires` meets its contract. One symbol a return.
 use Rattle.laws.proofs.Decides.{says-yes, says-no}
 use borrow.Author.Tests.{not-true, not-false}
 use Rattle.grammar.proofs.Marks.{low-second, fires-not-left, fires-not-first, fires-one, fires-two}
@@ -28,13 +29,28 @@ second-requires : tie.Need-second-requires
 second-requires c κs = search needs
 
 returns-3 : tie.Need-returns-3
-returns-3 c = says-yes (fires-one _ _ _ _ _ _ (c .before .before .before .before .before .before .before .left .ensures .0) (c .before .before .before .before .first .ensures .0) (c .before .second .ensures .0) (c .before .before .before .before .before .if1 .left) (not-false _ (c .before .before .if2 .left)) (c .if3 .taken))
+returns-3 c =
+    let at-if2 = c .before .before in
+    let at-first = c .before .before .before .before in
+    let at-if1 = c .before .before .before .before .before in
+    let at-left = c .before .before .before .before .before .before .before in
+    says-yes
+    (fires-one _ _ _ _ _ _ (at-left .left .ensures .0) (at-first .first .ensures .0) (c .before .second .ensures .0) (at-if1 .if1 .left) (not-false _ (at-if2 .if2 .left)) (c .if3 .taken))
 
 element-copy-out-result : tie.Need-element-copy-out-result
-element-copy-out-result c = low-second _ _ _ (c .before .before .before .before .before .before .before .before .pre .1) (c .before .second .ensures .0) (c .if3 .left)
+element-copy-out-result c =
+    let start = c .before .before .before .before .before .before .before .before in
+    low-second _ _ _ (start .pre .1) (c .before .second .ensures .0) (c .if3 .left)
 
 returns-4 : tie.Need-returns-4
-returns-4 c = fires-two _ _ _ _ _ _ (c .before .before .before .before .before .before .before .before .left .ensures .0) (c .before .before .before .before .before .first .ensures .0) (c .before .before .second .ensures .0) (c .before .before .before .before .before .before .if1 .left) (not-false _ (c .before .before .before .if2 .left)) (c .before .if3 .left)
+returns-4 c =
+    let at-second = c .before .before in
+    let at-if2 = c .before .before .before in
+    let at-first = c .before .before .before .before .before in
+    let at-if1 = c .before .before .before .before .before .before in
+    let at-left = c .before .before .before .before .before .before .before .before in
+    fires-two _ _ _ _ _ _ (at-left .left .ensures .0) (at-first .first .ensures .0) (at-second .second .ensures .0) (at-if1 .if1 .left)
+    (not-false _ (at-if2 .if2 .left)) (c .before .if3 .left)
 
 pub fires-spec : {M : Type 1} → statement M
 fires-spec =

@@ -1,3 +1,4 @@
+-- `grammar::rules::decode` meets its contract. The invariant, `Decoding`: the rules passed stand in the words.
 use Rattle.grammar.proofs.Decoding.{Decoding, more-decoded, all-decoded, none-decoded}
 use borrow.Author.Needs.{needs}
 use Prim.Native.Nat.{_-_}
@@ -86,7 +87,11 @@ loop-less : tie.Need-loop-less Inv-loop μ-loop
 loop-less c = search needs
 
 loop-again : tie.Need-loop-again Inv-loop μ-loop
-loop-again c = more-decoded _ _ _ _ _ _ (c .before .before .before .before .loop .inv) (search needs) (search needs) (c .before .before .u16-at .ensures .0) (c .before .u16-at2 .ensures .0) (c .u16-at3 .ensures .0)
+loop-again c =
+    let at-u16-at = c .before .before in
+    let at-loop = c .before .before .before .before in
+    more-decoded _ _ _ _ _ _ (at-loop .loop .inv) (search needs) (search needs) (at-u16-at .u16-at .ensures .0) (c .before .u16-at2 .ensures .0)
+    (c .u16-at3 .ensures .0)
 
 returns : tie.Need-returns Inv-loop μ-loop
 returns c = all-decoded _ _ _ (c .before .loop .inv) (search needs)

@@ -31,8 +31,8 @@ put-units-requires c κs =
     ∙ c .before .if2 .taken) in
     omega (arith, fits, c .before .before .before .before .width .ensures)
 
-add-t11 : tie.Need-add-t11
-add-t11 c =
+add-behind : tie.Need-add-behind
+add-behind c =
     let a = c .before .before .before .before .before .before .before .before .before .args in
     let w = c .before .before .before .before .before .before .before .width .result in
     let fits : a .p + w ≤ min usableUnits (length (a .store .now)) =
@@ -50,7 +50,8 @@ returns-2 c =
     let fits : a .p + w ≤ min usableUnits (length (a .store .now)) =
     leb-true (a .p + w) (min usableUnits (length (a .store .now))) (sym (c .before .before .before .before .before .room .ensures)
     ∙ c .before .before .before .before .if2 .taken) in
-    wrote (a .store .now) (a .p) (listOf (a .units)) w _ (c .before .before .before .before .before .before .if1 .left) (c .before .before .before .before .before .before .before .width .ensures) fits (c .before .before .put-units .ensures)
+    wrote (a .store .now) (a .p) (listOf (a .units)) w _ (c .before .before .before .before .before .before .if1 .left)
+    (c .before .before .before .before .before .before .before .width .ensures) fits (c .before .before .put-units .ensures)
 
 returns-3 : tie.Need-returns-3
 returns-3 c =
@@ -67,7 +68,7 @@ place-units-spec =
     returns
     room-requires
     put-units-requires
-    add-t11
+    add-behind
     same-length
     returns-2
     returns-3)

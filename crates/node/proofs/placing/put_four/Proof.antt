@@ -1,9 +1,5 @@
 -- `placing::put_four` meets its contract: two units, and two behind them.
-use Prim.Native.Nat.{_+_}
-use mathlib.Core.List.{[], _∷_}
-use mathlib.Core.Path.{ap, _∙_}
 use borrow.Author.Needs.{needs}
-use Rattle.node.specs.Writing.{put}
 use Rattle.node.proofs.Runs.{more-put}
 use Rattle.node.proofs.placing.put_four.Statement.{statement}
 use Rattle.node.proofs.placing.put_four.Tie as tie
@@ -21,11 +17,7 @@ same-length : tie.Need-same-length
 same-length c = search needs
 
 returns : tie.Need-returns
-returns c =
-    let a = c .before .before .before .before .before .before .before .before .before .args in
-    c .before .before .put-two2 .ensures
-    ∙ ap (λ s. put s (a .p + 2) (a .c ∷ a .d ∷ [])) (c .before .before .before .before .before .before .put-two .ensures)
-    ∙ more-put _ _ _ _ _
+returns c = more-put _ _ _ _ _ _ _ (c .before .before .before .before .before .before .put-two .ensures) (c .before .before .put-two2 .ensures)
 
 pub put-four-spec : {M : Type 1} → statement M
 put-four-spec =

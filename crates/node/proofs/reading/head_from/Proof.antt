@@ -25,7 +25,8 @@ shared-slice-read-if1 c = search needs
 
 returns : tie.Need-returns Inv-loop μ-loop
 returns c =
-    sym (head-here (c .before .before .before .before .args .s .now) (c .before .before .before .loop .q) (c .before .before .loop-test .taken) (c .if1 .taken)) ∙ c .before .before .before .loop .inv
+    let s = c .before .before .before .before .args .s .now in
+    sym (head-here s (c .before .before .before .loop .q) (c .before .before .loop-test .taken) (c .if1 .taken)) ∙ c .before .before .before .loop .inv
 
 add-q : tie.Need-add-q Inv-loop μ-loop
 add-q c = search needs
@@ -35,7 +36,8 @@ loop-less c = search needs
 
 loop-again : tie.Need-loop-again Inv-loop μ-loop
 loop-again c =
-    sym (head-skip (c .before .before .before .before .args .s .now) (c .before .before .before .loop .q) (c .before .before .loop-test .taken) (c .if1 .left)) ∙ c .before .before .before .loop .inv
+    let s = c .before .before .before .before .args .s .now in
+    sym (head-skip s (c .before .before .before .loop .q) (c .before .before .loop-test .taken) (c .if1 .left)) ∙ c .before .before .before .loop .inv
 
 returns-2 : tie.Need-returns-2 Inv-loop μ-loop
 returns-2 c = sym (head-past (c .before .before .args .s .now) (c .before .loop .q) (c .loop-test .left)) ∙ c .before .loop .inv

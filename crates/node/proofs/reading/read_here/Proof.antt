@@ -32,8 +32,8 @@ stand-requires c κs = search needs
 width-requires : tie.Need-width-requires
 width-requires c κs = search needs
 
-add-t8 : tie.Need-add-t8
-add-t8 c =
+add-behind : tie.Need-add-behind
+add-behind c =
     omega (
       arith,
       c .width .ensures,
@@ -48,7 +48,8 @@ returns-2 c =
     ∙ c .before .before .before .before .before .node .given .1)
     ∙ take-like _ _ _ _ (c .before .before .before .units-of .ensures) (sym (c .before .before .stand .ensures)
     ∙ c .before .if1 .taken)
-    ∙ ap (λ w. answer done (node (c .before .before .before .before .before .node .given .0 .0) (c .before .before .before .before .before .before .before .before .before .args .q + w))) (sym (c .width .ensures)))
+    ∙ ap (λ w. answer done (node (c .before .before .before .before .before .node .given .0 .0)
+    (c .before .before .before .before .before .before .before .before .before .args .q + w))) (sym (c .width .ensures)))
 
 returns-3 : tie.Need-returns-3
 unfolding readHere
@@ -68,6 +69,6 @@ read-here-spec =
     units-of-requires
     stand-requires
     width-requires
-    add-t8
+    add-behind
     returns-2
     returns-3)

@@ -1,5 +1,5 @@
 -- `reading::stand` meets its contract: each arm is given which units it has.
-use mathlib.Core.Path.{sym, ap, _∙_}
+use mathlib.Core.Path.{sym, _∙_}
 use borrow.Author.Needs.{needs}
 use Rattle.node.specs.Reading.{stand}
 use Rattle.node.proofs.Runs.{one-stand, stand-same}

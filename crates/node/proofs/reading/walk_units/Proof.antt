@@ -61,7 +61,8 @@ enum-told c = search needs
 
 returns : tie.Need-returns Inv-loop μ-loop
 returns c =
-    sym (walk-end _ (c .before .before .before .loop .at) (c .before .before .before .loop .count) (sym (c .before .before .read-units .ensures) ∙ ap found (c .enum-told .given .1)))
+    let is = sym (c .before .before .read-units .ensures) ∙ ap found (c .enum-told .given .1) in
+    sym (walk-end _ (c .before .before .before .loop .at) (c .before .before .before .loop .count) is)
     ∙ c .before .before .before .loop .inv .left
 
 enum-told-2 : tie.Need-enum-told-2 Inv-loop μ-loop
@@ -69,7 +70,8 @@ enum-told-2 c = search needs
 
 returns-2 : tie.Need-returns-2 Inv-loop μ-loop
 returns-2 c =
-    sym (walk-fault _ (c .before .before .before .loop .at) (c .before .before .before .loop .count) (sym (c .before .before .read-units .ensures) ∙ ap found (c .enum-told2 .given .1)))
+    let is = sym (c .before .before .read-units .ensures) ∙ ap found (c .enum-told2 .given .1) in
+    sym (walk-fault _ (c .before .before .before .loop .at) (c .before .before .before .loop .count) is)
     ∙ c .before .before .before .loop .inv .left
 
 pub walk-units-spec : {M : Type 1} → statement M

@@ -13,17 +13,17 @@ distance-requires c κs = search needs
 both-below-requires : tie.Need-both-below-requires
 both-below-requires c κs = search needs
 
-mul-t7 : tie.Need-mul-t7
-mul-t7 c = omega (arith, below (c .before .both-below .ensures) (c .if1 .taken))
+mul-unit : tie.Need-mul-unit
+mul-unit c = omega (arith, below (c .before .both-below .ensures) (c .if1 .taken))
 
-add-t8 : tie.Need-add-t8
-add-t8 c = omega (arith, below (c .before .both-below .ensures) (c .if1 .taken))
+add-unit : tie.Need-add-unit
+add-unit c = omega (arith, below (c .before .both-below .ensures) (c .if1 .taken))
 
-add-t10 : tie.Need-add-t10
-add-t10 c = omega (arith, below (c .before .both-below .ensures) (c .if1 .taken))
+add-unit-2 : tie.Need-add-unit-2
+add-unit-2 c = omega (arith, below (c .before .both-below .ensures) (c .if1 .taken))
 
-cast-t11 : tie.Need-cast-t11
-cast-t11 c = omega (arith, below (c .before .both-below .ensures) (c .if1 .taken))
+cast-unit : tie.Need-cast-unit
+cast-unit c = omega (arith, below (c .before .both-below .ensures) (c .if1 .taken))
 
 returns : tie.Need-returns
 unfolding aloneRow
@@ -32,14 +32,14 @@ returns c = simp (sym (c .before .before .distance .ensures), sym (c .before .bo
 both-below-requires-2 : tie.Need-both-below-requires-2
 both-below-requires-2 c κs = search needs
 
-add-t13 : tie.Need-add-t13
-add-t13 c = omega (arith, below (c .before .both-below2 .ensures) (c .if2 .taken))
+add-head : tie.Need-add-head
+add-head c = omega (arith, below (c .before .both-below2 .ensures) (c .if2 .taken))
 
-cast-t14 : tie.Need-cast-t14
-cast-t14 c = omega (arith, below (c .before .both-below2 .ensures) (c .if2 .taken))
+cast-head : tie.Need-cast-head
+cast-head c = omega (arith, below (c .before .both-below2 .ensures) (c .if2 .taken))
 
-cast-t15 : tie.Need-cast-t15
-cast-t15 c = omega (arith, below (c .before .both-below2 .ensures) (c .if2 .taken))
+cast-second : tie.Need-cast-second
+cast-second c = omega (arith, below (c .before .both-below2 .ensures) (c .if2 .taken))
 
 returns-2 : tie.Need-returns-2
 unfolding aloneRow
@@ -70,15 +70,15 @@ alone-row-spec =
     (tie.spec
     distance-requires
     both-below-requires
-    mul-t7
-    add-t8
-    add-t10
-    cast-t11
+    mul-unit
+    add-unit
+    add-unit-2
+    cast-unit
     returns
     both-below-requires-2
-    add-t13
-    cast-t14
-    cast-t15
+    add-head
+    cast-head
+    cast-second
     returns-2
     long-product-requires
     returns-3)

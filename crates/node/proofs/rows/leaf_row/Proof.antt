@@ -5,11 +5,11 @@ use Rattle.node.specs.Rows.{leafRow}
 use Rattle.node.proofs.rows.leaf_row.Statement.{statement}
 use Rattle.node.proofs.rows.leaf_row.Tie as tie
 
-cast-t5 : tie.Need-cast-t5
-cast-t5 c = search needs
+cast-unit : tie.Need-cast-unit
+cast-unit c = search needs
 
-add-t6 : tie.Need-add-t6
-add-t6 c = search needs
+add-unit : tie.Need-add-unit
+add-unit c = search needs
 
 returns : tie.Need-returns
 unfolding leafRow
@@ -26,4 +26,4 @@ unfolding leafRow
 returns-2 c = simp (c .before .low .ensures, c .high .ensures, le-ltb _ _ (c .before .before .if1 .left))
 
 pub leaf-row-spec : {M : Type 1} → statement M
-leaf-row-spec = tie.close (tie.spec cast-t5 add-t6 returns low-requires high-requires returns-2)
+leaf-row-spec = tie.close (tie.spec cast-unit add-unit returns low-requires high-requires returns-2)

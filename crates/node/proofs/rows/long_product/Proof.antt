@@ -7,8 +7,8 @@ use Rattle.node.proofs.rows.long_product.Tie as tie
 high-requires : tie.Need-high-requires
 high-requires c κs = search needs
 
-add-t5 : tie.Need-add-t5
-add-t5 c = search needs
+add-head : tie.Need-add-head
+add-head c = search needs
 
 low-requires : tie.Need-low-requires
 low-requires c κs = search needs
@@ -42,7 +42,7 @@ long-product-spec =
     tie.close
     (tie.spec
     high-requires
-    add-t5
+    add-head
     low-requires
     low-requires-2
     high-requires-2

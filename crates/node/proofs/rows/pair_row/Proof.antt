@@ -24,20 +24,20 @@ distance-requires-2 c κs = search needs
 both-below-requires : tie.Need-both-below-requires
 both-below-requires c κs = search needs
 
-mul-t9 : tie.Need-mul-t9
-mul-t9 c = omega (arith, below (c .before .both-below .ensures) (c .if2 .taken))
+mul-head : tie.Need-mul-head
+mul-head c = omega (arith, below (c .before .both-below .ensures) (c .if2 .taken))
 
-add-t10 : tie.Need-add-t10
-add-t10 c = omega (arith, below (c .before .both-below .ensures) (c .if2 .taken))
+add-head : tie.Need-add-head
+add-head c = omega (arith, below (c .before .both-below .ensures) (c .if2 .taken))
 
-add-t11 : tie.Need-add-t11
-add-t11 c = omega (arith, below (c .before .both-below .ensures) (c .if2 .taken))
+add-head-2 : tie.Need-add-head-2
+add-head-2 c = omega (arith, below (c .before .both-below .ensures) (c .if2 .taken))
 
-cast-t12 : tie.Need-cast-t12
-cast-t12 c = omega (arith, below (c .before .both-below .ensures) (c .if2 .taken))
+cast-head : tie.Need-cast-head
+cast-head c = omega (arith, below (c .before .both-below .ensures) (c .if2 .taken))
 
-cast-t13 : tie.Need-cast-t13
-cast-t13 c = search needs
+cast-second : tie.Need-cast-second
+cast-second c = search needs
 
 returns-2 : tie.Need-returns-2
 unfolding pairRow
@@ -73,11 +73,11 @@ pair-row-spec =
     distance-requires
     distance-requires-2
     both-below-requires
-    mul-t9
-    add-t10
-    add-t11
-    cast-t12
-    cast-t13
+    mul-head
+    add-head
+    add-head-2
+    cast-head
+    cast-second
     returns-2
     long-product-requires-2
     returns-3)

@@ -10,14 +10,14 @@ use Rattle.node.proofs.rows.sum_row.Tie as tie
 both-below-requires : tie.Need-both-below-requires
 both-below-requires c κs = search needs
 
-mul-t6 : tie.Need-mul-t6
-mul-t6 c = omega (arith, below (c .before .both-below .ensures) (c .if1 .taken))
+mul-unit : tie.Need-mul-unit
+mul-unit c = omega (arith, below (c .before .both-below .ensures) (c .if1 .taken))
 
-add-t7 : tie.Need-add-t7
-add-t7 c = omega (arith, below (c .before .both-below .ensures) (c .if1 .taken))
+add-unit : tie.Need-add-unit
+add-unit c = omega (arith, below (c .before .both-below .ensures) (c .if1 .taken))
 
-cast-t8 : tie.Need-cast-t8
-cast-t8 c = omega (arith, below (c .before .both-below .ensures) (c .if1 .taken))
+cast-unit : tie.Need-cast-unit
+cast-unit c = omega (arith, below (c .before .both-below .ensures) (c .if1 .taken))
 
 returns : tie.Need-returns
 unfolding sumRow
@@ -26,8 +26,8 @@ returns c = rw (sym (c .before .both-below .ensures) ∙ c .if1 .taken)
 high-requires : tie.Need-high-requires
 high-requires c κs = search needs
 
-add-t10 : tie.Need-add-t10
-add-t10 c = search needs
+add-head : tie.Need-add-head
+add-head c = search needs
 
 low-requires : tie.Need-low-requires
 low-requires c κs = search needs
@@ -54,12 +54,12 @@ sum-row-spec =
     tie.close
     (tie.spec
     both-below-requires
-    mul-t6
-    add-t7
-    cast-t8
+    mul-unit
+    add-unit
+    cast-unit
     returns
     high-requires
-    add-t10
+    add-head
     low-requires
     low-requires-2
     high-requires-2

@@ -5,8 +5,8 @@ use Rattle.node.specs.Reading.{factorAt}
 use Rattle.node.proofs.spelling.factor.Statement.{statement}
 use Rattle.node.proofs.spelling.factor.Tie as tie
 
-cast-t6 : tie.Need-cast-t6
-cast-t6 c = search needs
+cast-at : tie.Need-cast-at
+cast-at c = search needs
 
 returns : tie.Need-returns
 unfolding factorAt
@@ -17,4 +17,4 @@ unfolding factorAt
 returns-2 c = simp (lt-leb _ _ (c .if1 .left))
 
 pub factor-spec : {M : Type 1} → statement M
-factor-spec = tie.close (tie.spec cast-t6 returns returns-2)
+factor-spec = tie.close (tie.spec cast-at returns returns-2)

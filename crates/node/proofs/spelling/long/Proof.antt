@@ -17,14 +17,14 @@ add-value c = search needs
 value-requires : tie.Need-value-requires
 value-requires c κs = search needs
 
-sub-t8 : tie.Need-sub-t8
-sub-t8 c = search needs
+sub-action : tie.Need-sub-action
+sub-action c = search needs
 
-mul-t9 : tie.Need-mul-t9
-mul-t9 c = search needs
+mul-action : tie.Need-mul-action
+mul-action c = search needs
 
-add-t10 : tie.Need-add-t10
-add-t10 c = search needs
+add-action : tie.Need-add-action
+add-action c = search needs
 
 add-value-2 : tie.Need-add-value-2
 add-value-2 c = search needs
@@ -46,11 +46,11 @@ returns c =
       lt-ltb _ _ (c .before .before .if1 .taken),
     )
 
-mul-t16 : tie.Need-mul-t16
-mul-t16 c = search needs
+mul-count : tie.Need-mul-count
+mul-count c = search needs
 
-add-t17 : tie.Need-add-t17
-add-t17 c = search needs
+add-count : tie.Need-add-count
+add-count c = search needs
 
 returns-2 : tie.Need-returns-2
 unfolding longSpelt
@@ -64,13 +64,13 @@ long-spec =
     unit-requires
     add-value
     value-requires
-    sub-t8
-    mul-t9
-    add-t10
+    sub-action
+    mul-action
+    add-action
     add-value-2
     value-requires-2
     long-right-requires
     returns
-    mul-t16
-    add-t17
+    mul-count
+    add-count
     returns-2)

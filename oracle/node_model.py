@@ -1,0 +1,119 @@
+"""Document 01's node units as a plain model: written from the document alone, for comparing.
+
+A node is a tuple: ("Sum", count, nonterminal), ("Product", action, left, right) with right None where there is none,
+("NullingLeaf", symbol) or ("Evaluated", symbol). A store is a list of units.
+"""
+
+USABLE = 32768
+FILLER = 0xFFFF
+ALL_ONES = 0xFFFFFFFF
+
+
+def halves(value):
+    return value & 0xFFFF, value >> 16
+
+
+def unfit(node):
+    if node[0] == "Sum":
+        return node[1] >= 2**28
+    if node[0] == "Product":
+        return node[1] >= 2**29 or node[3] == ALL_ONES
+    return False
+
+
+def rows(p, node):
+    """The rows of the table that the node fits, in the table's order."""
+    if node[0] == "Sum":
+        _, count, nonterminal = node
+        if count < 32 and nonterminal < 256:
+            yield [0x0000 + count * 256 + nonterminal]
+        low, high = halves(count)
+        yield [0xE000 + high, low, *halves(nonterminal)]
+    elif node[0] == "Product":
+        _, action, left, right = node
+        if right is None:
+            if left <= p and p - left < 32 and action < 256:
+                yield [0x2000 + (p - left) * 256 + action]
+            if left <= p and p - left < 8192 and action < 65536:
+                yield [0x4000 + (p - left), action]
+        elif right <= p and p - right < 32 and left <= p and p - left < 256 and action < 65536:
+            yield [0x6000 + (p - right) * 256 + (p - left), action]
+        low, high = halves(action)
+        yield [0xC000 + high, low, *halves(left), *halves(ALL_ONES if right is None else right)]
+    else:
+        short, wide = {"Evaluated": (0x8000, 0xA000), "NullingLeaf": (0x9000, 0xA001)}[node[0]]
+        if node[1] < 4096:
+            yield [short + node[1]]
+        yield [wide, 0, *halves(node[1])]
+
+
+def units(p, node):
+    """The units of a node at p, or None where it is unfit."""
+    return None if unfit(node) else next(rows(p, node))
+
+
+def write(store, p, node):
+    """(number, the position behind or None); changes the store where the number is 0."""
+    here = units(p, node)
+    if here is None:
+        return 10, None
+    if p + len(here) > min(len(store), USABLE):
+        return 11, None
+    store[p:p + len(here)] = here
+    return 0, p + len(here)
+
+
+def candidates(store, end, p):
+    """Every node that some row of the table could have written with the head unit at p, looking at no condition but the row's layout."""
+    head = store[p]
+
+    def unit(i):
+        return store[p + i] if p + i < end else 0
+
+    def value(i):
+        return unit(i) | unit(i + 1) << 16
+
+    tag, rest = head & 0xE000, head & 0x1FFF
+    if tag == 0x0000:
+        yield "Sum", rest >> 8, rest & 255
+    elif tag == 0x2000:
+        yield "Product", rest & 255, p - (rest >> 8), None
+    elif tag == 0x4000:
+        yield "Product", unit(1), p - rest, None
+    elif tag == 0x6000:
+        yield "Product", unit(1), p - (rest & 255), p - (rest >> 8)
+    elif tag == 0x8000:
+        yield ("NullingLeaf" if rest & 0x1000 else "Evaluated"), rest & 0x0FFF
+    elif tag == 0xA000:
+        yield "Evaluated", value(2)
+        yield "NullingLeaf", value(2)
+    elif tag == 0xC000:
+        yield "Product", rest << 16 | unit(1), value(2), None if value(4) == ALL_ONES else value(4)
+    else:
+        yield "Sum", rest << 16 | unit(1), value(2)
+
+
+def read(store, p):
+    """(0, node, the position behind), (0, None, None) at the end, or (12, None, None)."""
+    end = min(len(store), USABLE)
+    while p < end and store[p] == FILLER:
+        p += 1
+    if p >= end:
+        return 0, None, None
+    for node in candidates(store, end, p):
+        if any(isinstance(field, int) and field < 0 for field in node):
+            continue
+        here = units(p, node)
+        if here is not None and p + len(here) <= end and store[p:p + len(here)] == here:
+            return 0, node, p + len(here)
+    return 12, None, None
+
+
+def walk(store, p):
+    """(0 or 12, the number of nodes read, the position behind the last one)."""
+    count = 0
+    while True:
+        number, node, behind = read(store, p)
+        if node is None:
+            return number, count, p
+        count, p = count + 1, behind
