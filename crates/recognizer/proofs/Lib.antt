@@ -24,3 +24,4 @@ pub mod Tabled
 pub mod Cutting
 pub mod Readying
 pub mod Beginning
+pub mod Examples
