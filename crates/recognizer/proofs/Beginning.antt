@@ -1,9 +1,9 @@
 -- Laws of a start.
 use mathlib.Core.Path.{_≡_, sym, ap, subst, _∙_}
-use mathlib.Core.List.{List, [], _∷_, _++_, append-assoc}
-use Prim.Native.Nat.{ℕ, suc, _+_, _-_, _*_, _≤_, _<_}
+use mathlib.Core.List.{List, [], _++_, append-assoc}
+use Prim.Native.Nat.{ℕ, suc, _+_, _-_, _*_, _<_}
 use native.Mathlib.Omega.{arith}
-use lib.ListN.{length, getD, take, drop, replicate, length-replicate}
+use lib.ListN.{length, getD, drop, replicate, length-replicate}
 use lib.Seq.{drop-append-le}
 use Rattle.laws.specs.Bits.{withRow}
 use Rattle.bits.specs.Width.{rowWords}
@@ -12,7 +12,7 @@ use Rattle.grammar.specs.Rules.{Grammar, wrapper}
 use Rattle.grammar.specs.Accepted.{Accepted}
 use Rattle.grammar.specs.Prediction.{Predicts}
 use Rattle.parse.specs.declared.State.{State}
-use Rattle.parse.specs.Words.{Words, itemRoom, setRoom, queueRoom, within, beyond, behind}
+use Rattle.parse.specs.Words.{Words, itemRoom, setRoom, queueRoom, beyond, behind}
 use Rattle.parse.proofs.Capacities.{items-within, starts-within, rows-within, queue-within}
 use Rattle.advance.specs.Advance.{padded}
 use Rattle.recognizer.specs.Calls.{Sound, Starts}

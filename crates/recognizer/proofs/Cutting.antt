@@ -1,6 +1,6 @@
 -- Laws of the words within the capacities, as the calls cut them off.
 use mathlib.Core.Path.{_≡_, refl, sym, ap, subst, _∙_}
-use mathlib.Core.Bool.{Bool, true, false, _&&_}
+use mathlib.Core.Bool.{Bool, false, _&&_}
 use mathlib.Core.List.{List, [], _∷_, _++_}
 use Prim.Native.Nat.{ℕ, zero, suc, _+_, _-_, _*_, _/_, _≤_, _<_}
 use native.Mathlib.Omega.{arith}
@@ -12,13 +12,14 @@ use Rattle.bits.specs.Width.{rowWords}
 use Rattle.item.specs.Item.{itemWords, ruleAt}
 use Rattle.grammar.specs.Rules.{Rule}
 use Rattle.parse.specs.declared.State.{State}
-use Rattle.parse.specs.Words.{Words, itemRoom, setRoom, setRoomOf, queueRoom, within, beyond, behind, startOf}
+use Rattle.parse.specs.Words.{Words, itemRoom, setRoom, setRoomOf, queueRoom, within, startOf}
 use Rattle.parse.specs.WellFormed.{WellFormed}
 use Rattle.parse.specs.Tells.{Tells}
 use Rattle.parse.proofs.Capacities.{items-within, rows-within}
 use Rattle.recognizer.specs.Steps.{lastWraps, latestPart}
 use Rattle.recognizer.specs.Cuts.{LatestThere, lastWrapsIn, latestPartIn}
 
+-- One word more cleared at the front.
 cleared-suc : (l : List ℕ) (i : ℕ) → i < length l → set (replicate i 0 ++ drop i l) i 0 ≡ replicate (suc i) 0 ++ drop (suc i) l
 cleared-suc [] i there = absurd (omega arith)
 cleared-suc (x ∷ l) zero there = refl
@@ -31,6 +32,7 @@ pub record Clearing (words₀ : List ℕ) (end i : ℕ) (words : List ℕ) : Typ
   pub is : words ≡ replicate i 0 ++ drop i words₀
 
 module _ (words₀ : List ℕ) (end : ℕ) where
+  -- At first none is cleared, ..
   pub clearing-start : end ≤ length words₀ → Clearing words₀ end 0 words₀
   clearing-start there = record { there = there; up-to = omega arith; is = refl }
 
@@ -41,6 +43,7 @@ module _ (words₀ : List ℕ) (end : ℕ) where
         ap length (clearing .is)
         ∙ omega (arith, length-append (replicate i 0) (drop i words₀), length-replicate {A = ℕ} i 0, length-drop i words₀, clearing .there, clearing .up-to)
 
+    -- .. a turn clears one more, ..
     pub clearing-next : i < end → Clearing words₀ end (i + 1) (set words i 0)
     clearing-next more = record {
       there = clearing .there;
@@ -53,6 +56,7 @@ module _ (words₀ : List ℕ) (end : ℕ) where
         next : suc i ≡ i + 1
         next = omega arith
 
+    -- .. and at the end all before `end` are.
     pub clearing-ends : end ≤ i → words ≡ replicate end 0 ++ drop end words₀
     clearing-ends stop = clearing .is ∙ ap (λ (k : ℕ). replicate k 0 ++ drop k words₀) all
       where
@@ -81,6 +85,7 @@ module _ (s : State) (items starts : List ℕ) (start : ℕ) (read : start ≡ g
   pub wraps-none : s .items ≤ start → false ≡ lastWrapsIn s items starts
   wraps-none none = sym (ap (λ (b : Bool). b && eqb (ruleAt items (s .items - 1)) 0) (le-ltb (getD starts (s .set) 0) (s .items) (omega (arith, read))))
 
+-- No number is below 0.
 none-below : (a : ℕ) → ltb a 0 ≡ false
 none-below a = le-ltb a 0 (omega arith)
 
@@ -103,6 +108,7 @@ module _ (n : ℕ) (rs : List Rule) (s : State) (w : Words) where
     in-room : s .set < setRoom w
     in-room = omega (arith, well .set-fits, rows-within w)
 
+    -- So are its items.
     items-in-room : s .items ≤ itemRoom w
     items-in-room = omega (arith, well .items-fit, items-within w)
 
@@ -110,6 +116,7 @@ module _ (n : ℕ) (rs : List Rule) (s : State) (w : Words) where
     same-start : startOf (within w) (s .set) ≡ getD (w .starts) (s .set) 0
     same-start = getD-take (setRoom w + 1) (w .starts) (s .set) 0 (omega (arith, in-room))
 
+    -- It is at most the number of items.
     start-low : getD (w .starts) (s .set) 0 ≤ s .items
     start-low = omega (arith, well .never-falls (s .set) (omega arith), well .last-start, same-start)
 

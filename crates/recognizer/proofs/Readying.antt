@@ -9,7 +9,7 @@ use borrow.Author.Tests.{not-true, not-false}
 use Rattle.grammar.specs.Accepted.{Accepted, maxRules}
 use Rattle.grammar.specs.File.{grammarOf, symbolsOf, tokensOf, ruleCountOf, headerBytes, ruleBytes}
 use Rattle.grammar.specs.Decoded.{grammarIn, rulesIn}
-use Rattle.grammar.proofs.Verdicts.{Numbers, accepted-readable, read-grammar}
+use Rattle.grammar.proofs.Verdicts.{accepted-readable, read-grammar}
 use Rattle.grammar.specs.Rules.{Grammar}
 use Rattle.parse.specs.declared.State.{State}
 use Rattle.parse.specs.Tells.{Tells}

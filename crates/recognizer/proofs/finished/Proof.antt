@@ -22,27 +22,45 @@ enum-known-found c = search needs
 
 decode-requires : tie.Need-decode-requires
 decode-requires c κs =
-    sound-readable _ _ (opened-sound _ _ (c .before .before .before .«open» .ensures) _ (c .before .found .given .1))
+    let sound = opened-sound _ _ (c .before .before .before .«open» .ensures) _ (c .before .found .given .1) in
+    sound-readable _ _ sound
 
 well-formed-requires : tie.Need-well-formed-requires
 well-formed-requires c κs =
-    sound-few _ _ (opened-sound _ _ (c .before .before .before .before .before .«open» .ensures) _ (c .before .before .before .found .given .1))
+    let sound = opened-sound _ _ (c .before .before .before .before .before .«open» .ensures) _ (c .before .before .before .found .given .1) in
+    sound-few _ _ sound
 
 returns-2 : tie.Need-returns-2
 returns-2 c =
-    Finishes.refused (told-ill-formed _ _ (opened-sound _ _ (c .before .before .before .before .before .before .before .«open» .ensures) _ (c .before .before .before .before .before .found .given .1)) _ (c .before .before .before .decode .ensures) (c .before .before .before .before .before .before .before .before .before .before .before .before .before .args .state) (wordsOf (c .before .before .before .before .before .before .before .before .before .before .before .before .before .args .items .now) (c .before .before .before .before .before .before .before .before .before .before .before .before .before .args .starts .now) (c .before .before .before .before .before .before .before .before .before .before .before .before .before .args .rows .now) (c .before .before .before .before .before .before .before .before .before .before .before .before .before .args .queue .now)) _ (c .before .well-formed .ensures) (c  .if1 .taken))
+    let start = c .before .before .before .before .before .before .before .before .before .before .before .before .before in
+    let words = wordsOf (start .args .items .now) (start .args .starts .now) (start .args .rows .now) (start .args .queue .now) in
+    let sound = opened-sound _ _ (c .before .before .before .before .before .before .before .«open» .ensures) _ (c .before .before .before .before .before .found .given .1) in
+    let fault = told-ill-formed _ _ sound _ (c .before .before .before .decode .ensures) (start .args .state) words _ (c .before .well-formed .ensures) (c .if1 .taken) in
+    Finishes.refused fault
 
 last-wraps-requires : tie.Need-last-wraps-requires
 last-wraps-requires c κs =
-    latest-there _ _ (c .before .before .before .before .before .before .before .before .before .before .before .before .before .args .state) (wordsOf (c .before .before .before .before .before .before .before .before .before .before .before .before .before .args .items .now) (c .before .before .before .before .before .before .before .before .before .before .before .before .before .args .starts .now) (c .before .before .before .before .before .before .before .before .before .before .before .before .before .args .rows .now) (c .before .before .before .before .before .before .before .before .before .before .before .before .before .args .queue .now)) ((told-formed _ _ (opened-sound _ _ (c .before .before .before .before .before .before .before .«open» .ensures) _ (c .before .before .before .before .before .found .given .1)) _ (c .before .before .before .decode .ensures) (c .before .before .before .before .before .before .before .before .before .before .before .before .before .args .state) (wordsOf (c .before .before .before .before .before .before .before .before .before .before .before .before .before .args .items .now) (c .before .before .before .before .before .before .before .before .before .before .before .before .before .args .starts .now) (c .before .before .before .before .before .before .before .before .before .before .before .before .before .args .rows .now) (c .before .before .before .before .before .before .before .before .before .before .before .before .before .args .queue .now)) _ (c .before .well-formed .ensures) (c  .if1 .left)) .well-formed)
+    let start = c .before .before .before .before .before .before .before .before .before .before .before .before .before in
+    let words = wordsOf (start .args .items .now) (start .args .starts .now) (start .args .rows .now) (start .args .queue .now) in
+    let sound = opened-sound _ _ (c .before .before .before .before .before .before .before .«open» .ensures) _ (c .before .before .before .before .before .found .given .1) in
+    let formed = told-formed _ _ sound _ (c .before .before .before .decode .ensures) (start .args .state) words _ (c .before .well-formed .ensures) (c .if1 .left) in
+    latest-there _ _ (start .args .state) words (formed .well-formed)
 
 returns-3 : tie.Need-returns-3
 returns-3 c =
-    finishes-with _ (c .before .before .before .before .before .before .before .before .before .before .before .before .before .before .before .args .state) (wordsOf (c .before .before .before .before .before .before .before .before .before .before .before .before .before .before .before .args .items .now) (c .before .before .before .before .before .before .before .before .before .before .before .before .before .before .before .args .starts .now) (c .before .before .before .before .before .before .before .before .before .before .before .before .before .before .before .args .rows .now) (c .before .before .before .before .before .before .before .before .before .before .before .before .before .before .before .args .queue .now)) (told-formed _ _ (opened-sound _ _ (c .before .before .before .before .before .before .before .before .before .«open» .ensures) _ (c .before .before .before .before .before .before .before .found .given .1)) _ (c .before .before .before .before .before .decode .ensures) (c .before .before .before .before .before .before .before .before .before .before .before .before .before .before .before .args .state) (wordsOf (c .before .before .before .before .before .before .before .before .before .before .before .before .before .before .before .args .items .now) (c .before .before .before .before .before .before .before .before .before .before .before .before .before .before .before .args .starts .now) (c .before .before .before .before .before .before .before .before .before .before .before .before .before .before .before .args .rows .now) (c .before .before .before .before .before .before .before .before .before .before .before .before .before .before .before .args .queue .now)) _ (c .before .before .before .well-formed .ensures) (c .before .before .if1 .left)) _ _ (c .before .last-wraps .ensures) (c .if2 .taken)
+    let start = c .before .before .before .before .before .before .before .before .before .before .before .before .before .before .before in
+    let words = wordsOf (start .args .items .now) (start .args .starts .now) (start .args .rows .now) (start .args .queue .now) in
+    let sound = opened-sound _ _ (c .before .before .before .before .before .before .before .before .before .«open» .ensures) _ (c .before .before .before .before .before .before .before .found .given .1) in
+    let formed = told-formed _ _ sound _ (c .before .before .before .before .before .decode .ensures) (start .args .state) words _ (c .before .before .before .well-formed .ensures) (c .before .before .if1 .left) in
+    finishes-with _ (start .args .state) words formed _ _ (c .before .last-wraps .ensures) (c .if2 .taken)
 
 returns-4 : tie.Need-returns-4
 returns-4 c =
-    finishes-with _ (c .before .before .before .before .before .before .before .before .before .before .before .before .before .before .before .args .state) (wordsOf (c .before .before .before .before .before .before .before .before .before .before .before .before .before .before .before .args .items .now) (c .before .before .before .before .before .before .before .before .before .before .before .before .before .before .before .args .starts .now) (c .before .before .before .before .before .before .before .before .before .before .before .before .before .before .before .args .rows .now) (c .before .before .before .before .before .before .before .before .before .before .before .before .before .before .before .args .queue .now)) (told-formed _ _ (opened-sound _ _ (c .before .before .before .before .before .before .before .before .before .«open» .ensures) _ (c .before .before .before .before .before .before .before .found .given .1)) _ (c .before .before .before .before .before .decode .ensures) (c .before .before .before .before .before .before .before .before .before .before .before .before .before .before .before .args .state) (wordsOf (c .before .before .before .before .before .before .before .before .before .before .before .before .before .before .before .args .items .now) (c .before .before .before .before .before .before .before .before .before .before .before .before .before .before .before .args .starts .now) (c .before .before .before .before .before .before .before .before .before .before .before .before .before .before .before .args .rows .now) (c .before .before .before .before .before .before .before .before .before .before .before .before .before .before .before .args .queue .now)) _ (c .before .before .before .well-formed .ensures) (c .before .before .if1 .left)) _ _ (c .before .last-wraps .ensures) (c .if2 .left)
+    let start = c .before .before .before .before .before .before .before .before .before .before .before .before .before .before .before in
+    let words = wordsOf (start .args .items .now) (start .args .starts .now) (start .args .rows .now) (start .args .queue .now) in
+    let sound = opened-sound _ _ (c .before .before .before .before .before .before .before .before .before .«open» .ensures) _ (c .before .before .before .before .before .before .before .found .given .1) in
+    let formed = told-formed _ _ sound _ (c .before .before .before .before .before .decode .ensures) (start .args .state) words _ (c .before .before .before .well-formed .ensures) (c .before .before .if1 .left) in
+    finishes-with _ (start .args .state) words formed _ _ (c .before .last-wraps .ensures) (c .if2 .left)
 
 pub finished-spec : {M : Type 1} → statement M
 finished-spec =

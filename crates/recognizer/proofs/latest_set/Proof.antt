@@ -27,18 +27,23 @@ part-result-end c = search needs
 
 returns : tie.Need-returns
 returns c =
-    reports-refused _ (c .before .before .before .before .before .before .before .before .before .before .before .args .state) (wordsOf (c .before .before .before .before .before .before .before .before .before .before .before .args .items .now) (c .before .before .before .before .before .before .before .before .before .before .before .args .starts .now) (c .before .before .before .before .before .before .before .before .before .before .before .args .rows .now) (c .before .before .before .before .before .before .before .before .before .before .before .args .queue .now)) (CallFault.file-fault (opened-fault _ _ (c .before .before .before .before .before .«open» .ensures) _ (c .before .before .before .why .given .1))) _ (c .before .refusal-number .ensures)
+    let start = c .before .before .before .before .before .before .before .before .before .before .before in
+    let words = wordsOf (start .args .items .now) (start .args .starts .now) (start .args .rows .now) (start .args .queue .now) in
+    reports-refused _ (start .args .state) words (CallFault.file-fault (opened-fault _ _ (c .before .before .before .before .before .«open» .ensures) _ (c .before .before .before .why .given .1))) _
+    (c .before .refusal-number .ensures)
 
 enum-known-found : tie.Need-enum-known-found
 enum-known-found c = search needs
 
 decode-requires : tie.Need-decode-requires
 decode-requires c κs =
-    sound-readable _ _ (opened-sound _ _ (c .before .before .before .«open» .ensures) _ (c .before .found .given .1))
+    let sound = opened-sound _ _ (c .before .before .before .«open» .ensures) _ (c .before .found .given .1) in
+    sound-readable _ _ sound
 
 well-formed-requires : tie.Need-well-formed-requires
 well-formed-requires c κs =
-    sound-few _ _ (opened-sound _ _ (c .before .before .before .before .before .«open» .ensures) _ (c .before .before .before .found .given .1))
+    let sound = opened-sound _ _ (c .before .before .before .before .before .«open» .ensures) _ (c .before .before .before .found .given .1) in
+    sound-few _ _ sound
 
 refusal-number-requires-2 : tie.Need-refusal-number-requires-2
 refusal-number-requires-2 c κs = search needs
@@ -54,15 +59,27 @@ part-result-end-2 c = search needs
 
 returns-2 : tie.Need-returns-2
 returns-2 c =
-    reports-refused _ (c .before .before .before .before .before .before .before .before .before .before .before .before .before .before .before .args .state) (wordsOf (c .before .before .before .before .before .before .before .before .before .before .before .before .before .before .before .args .items .now) (c .before .before .before .before .before .before .before .before .before .before .before .before .before .before .before .args .starts .now) (c .before .before .before .before .before .before .before .before .before .before .before .before .before .before .before .args .rows .now) (c .before .before .before .before .before .before .before .before .before .before .before .before .before .before .before .args .queue .now)) (told-ill-formed _ _ (opened-sound _ _ (c .before .before .before .before .before .before .before .before .before .«open» .ensures) _ (c .before .before .before .before .before .before .before .found .given .1)) _ (c .before .before .before .before .before .decode .ensures) (c .before .before .before .before .before .before .before .before .before .before .before .before .before .before .before .args .state) (wordsOf (c .before .before .before .before .before .before .before .before .before .before .before .before .before .before .before .args .items .now) (c .before .before .before .before .before .before .before .before .before .before .before .before .before .before .before .args .starts .now) (c .before .before .before .before .before .before .before .before .before .before .before .before .before .before .before .args .rows .now) (c .before .before .before .before .before .before .before .before .before .before .before .before .before .before .before .args .queue .now)) _ (c .before .before .before .well-formed .ensures) (c .before .before .if1 .taken)) _ (c .before .refusal-number2 .ensures)
+    let start = c .before .before .before .before .before .before .before .before .before .before .before .before .before .before .before in
+    let words = wordsOf (start .args .items .now) (start .args .starts .now) (start .args .rows .now) (start .args .queue .now) in
+    let sound = opened-sound _ _ (c .before .before .before .before .before .before .before .before .before .«open» .ensures) _ (c .before .before .before .before .before .before .before .found .given .1) in
+    let fault = told-ill-formed _ _ sound _ (c .before .before .before .before .before .decode .ensures) (start .args .state) words _ (c .before .before .before .well-formed .ensures) (c .before .before .if1 .taken) in
+    reports-refused _ (start .args .state) words fault _ (c .before .refusal-number2 .ensures)
 
 latest-part-requires : tie.Need-latest-part-requires
 latest-part-requires c κs =
-    latest-there _ _ (c .before .before .before .before .before .before .before .before .before .before .before .before .before .args .state) (wordsOf (c .before .before .before .before .before .before .before .before .before .before .before .before .before .args .items .now) (c .before .before .before .before .before .before .before .before .before .before .before .before .before .args .starts .now) (c .before .before .before .before .before .before .before .before .before .before .before .before .before .args .rows .now) (c .before .before .before .before .before .before .before .before .before .before .before .before .before .args .queue .now)) ((told-formed _ _ (opened-sound _ _ (c .before .before .before .before .before .before .before .«open» .ensures) _ (c .before .before .before .before .before .found .given .1)) _ (c .before .before .before .decode .ensures) (c .before .before .before .before .before .before .before .before .before .before .before .before .before .args .state) (wordsOf (c .before .before .before .before .before .before .before .before .before .before .before .before .before .args .items .now) (c .before .before .before .before .before .before .before .before .before .before .before .before .before .args .starts .now) (c .before .before .before .before .before .before .before .before .before .before .before .before .before .args .rows .now) (c .before .before .before .before .before .before .before .before .before .before .before .before .before .args .queue .now)) _ (c .before .well-formed .ensures) (c  .if1 .left)) .well-formed)
+    let start = c .before .before .before .before .before .before .before .before .before .before .before .before .before in
+    let words = wordsOf (start .args .items .now) (start .args .starts .now) (start .args .rows .now) (start .args .queue .now) in
+    let sound = opened-sound _ _ (c .before .before .before .before .before .before .before .«open» .ensures) _ (c .before .before .before .before .before .found .given .1) in
+    let formed = told-formed _ _ sound _ (c .before .before .before .decode .ensures) (start .args .state) words _ (c .before .well-formed .ensures) (c .if1 .left) in
+    latest-there _ _ (start .args .state) words (formed .well-formed)
 
 returns-3 : tie.Need-returns-3
 returns-3 c =
-    reports-with _ (c .before .before .before .before .before .before .before .before .before .before .before .before .before .before .args .state) (wordsOf (c .before .before .before .before .before .before .before .before .before .before .before .before .before .before .args .items .now) (c .before .before .before .before .before .before .before .before .before .before .before .before .before .before .args .starts .now) (c .before .before .before .before .before .before .before .before .before .before .before .before .before .before .args .rows .now) (c .before .before .before .before .before .before .before .before .before .before .before .before .before .before .args .queue .now)) (told-formed _ _ (opened-sound _ _ (c .before .before .before .before .before .before .before .before .«open» .ensures) _ (c .before .before .before .before .before .before .found .given .1)) _ (c .before .before .before .before .decode .ensures) (c .before .before .before .before .before .before .before .before .before .before .before .before .before .before .args .state) (wordsOf (c .before .before .before .before .before .before .before .before .before .before .before .before .before .before .args .items .now) (c .before .before .before .before .before .before .before .before .before .before .before .before .before .before .args .starts .now) (c .before .before .before .before .before .before .before .before .before .before .before .before .before .before .args .rows .now) (c .before .before .before .before .before .before .before .before .before .before .before .before .before .before .args .queue .now)) _ (c .before .before .well-formed .ensures) (c .before .if1 .left)) _ (c .latest-part .ensures)
+    let start = c .before .before .before .before .before .before .before .before .before .before .before .before .before .before in
+    let words = wordsOf (start .args .items .now) (start .args .starts .now) (start .args .rows .now) (start .args .queue .now) in
+    let sound = opened-sound _ _ (c .before .before .before .before .before .before .before .before .«open» .ensures) _ (c .before .before .before .before .before .before .found .given .1) in
+    let formed = told-formed _ _ sound _ (c .before .before .before .before .decode .ensures) (start .args .state) words _ (c .before .before .well-formed .ensures) (c .before .if1 .left) in
+    reports-with _ (start .args .state) words formed _ (c .latest-part .ensures)
 
 pub latest-set-spec : {M : Type 1} → statement M
 latest-set-spec =

@@ -35,31 +35,42 @@ same-length-2 c = search needs
 returns-2 : tie.Need-returns-2
 returns-2 c =
     let sound = opened-sound _ _ (c .before .before .before .before .before .before .before .«open» .ensures) _ (c .before .before .before .before .before .found .given .1) in
-    Starts.refused (StartFault.no-sets (record { whole = sound .whole; is = refl; accepted = sound .accepted }) (sym (c .before .set-room .ensures) ∙ c .if1 .taken))
+    Starts.refused
+    (StartFault.no-sets (record { whole = sound .whole; is = refl; accepted = sound .accepted }) (sym (c .before .set-room .ensures) ∙ c .if1 .taken))
 
 decode-requires : tie.Need-decode-requires
 decode-requires c κs =
-    sound-readable _ _ (opened-sound _ _ (c .before .before .before .before .before .before .before .«open» .ensures) _ (c .before .before .before .before .before .found .given .1))
+    let sound = opened-sound _ _ (c .before .before .before .before .before .before .before .«open» .ensures) _ (c .before .before .before .before .before .found .given .1) in
+    sound-readable _ _ sound
 
 table-requires : tie.Need-table-requires
 table-requires c κs =
-    (sound-few _ _ (opened-sound _ _ (c .before .before .before .before .before .before .before .before .before .«open» .ensures) _ (c .before .before .before .before .before .before .before .found .given .1)), accepted-within _ _ _ _ ((sound-checked _ _ (opened-sound _ _ (c .before .before .before .before .before .before .before .before .before .«open» .ensures) _ (c .before .before .before .before .before .before .before .found .given .1)) _ (c .before .decode .ensures)) .accepted))
+    let sound = opened-sound _ _ (c .before .before .before .before .before .before .before .before .before .«open» .ensures) _ (c .before .before .before .before .before .before .before .found .given .1) in
+    let checked = sound-checked _ _ sound _ (c .before .decode .ensures) in
+    (sound-few _ _ sound, accepted-within _ _ _ _ (checked .accepted))
 
 sub-row : tie.Need-sub-row
 sub-row c =
-    omega (arith, (sound-checked _ _ (opened-sound _ _ (c .before .before .before .before .before .before .before .before .before .before .before .«open» .ensures) _ (c .before .before .before .before .before .before .before .before .before .found .given .1)) _ (c .before .before .before .decode .ensures)) .accepted .room)
+    let sound = opened-sound _ _ (c .before .before .before .before .before .before .before .before .before .before .before .«open» .ensures) _ (c .before .before .before .before .before .before .before .before .before .found .given .1) in
+    let checked = sound-checked _ _ sound _ (c .before .before .before .decode .ensures) in
+    omega (arith, checked .accepted .room)
 
 mul-row : tie.Need-mul-row
 mul-row c =
-    omega (arith, (sound-checked _ _ (opened-sound _ _ (c .before .before .before .before .before .before .before .before .before .before .before .«open» .ensures) _ (c .before .before .before .before .before .before .before .before .before .found .given .1)) _ (c .before .before .before .decode .ensures)) .accepted .few-symbols)
+    let sound = opened-sound _ _ (c .before .before .before .before .before .before .before .before .before .before .before .«open» .ensures) _ (c .before .before .before .before .before .before .before .before .before .found .given .1) in
+    let checked = sound-checked _ _ sound _ (c .before .before .before .decode .ensures) in
+    omega (arith, checked .accepted .few-symbols)
 
 array-copy-out-row : tie.Need-array-copy-out-row
 array-copy-out-row c =
-    omega (arith, (sound-checked _ _ (opened-sound _ _ (c .before .before .before .before .before .before .before .before .before .before .before .«open» .ensures) _ (c .before .before .before .before .before .before .before .before .before .found .given .1)) _ (c .before .before .before .decode .ensures)) .accepted .room, (sound-checked _ _ (opened-sound _ _ (c .before .before .before .before .before .before .before .before .before .before .before .«open» .ensures) _ (c .before .before .before .before .before .before .before .before .before .found .given .1)) _ (c .before .before .before .decode .ensures)) .accepted .few-symbols)
+    let sound = opened-sound _ _ (c .before .before .before .before .before .before .before .before .before .before .before .«open» .ensures) _ (c .before .before .before .before .before .before .before .before .before .found .given .1) in
+    let checked = sound-checked _ _ sound _ (c .before .before .before .decode .ensures) in
+    omega (arith, checked .accepted .room, checked .accepted .few-symbols)
 
 begin-requires : tie.Need-begin-requires
 begin-requires c κs =
-    let checked = sound-checked _ _ (opened-sound _ _ (c .before .before .before .before .before .before .before .before .before .before .before .before .before .before .before .before .before .«open» .ensures) _ (c .before .before .before .before .before .before .before .before .before .before .before .before .before .before .before .found .given .1)) _ (c .before .before .before .before .before .before .before .before .before .decode .ensures) in
+    let sound = opened-sound _ _ (c .before .before .before .before .before .before .before .before .before .before .before .before .before .before .before .before .before .«open» .ensures) _ (c .before .before .before .before .before .before .before .before .before .before .before .before .before .before .before .found .given .1) in
+    let checked = sound-checked _ _ sound _ (c .before .before .before .before .before .before .before .before .before .decode .ensures) in
     (omega (arith, c .before .before .before .before .before .before .before .before .before .before .before .set-room .ensures, c .before .before .before .before .before .before .before .before .before .before .if1 .left), wrapper-row _ _ (checked .accepted) (c .before .before .before .before .before .before .before .table .ensures _))
 
 same-length-3 : tie.Need-same-length-3
@@ -76,7 +87,11 @@ same-length-6 c = c .before .before .before .before .before .before .before .bef
 
 returns-3 : tie.Need-returns-3
 returns-3 c =
-    starts-done _ _ (wordsOf (c .before .before .before .before .before .before .before .before .before .before .before .before .before .before .before .before .before .before .before .before .before .before .before .before .before .before .before .before .before .before .before .before .args .items .now) (c .before .before .before .before .before .before .before .before .before .before .before .before .before .before .before .before .before .before .before .before .before .before .before .before .before .before .before .before .before .before .before .before .args .starts .now) (c .before .before .before .before .before .before .before .before .before .before .before .before .before .before .before .before .before .before .before .before .before .before .before .before .before .before .before .before .before .before .before .before .args .rows .now) (c .before .before .before .before .before .before .before .before .before .before .before .before .before .before .before .before .before .before .before .before .before .before .before .before .before .before .before .before .before .before .before .before .args .queue .now)) _ _ _ (record { checked = sound-checked _ _ (opened-sound _ _ (c .before .before .before .before .before .before .before .before .before .before .before .before .before .before .before .before .before .before .before .before .before .before .before .before .before .before .«open» .ensures) _ (c .before .before .before .before .before .before .before .before .before .before .before .before .before .before .before .before .before .before .before .before .before .before .before .before .found .given .1)) _ (c .before .before .before .before .before .before .before .before .before .before .before .before .before .before .before .before .before .before .decode .ensures); predicts = c .before .before .before .before .before .before .before .before .before .before .before .before .before .before .before .before .table .ensures _ })
+    let start = c .before .before .before .before .before .before .before .before .before .before .before .before .before .before .before .before .before .before .before .before .before .before .before .before .before .before .before .before .before .before .before .before in
+    let words = wordsOf (start .args .items .now) (start .args .starts .now) (start .args .rows .now) (start .args .queue .now) in
+    let sound = opened-sound _ _ (c .before .before .before .before .before .before .before .before .before .before .before .before .before .before .before .before .before .before .before .before .before .before .before .before .before .before .«open» .ensures) _ (c .before .before .before .before .before .before .before .before .before .before .before .before .before .before .before .before .before .before .before .before .before .before .before .before .found .given .1) in
+    let checked = sound-checked _ _ sound _ (c .before .before .before .before .before .before .before .before .before .before .before .before .before .before .before .before .before .before .decode .ensures) in
+    starts-done _ _ words _ _ _ (record { checked = checked; predicts = c .before .before .before .before .before .before .before .before .before .before .before .before .before .before .before .before .table .ensures _ })
     (omega (arith, c .before .before .before .before .before .before .before .before .before .before .before .before .before .before .before .before .before .before .before .before .set-room .ensures, c .before .before .before .before .before .before .before .before .before .before .before .before .before .before .before .before .before .before .before .if1 .left)) (c .before .before .before .before .before .before .before .before .begin .ensures)
 
 pub start-spec : {M : Type 1} → statement M

@@ -21,11 +21,14 @@ rule-requires c κs = search needs
 
 returns : tie.Need-returns
 returns c =
-    wraps-some (c .before .before .before .before .before .before .args .state) (c .before .before .before .before .before .before .args .items .now) (c .before .before .before .before .before .before .args .starts .now) _ (c .before .before .wide32 .ensures) _ (c .before .if1 .taken) (c .rule .ensures)
+    let start = c .before .before .before .before .before .before in
+    wraps-some (start .args .state) (start .args .items .now) (start .args .starts .now) _ (c .before .before .wide32 .ensures) _ (c .before .if1 .taken)
+    (c .rule .ensures)
 
 returns-2 : tie.Need-returns-2
 returns-2 c =
-    wraps-none (c .before .before .before .before .before .args .state) (c .before .before .before .before .before .args .items .now) (c .before .before .before .before .before .args .starts .now) _ (c .before .wide32 .ensures) (c .if1 .left)
+    let start = c .before .before .before .before .before in
+    wraps-none (start .args .state) (start .args .items .now) (start .args .starts .now) _ (c .before .wide32 .ensures) (c .if1 .left)
 
 pub last-wraps-spec : {M : Type 1} → statement M
 last-wraps-spec =

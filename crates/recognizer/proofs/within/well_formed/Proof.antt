@@ -14,9 +14,11 @@ set-room-requires c κs = search needs
 
 returns : tie.Need-returns
 returns c =
+    let start = c .before .before .before .before .before .before in
+    let words = wordsOf (start .args .items .now) (start .args .starts .now) (start .args .rows .now) (start .args .queue .now) in
     record {
       yes = λ e. absurd (false≢true e);
-      nay = λ e. no-room _ _ _ (wordsOf (c .before .before .before .before .before .before .args .items .now) (c .before .before .before .before .before .before .args .starts .now) (c .before .before .before .before .before .before .args .rows .now) (c .before .before .before .before .before .before .args .queue .now)) (omega (arith, c .before .set-room .ensures, c .if1 .taken));
+      nay = λ e. no-room _ _ _ words (omega (arith, c .before .set-room .ensures, c .if1 .taken));
     }
 
 item-room-requires : tie.Need-item-room-requires
@@ -56,7 +58,9 @@ well-formed-requires c κs =
 
 returns-2 : tie.Need-returns-2
 returns-2 c =
-    tells-within _ _ _ (wordsOf (c .before .before .before .before .before .before .before .before .before .before .before .before .before .args .items .now) (c .before .before .before .before .before .before .before .before .before .before .before .before .before .args .starts .now) (c .before .before .before .before .before .before .before .before .before .before .before .before .before .args .rows .now) (c .before .before .before .before .before .before .before .before .before .before .before .before .before .args .queue .now)) _ _ _ _ (c .before .before .before .before .before .before .item-room .ensures) (c .before .before .before .before .before .before .before .before .set-room .ensures) (c .before .before .before .before .before .queue-room .ensures) (c .well-formed .ensures)
+    let start = c .before .before .before .before .before .before .before .before .before .before .before .before .before in
+    let words = wordsOf (start .args .items .now) (start .args .starts .now) (start .args .rows .now) (start .args .queue .now) in
+    tells-within _ _ _ words _ _ _ _ (c .before .before .before .before .before .before .item-room .ensures) (c .before .before .before .before .before .before .before .before .set-room .ensures) (c .before .before .before .before .before .queue-room .ensures) (c .well-formed .ensures)
 
 pub well-formed-spec : {M : Type 1} → statement M
 well-formed-spec =
