@@ -6,3 +6,4 @@ pub mod Calls
 pub mod Cuts
 pub mod Opening
 pub mod Histories
+pub mod Sentences
