@@ -1,11 +1,10 @@
 -- Words within the capacities: few, with a start for each row and one behind.
-use mathlib.Core.Path.{_≡_, refl, _∙_}
-use Prim.Native.Nat.{ℕ, _+_, _*_, _/_, _≤_, _<_}
+use mathlib.Core.Path.{refl, _∙_}
+use Prim.Native.Nat.{_*_, _≤_, _<_}
 use native.Mathlib.Omega.{arith}
 use lib.ListN.{length}
-use Rattle.bits.specs.Width.{rowWords}
 use Rattle.item.specs.Item.{itemWords}
-use Rattle.parse.specs.Words.{Words, maxItems, maxSets, setRoom, within}
+use Rattle.parse.specs.Words.{Words, maxItems, setRoom, within}
 use Rattle.parse.proofs.Capacities.{SameSizes, sets-room}
 use Rattle.completion.specs.Ready.{Rowed}
 use Rattle.completion.proofs.Beginning.{within-few-items, within-rowed}

@@ -1,10 +1,12 @@
 -- A token's step keeps what a parse holds, or refuses the token for a reason that sentences give.
-use mathlib.Core.Path.{_≡_, refl, sym, ap, _∙_, subst}
-use mathlib.Core.Logic.{_↔_, _⊎_, inl, inr, ⊎-elim}
+use mathlib.Core.Path.{_≡_, refl}
+use mathlib.Core.Logic.{_↔_, _⊎_, inl, inr}
 use mathlib.Core.List.{List, [], _∷_, _++_}
 use Prim.Native.Nat.{ℕ, _+_, _/_, _≤_, _<_}
 use native.Mathlib.Omega.{arith}
 use lib.ListN.{length}
+use Rattle.laws.specs.Bits.{rowOf}
+use Rattle.laws.proofs.Bits.{true-holds}
 use Rattle.bits.specs.Width.{rowWords}
 use Rattle.grammar.specs.Rules.{Grammar}
 use Rattle.grammar.specs.Sentences.{Begins}
@@ -14,24 +16,18 @@ use Rattle.parse.specs.declared.State.{State}
 use Rattle.parse.specs.Words.{Words}
 use Rattle.parse.specs.WellFormed.{WellFormed}
 use Rattle.parse.proofs.Capacities.{SameSizes}
-use Rattle.completion.specs.Pass.{Pass, itemsFull, queueFull}
-use Rattle.completion.proofs.Refusals.{Ends}
-use Rattle.completion.proofs.Passed.{token-passed}
 use Rattle.earley.proofs.Charts.{Holds, begin}
 use Rattle.earley.proofs.Token.{token}
 use Rattle.earley.proofs.Answers.{row-viable}
-use Rattle.recognizer.specs.Steps.{Outcome, noToken, notPredicted, setsFull, completed, started, stepped}
+use Rattle.recognizer.specs.Steps.{Outcome, noToken, notPredicted, completed, started, stepped}
 use Rattle.recognizer.specs.Sentences.{AcceptedOrNoRoom}
 use Rattle.recognizer.proofs.Chart.{chartOf, Completed}
+use Rattle.recognizer.proofs.Exact.{completed-exactly}
 use Rattle.recognizer.proofs.Cut.{Cut, cut-same}
 use Rattle.recognizer.proofs.Starting.{started-sizes, started-fresh, started-well}
-use Rattle.recognizer.proofs.Ways.{Ways, Predicted, kept, keptOf, following, ways}
+use Rattle.recognizer.proofs.Ways.{Ways, Predicted, keptOf, following, ways}
+use Rattle.recognizer.proofs.Refusing.{stopped-room}
 use Rattle.recognizer.proofs.NextSet.{following-sizes, following-well, following-next}
-
--- A pass that was not refused has completed exactly what the rules of completion give.
-pub record CompletesExactly : Type 1 where
-  pub exactly : (g : Grammar) (s : State) (v : Words) (t : ℕ) → Accepted g → WellFormed (g .symbols) (g .rules) s v → Cut v
-      → t < g .tokens → Predicted s v t → completed g s v t .at .stopped ≡ 0 → Completed g s v t
 
 -- What a parse that has accepted `a` holds, in words within the capacities.
 pub record Holding (g : Grammar) (a : List ℕ) (s : State) (v : Words) : Type 0 where
@@ -39,17 +35,11 @@ pub record Holding (g : Grammar) (a : List ℕ) (s : State) (v : Words) : Type 0
   pub well : WellFormed (g .symbols) (g .rules) s v
   pub holds : Holds g a (chartOf s v)
 
--- No room: 7, 8 or 9.
-pub data NoRoom : ℕ → Type 0 where
-  items : NoRoom itemsFull
-  queue : NoRoom queueFull
-  sets : NoRoom setsFull
-
 -- Why the token `t` is refused behind `a`, by number.
 pub data Refused (g : Grammar) (a : List ℕ) (t : ℕ) : ℕ → Type 0 where
   no-token : g .tokens ≤ t → Refused g a t noToken
   impossible : t < g .tokens → (Begins g (a ++ t ∷ []) → ⊥) → Refused g a t notPredicted
-  no-room : {n : ℕ} → t < g .tokens → Begins g (a ++ t ∷ []) → NoRoom n → Refused g a t n
+  no-room : {n : ℕ} → t < g .tokens → Begins g (a ++ t ∷ []) → AcceptedOrNoRoom n → (n ≡ 0 → ⊥) → Refused g a t n
 
 -- The token is accepted, ..
 pub record Accepts (g : Grammar) (a : List ℕ) (v : Words) (t : ℕ) (o : Outcome) : Type 0 where
@@ -69,15 +59,7 @@ pub record Refuses (g : Grammar) (a : List ℕ) (s : State) (v : Words) (t : ℕ
 pub refused-some : {g : Grammar} {a : List ℕ} {t n : ℕ} → Refused g a t n → n ≡ 0 → ⊥
 refused-some (Refused.no-token l) e = omega arith
 refused-some (Refused.impossible l b) e = omega arith
-refused-some (Refused.no-room l b NoRoom.items) e = omega arith
-refused-some (Refused.no-room l b NoRoom.queue) e = omega arith
-refused-some (Refused.no-room l b NoRoom.sets) e = omega arith
-
--- A pass that was stopped met full items or a full queue.
-stopped-full : {p : Pass} → Ends p → (p .at .stopped ≡ 0 → ⊥) → NoRoom (p .at .stopped)
-stopped-full (Ends.empty going none) n = absurd (n going)
-stopped-full (Ends.full-items stopped full) n = subst NoRoom (sym stopped) NoRoom.items
-stopped-full (Ends.full-queue stopped full) n = subst NoRoom (sym stopped) NoRoom.queue
+refused-some (Refused.no-room l b room n) e = n e
 
 module _ {g : Grammar} {table : List (List ℕ)} (accepted : Accepted g) (predicts : Predicts g rowWords table) where
   -- A start begins to hold.
@@ -88,7 +70,7 @@ module _ {g : Grammar} {table : List (List ℕ)} (accepted : Accepted g) (predic
     holds = begin (started-fresh accepted predicts v some);
   }
 
-  module _ (completes : CompletesExactly) {a : List ℕ} {s : State} {v : Words} (h : Holding g a s v) (t : ℕ) where
+  module _ {a : List ℕ} {s : State} {v : Words} (h : Holding g a s v) (t : ℕ) where
     -- The latest row has the tokens that some sentence goes on with.
     viable : t < g .tokens → Predicted s v t ↔ Begins g (a ++ t ∷ [])
     viable small = row-viable accepted (h .holds) small
@@ -96,7 +78,7 @@ module _ {g : Grammar} {table : List (List ℕ)} (accepted : Accepted g) (predic
     goes : t < g .tokens → Predicted s v t → completed g s v t .at .stopped ≡ 0 → keptOf g s v t + 1 < length (v .rows) / rowWords
         → Accepts g a v t (following g table s v t)
     goes small there going room =
-        let exact : Completed g s v t = completes .exactly g s v t accepted (h .well) (h .cut) small there going in
+        let exact : Completed g s v t = completed-exactly g accepted s v (h .well) (h .cut .few-items) (h .cut .rowed) t small (true-holds (rowOf rowWords (v .rows) (s .set)) t there) going in
         record {
           zero = refl;
           small = small;
@@ -114,12 +96,12 @@ module _ {g : Grammar} {table : List (List ℕ)} (accepted : Accepted g) (predic
     by-way (Ways.not-predicted small n) = inr (record { why = Refused.impossible small (λ b. n (viable small .1 b)); state = refl; words = refl })
     by-way (Ways.full small there n) =
         inr (record {
-          why = Refused.no-room small (viable small .0 there) (stopped-full (token-passed g accepted (h .well) (h .cut .few-items) (h .cut .rowed) t .ends) n);
+          why = Refused.no-room small (viable small .0 there) (stopped-room accepted (h .well) (h .cut) t) n;
           state = refl;
           words = refl;
         })
     by-way (Ways.no-room small there going l) =
-        inr (record { why = Refused.no-room small (viable small .0 there) NoRoom.sets; state = refl; words = refl })
+        inr (record { why = Refused.no-room small (viable small .0 there) AcceptedOrNoRoom.no-set (λ e. omega arith); state = refl; words = refl })
     by-way (Ways.done small there going room) = inl (goes small there going room)
 
     -- A STEP ACCEPTS THE TOKEN, OR REFUSES IT FOR A REASON.

@@ -11,5 +11,13 @@ pub mod Ways
 pub mod Members
 pub mod Moved
 pub mod NextSet
+pub mod Refusing
 pub mod Holding
 pub mod Running
+pub mod Lasting
+pub mod Finishing
+pub mod Telling
+pub mod OneToken
+pub mod Again
+pub mod Computed
+pub mod Tabled

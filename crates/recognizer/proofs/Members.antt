@@ -1,5 +1,5 @@
 -- The new items of a step are the items with a second symbol that the pass has stored, in rising order.
-use mathlib.Core.Path.{_≡_, refl, sym, ap, _∙_, subst}
+use mathlib.Core.Path.{_≡_, refl, sym, ap, _∙_}
 use mathlib.Core.List.{List, [], _∷_}
 use Prim.Native.Nat.{ℕ, zero, suc, _+_, _-_, _≤_, _<_, max}
 use native.Mathlib.Omega.{arith}
@@ -12,7 +12,7 @@ use Rattle.advance.specs.NewItems.{itemsFrom, sorted, binary, newItems}
 use Rattle.advance.specs.Order.{All}
 use Rattle.advance.specs.Advance.{highest, greatestOrigin}
 use Rattle.advance.proofs.Placed.{noItem}
-use Rattle.advance.proofs.Ordering.{Among, Rises, Apart, all-map, all-at, all-both, all-among, sorted-there, sorted-rises}
+use Rattle.advance.proofs.Ordering.{Among, Rises, Apart, all-map, all-among, sorted-there, sorted-rises}
 use Rattle.advance.proofs.Sorting.{items-all}
 use Rattle.advance.proofs.Advancing.{binary-cases, binary-all, binary-second, new-all}
 

@@ -1,7 +1,7 @@
 -- The words behind a step: what steps 5 and 6 keep of them, and where the new set stands.
-use mathlib.Core.Path.{_≡_, refl, sym, ap, ap₂, _∙_, subst}
+use mathlib.Core.Path.{_≡_, sym, ap, ap₂, _∙_}
 use mathlib.Core.List.{List, [], _∷_, _++_}
-use Prim.Native.Nat.{ℕ, _+_, _-_, _*_, _/_, _%_, _≤_, _<_}
+use Prim.Native.Nat.{ℕ, _+_, _-_, _*_, _/_, _≤_, _<_}
 use native.Mathlib.Decide.{decLt}
 use native.Mathlib.Omega.{arith}
 use lib.ListN.{length, getD, take, drop, replicate, length-append, length-take, length-replicate, List·getD-append, List·getD-eq-default}
@@ -13,13 +13,11 @@ use Rattle.item.specs.Item.{Item, itemWords, itemAt}
 use Rattle.parse.specs.declared.State.{State}
 use Rattle.parse.specs.Words.{Words, startOf}
 use Rattle.parse.proofs.Capacities.{SameSizes}
-use Rattle.completion.specs.Ready.{Rowed}
-use Rattle.advance.specs.Advance.{lastKept, keptRows, nextState, nextWords}
+use Rattle.advance.specs.Advance.{lastKept, keptRows, nextWords}
 use Rattle.advance.proofs.Placed.{noItem, item-eq}
 use Rattle.advance.proofs.Padded.{zeros-word, padded-length, padded-word, front-word}
-use Rattle.advance.proofs.Pruning.{kept-pruned, kept-all, rows-pruned, rows-all}
+use Rattle.advance.proofs.Pruning.{kept-pruned, rows-pruned, rows-all}
 use Rattle.advance.proofs.Following.{ending-length, ending-at, ending-before, kept-low, kept-rows-length}
-use Rattle.recognizer.proofs.Tables.{holds-same}
 
 -- A word of a row stands behind the rows before it, and past the row there is none.
 row-words : (w : ℕ) (words : List ℕ) (k : ℕ) (row : List ℕ) → length row ≤ w → ((i : ℕ) → i < w → getD words (w * k + i) 0 ≡ getD row i 0)

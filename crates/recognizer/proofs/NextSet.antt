@@ -1,7 +1,7 @@
 -- A step that is done: its state is well formed, and its chart is what earley calls the next one.
 use mathlib.Core.Path.{_≡_, refl, sym, ap, _∙_, subst}
-use mathlib.Core.Logic.{_↔_, _⊎_, inl, inr}
-use mathlib.Core.List.{List, [], _∷_, _++_}
+use mathlib.Core.Logic.{_⊎_, inl, inr}
+use mathlib.Core.List.{List}
 use Prim.Native.Nat.{ℕ, suc, _+_, _-_, _*_, _/_, _≤_, _<_}
 use native.Mathlib.Decide.{decLt}
 use native.Mathlib.Numerals.{add-one}
@@ -9,21 +9,20 @@ use native.Mathlib.Omega.{arith}
 use lib.ListN.{length, getD}
 use Rattle.laws.specs.Bits.{Holds, rowOf}
 use Rattle.bits.specs.Width.{rowWords}
-use Rattle.item.specs.Item.{Item, itemWords, itemAt, originAt, ruleAt}
+use Rattle.item.specs.Item.{Item, itemWords, itemAt}
 use Rattle.grammar.specs.Rules.{Grammar, none, ruleAt as ruleAtG}
 use Rattle.grammar.specs.Accepted.{Accepted, maxSymbols}
-use Rattle.grammar.specs.Prediction.{Reaches, Predicts, rowAt}
+use Rattle.grammar.specs.Prediction.{Predicts}
 use Rattle.grammar.proofs.Facts.{second-low}
 use Rattle.parse.specs.declared.State.{State}
-use Rattle.parse.specs.Tells.{Clear}
-use Rattle.parse.specs.Words.{Words, maxItems, maxSets, startOf}
+use Rattle.parse.specs.Words.{Words, startOf}
 use Rattle.parse.specs.WellFormed.{WellFormed, InSet, secondOf}
 use Rattle.parse.proofs.Capacities.{SameSizes}
 use Rattle.completion.specs.Pass.{Pass}
 use Rattle.completion.proofs.Beginning.{beginning, start-fits}
 use Rattle.completion.proofs.Passed.{Passed, token-passed, passed-apart}
 use Rattle.advance.specs.Order.{All}
-use Rattle.advance.specs.Advance.{predictions, lastKept, nextState, nextWords, withoutNew}
+use Rattle.advance.specs.Advance.{predictions, withoutNew}
 use Rattle.advance.proofs.Placed.{noItem}
 use Rattle.advance.proofs.Ordering.{Among, at-all, all-map}
 use Rattle.advance.proofs.Pruning.{kept-pruned, kept-all, last-greatest}
@@ -31,9 +30,8 @@ use Rattle.advance.proofs.Following.{predictions-wide}
 use Rattle.advance.proofs.Advancing.{new-few, greatest-below}
 use Rattle.advance.proofs.Keeping.{Newcomer, well-formed-again}
 use Rattle.advance.proofs.Steps.{without-new}
-use Rattle.earley.proofs.Charts.{Chart}
 use Rattle.earley.proofs.Next.{Stored, Led, Unpruned, Pruned, Next}
-use Rattle.recognizer.specs.Steps.{Outcome, completed}
+use Rattle.recognizer.specs.Steps.{completed}
 use Rattle.recognizer.proofs.Chart.{Has, New, chartOf, Completed}
 use Rattle.recognizer.proofs.Cut.{Cut}
 use Rattle.recognizer.proofs.Tables.{holds-same, table-shape, predictions-below, Leads, predictions-lead, lead-predictions}

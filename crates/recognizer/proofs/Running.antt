@@ -1,7 +1,6 @@
 -- A run keeps what a parse holds, token after token, up to the first refusal.
 use mathlib.Core.Path.{_≡_, refl, sym, ap, _∙_, subst, subst₂}
-use mathlib.Core.Bool.{true, false}
-use mathlib.Core.Logic.{_⊎_, inl, inr, ⊎-elim}
+use mathlib.Core.Logic.{⊎-elim}
 use mathlib.Core.List.{List, [], _∷_, _++_, append-nil, append-assoc}
 use Prim.Native.Nat.{ℕ, zero, suc, _+_, _≤_, _<_}
 use native.Mathlib.Numerals.{add-one}
@@ -18,7 +17,7 @@ use Rattle.parse.specs.Words.{Words}
 use Rattle.parse.proofs.Capacities.{SameSizes}
 use Rattle.recognizer.specs.Steps.{Outcome, Ended, oneMore, stepped, ran}
 use Rattle.recognizer.proofs.Cut.{sizes-refl, sizes-trans}
-use Rattle.recognizer.proofs.Holding.{CompletesExactly, Holding, Refused, Accepts, Refuses, refused-some, step-judged}
+use Rattle.recognizer.proofs.Holding.{Holding, Refused, Accepts, Refuses, refused-some, step-judged}
 
 -- A run over `us` of a parse that has accepted `a`: what it holds then, and how it ended.
 pub record RunHolds (g : Grammar) (a : List ℕ) (v : Words) (us : List ℕ) (e : Ended) : Type 0 where
@@ -75,7 +74,7 @@ run-none {g} {a} {s} {v} {t} {o} {us} h r = record {
   refused = λ l. subst (λ (b : List ℕ). Refused g b t (o .number)) (sym (append-nil a)) (r .why);
 }
 
-module _ {g : Grammar} {table : List (List ℕ)} (accepted : Accepted g) (predicts : Predicts g rowWords table) (completes : CompletesExactly) where
+module _ {g : Grammar} {table : List (List ℕ)} (accepted : Accepted g) (predicts : Predicts g rowWords table) where
   -- A RUN EQUALS ONE STEP A TOKEN, up to the first refusal.
   pub run-holds : (us : List ℕ) {a : List ℕ} {s : State} {v : Words} → Holding g a s v → RunHolds g a v us (ran g table s v us)
   unfolding ran
@@ -93,4 +92,4 @@ module _ {g : Grammar} {table : List (List ℕ)} (accepted : Accepted g) (predic
       subst (RunHolds g a v (t ∷ us)) (sym (ran-on g table s v t us (first .zero))) (run-more first (run-holds us (first .holding))))
       (λ (r : Refuses g a s v t (stepped g table s v t)).
       subst (RunHolds g a v (t ∷ us)) (sym (ran-off g table s v t us (refused-some (r .why)))) (run-none h r))
-      (step-judged accepted predicts completes h t)
+      (step-judged accepted predicts h t)

@@ -1,22 +1,21 @@
 -- What the rows of the prediction table hold, and unions of them.
-use mathlib.Core.Path.{_≡_, refl, sym, ap, _∙_, subst}
-use mathlib.Core.Logic.{_⊎_, inl, inr, ⊎-elim}
+use mathlib.Core.Path.{_≡_, refl, ap, _∙_, subst}
+use mathlib.Core.Logic.{⊎-elim}
 use mathlib.Core.List.{List, [], _∷_}
-use Prim.Native.Nat.{ℕ, _+_, _*_, _/_, _%_, _≤_, _<_}
+use Prim.Native.Nat.{ℕ, _/_, _%_, _<_}
 use native.Mathlib.Omega.{arith}
-use lib.ListN.{length, getD, replicate}
-use Rattle.laws.specs.Bits.{wordBits, bit, Holds, Below, union}
+use lib.ListN.{getD, replicate}
+use Rattle.laws.specs.Bits.{wordBits, bit, Holds, Below}
 use Rattle.laws.proofs.Bits.{union-one, union-left, union-right, zeros-hold, union-below}
 use Rattle.bits.specs.Width.{rowWords}
 use Rattle.item.specs.Item.{Item}
-use Rattle.grammar.specs.Rules.{Rule, Grammar, Says}
-use Rattle.grammar.specs.Accepted.{Accepted, maxSymbols}
+use Rattle.grammar.specs.Rules.{Rule, Grammar}
+use Rattle.grammar.specs.Accepted.{Accepted}
 use Rattle.grammar.specs.Prediction.{Reaches, Predicts, rowAt}
 use Rattle.grammar.specs.Prediction.Reaches.{here, by-first}
 use Rattle.grammar.proofs.Facts.{wrapper-first}
 use Rattle.parse.specs.WellFormed.{secondOf}
 use Rattle.advance.specs.Advance.{predictions}
-use Rattle.advance.specs.Order.{All}
 use Rattle.advance.specs.Ready.{Shape}
 use Rattle.advance.proofs.Ordering.{Among}
 use Rattle.advance.proofs.Padded.{zeros-word}

@@ -1,6 +1,6 @@
 -- The ways of a token's step.
 use mathlib.Core.Path.{_≡_, refl, sym, subst}
-use mathlib.Core.Logic.{_⊎_, inl, inr, ⊎-elim}
+use mathlib.Core.Logic.{⊎-elim}
 use mathlib.Core.List.{List}
 use Prim.Native.Nat.{ℕ, _+_, _/_, _≤_, _<_}
 use native.Mathlib.Decide.{decLt, ℕ-discrete}
@@ -14,7 +14,6 @@ use Rattle.item.specs.Item.{Item}
 use Rattle.grammar.specs.Rules.{Grammar}
 use Rattle.parse.specs.declared.State.{State}
 use Rattle.parse.specs.Words.{Words}
-use Rattle.completion.specs.Pass.{Pass}
 use Rattle.advance.specs.NewItems.{newItems}
 use Rattle.advance.specs.Advance.{greatestOrigin, lastKept, predictions, nextState, nextWords}
 use Rattle.recognizer.specs.Steps.{Outcome, noToken, notPredicted, setsFull, completed, advanced, stepped}
@@ -56,17 +55,17 @@ pub data Ways (g : Grammar) (table : List (List ℕ)) (s : State) (v : Words) (t
       → Ways g table s v t (following g table s v t)
 
 module _ (g : Grammar) (table : List (List ℕ)) (s : State) (v : Words) (t : ℕ) where
-  is-no-token : g .tokens ≤ t → stepped g table s v t ≡ kept noToken s v
+  pub is-no-token : g .tokens ≤ t → stepped g table s v t ≡ kept noToken s v
   unfolding stepped
   is-no-token l = rw (stepped, le-ltb t (g .tokens) l) refl
 
   module _ (small : t < g .tokens) where
-    is-not-predicted : (Predicted s v t → ⊥) → stepped g table s v t ≡ kept notPredicted s v
+    pub is-not-predicted : (Predicted s v t → ⊥) → stepped g table s v t ≡ kept notPredicted s v
     unfolding stepped
     is-not-predicted n = rw (stepped, lt-ltb t (g .tokens) small, false-holds (rowOf rowWords (v .rows) (s .set)) t n) refl
 
     module _ (there : Predicted s v t) where
-      is-full : (completed g s v t .at .stopped ≡ 0 → ⊥) → stepped g table s v t ≡ kept (completed g s v t .at .stopped) s v
+      pub is-full : (completed g s v t .at .stopped ≡ 0 → ⊥) → stepped g table s v t ≡ kept (completed g s v t .at .stopped) s v
       unfolding stepped
       is-full n =
           rw (stepped, lt-ltb t (g .tokens) small, true-holds (rowOf rowWords (v .rows) (s .set)) t there, ne-eqb (completed g s v t .at .stopped) 0 n) refl
@@ -77,11 +76,11 @@ module _ (g : Grammar) (table : List (List ℕ)) (s : State) (v : Words) (t : �
         goes =
             rw (stepped, lt-ltb t (g .tokens) small, true-holds (rowOf rowWords (v .rows) (s .set)) t there, eq-eqb (completed g s v t .at .stopped) 0 going) refl
 
-        is-no-room : length (v .rows) / rowWords ≤ keptOf g s v t + 1 → stepped g table s v t ≡ kept setsFull s v
+        pub is-no-room : length (v .rows) / rowWords ≤ keptOf g s v t + 1 → stepped g table s v t ≡ kept setsFull s v
         unfolding advanced
         is-no-room l = rw goes (rw (advanced, le-ltb (keptOf g s v t + 1) (length (v .rows) / rowWords) l) refl)
 
-        is-done : keptOf g s v t + 1 < length (v .rows) / rowWords → stepped g table s v t ≡ following g table s v t
+        pub is-done : keptOf g s v t + 1 < length (v .rows) / rowWords → stepped g table s v t ≡ following g table s v t
         unfolding advanced
         is-done l = rw goes (rw (advanced, lt-ltb (keptOf g s v t + 1) (length (v .rows) / rowWords) l) refl)
 
