@@ -21,3 +21,6 @@ pub mod OneToken
 pub mod Again
 pub mod Computed
 pub mod Tabled
+pub mod Carving
+pub mod Turning
+pub mod Given
