@@ -24,3 +24,7 @@ pub mod Tabled
 pub mod Carving
 pub mod Turning
 pub mod Given
+pub mod Cutting
+pub mod Readying
+pub mod Beginning
+pub mod Examples
