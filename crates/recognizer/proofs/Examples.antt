@@ -81,7 +81,7 @@ predicts-a = tabulates-predicts grammar-a rows-a accepted-a (record { wide = ref
 
 pub sound-a : Sound file-a grammar-a (tableOf rows-a)
 unfolding rulesFrom
-sound-a = record { whole = whole file-a (omega arith) refl refl refl; is = refl; accepted = accepted-a; predicts = predicts-a }
+sound-a = record { checked = record { whole = whole file-a (omega arith) refl refl refl; is = refl; accepted = accepted-a }; predicts = predicts-a }
 
 abbrev words-a0 : Words
 words-a0 = record { items = 0 ∷ 0 ∷ 0 ∷ 0 ∷ 0 ∷ 0 ∷ 0 ∷ 0 ∷ 0 ∷ 0 ∷ 0 ∷ 0 ∷ 0 ∷ 0 ∷ 0 ∷ 0 ∷ []; starts = 0 ∷ 0 ∷ 0 ∷ 0 ∷ 0 ∷ []; rows = 21 ∷ 0 ∷ 0 ∷ 0 ∷ 0 ∷ 0 ∷ 0 ∷ 0 ∷ []; queue = 0 ∷ 0 ∷ 0 ∷ 0 ∷ [] }
@@ -118,7 +118,7 @@ read-a = reading-on (reading-on {s′ = state 2 3} {w′ = words-a2} one-a 1 ref
 
 -- So it is a sentence, since finished says yes;
 pub sentence-a : Sentence (grammarOf file-a) (0 ∷ 1 ∷ 0 ∷ [])
-sentence-a = finished-tells (Finishes.done (read-a .ready)) .sentences (0 ∷ 1 ∷ 0 ∷ []) (read-a .history) .sentence .0 refl
+sentence-a = finished-tells (Finishes.done (record { checked = sound-a .checked; well-formed = read-a .ready .well-formed })) .sentences (0 ∷ 1 ∷ 0 ∷ []) (read-a .history) .sentence .0 refl
 
 -- and no sentence begins with "0 0", since the second is answered 6.
 pub none-a : Begins (grammarOf file-a) (0 ∷ 0 ∷ []) → ⊥
@@ -161,7 +161,7 @@ predicts-b = tabulates-predicts grammar-b rows-b accepted-b (record { wide = ref
 
 pub sound-b : Sound file-b grammar-b (tableOf rows-b)
 unfolding rulesFrom
-sound-b = record { whole = whole file-b (omega arith) refl refl refl; is = refl; accepted = accepted-b; predicts = predicts-b }
+sound-b = record { checked = record { whole = whole file-b (omega arith) refl refl refl; is = refl; accepted = accepted-b }; predicts = predicts-b }
 
 abbrev words-b0 : Words
 words-b0 = record { items = 0 ∷ 0 ∷ 0 ∷ 0 ∷ 0 ∷ 0 ∷ 0 ∷ 0 ∷ 0 ∷ 0 ∷ 0 ∷ 0 ∷ []; starts = 0 ∷ 0 ∷ 0 ∷ 0 ∷ []; rows = 89 ∷ 0 ∷ 0 ∷ 0 ∷ 0 ∷ 0 ∷ []; queue = 0 ∷ 0 ∷ [] }
