@@ -1,18 +1,12 @@
-use mathlib.Core.Path.{refl, subst}
-use borrow.Author.Tests.{not-true, not-false}
+-- `recognizer::run` meets its contract.
+use mathlib.Core.Path.{refl}
+use Rattle.prediction.proofs.Reaching.{accepted-within}
 use Rattle.recognizer.specs.Calls.{CallFault, Runs}
-use Rattle.recognizer.specs.Opening.{Opens}
 use Rattle.recognizer.specs.Steppable.{wordsOf}
-use Rattle.recognizer.proofs.Given.{decodable, few-rules, checked, tableable, can-step, runs}
+use Rattle.recognizer.proofs.Readying.{opened-fault, opened-sound, sound-readable, sound-few, sound-checked, told-ill-formed, told-formed}
+use Rattle.recognizer.proofs.Given.{can-step, runs}
 use Rattle.recognizer.proofs.run.Statement.{statement}
 use Rattle.recognizer.proofs.run.Tie as tie
-use Rattle.recognizer.proofs.run.Reads as reads
-use Rattle.recognizer.proofs.run.Lts as lts
-use Rattle.grammar.proofs.rules.decode.Reads as decode-reads
-use Rattle.prediction.proofs.table.Reads as table-reads
-use Rattle.recognizer.proofs.file.open.Reads as open-reads
-use Rattle.recognizer.proofs.within.run_within.Reads as run-within-reads
-use Rattle.recognizer.proofs.within.well_formed.Reads as well-formed-reads
 
 open-requires : tie.Need-open-requires
 open-requires c κs = tt
@@ -22,18 +16,20 @@ enum-known-why c = c .match .keys1
 
 returns : tie.Need-returns
 returns c =
-    Runs.refused (CallFault.file-fault (subst (Opens (c .before .before .before .before .before .before .before .before .before .before .args .file .now)) (c .before .why .given .1) (c .before .before .before .«open» .ensures)))
+    Runs.refused (CallFault.file-fault (opened-fault _ _ (c .before .before .before .«open» .ensures) _ (c .before .why .given .1)))
 
 enum-known-found : tie.Need-enum-known-found
 enum-known-found c = c .match .keys2
 
 decode-requires : tie.Need-decode-requires
 decode-requires c κs =
-    decodable (subst (Opens (c .before .before .before .before .before .before .before .before .before .before .args .file .now)) (c .before .found .given .1) (c .before .before .before .«open» .ensures))
+    let sound = opened-sound _ _ (c .before .before .before .«open» .ensures) _ (c .before .found .given .1) in
+    sound-readable _ _ sound
 
 well-formed-requires : tie.Need-well-formed-requires
 well-formed-requires c κs =
-    few-rules (subst (Opens (c .before .before .before .before .before .before .before .before .before .before .before .before .before .before .before .before .args .file .now)) (c .before .before .before .before .before .before .before .found .given .1) (c .before .before .before .before .before .before .before .before .before .«open» .ensures))
+    let sound = opened-sound _ _ (c .before .before .before .before .before .before .before .before .before .«open» .ensures) _ (c .before .before .before .before .before .before .before .found .given .1) in
+    sound-few _ _ sound
 
 same-length : tie.Need-same-length
 same-length c = refl
@@ -49,25 +45,24 @@ same-length-4 c = refl
 
 returns-2 : tie.Need-returns-2
 returns-2 c =
-    Runs.refused
-    (CallFault.ill-formed
-    (checked (subst (Opens (c .before .before .before .before .before .before .before .before .before .before .before .before .before .before .before .before .before .before .args .file .now)) (c .before .before .before .before .before .before .before .before .before .found .given .1) (c .before .before .before .before .before .before .before .before .before .before .before .«open» .ensures)) (c .before .before .before .before .before .before .before .decode .result) (c .before .before .before .before .before .before .before .decode .ensures))
-    (c .before .well-formed .ensures .nay (not-true (c .before .well-formed .result) (c .if1 .taken))))
+    let a = c .before .before .before .before .before .before .before .before .before .before .before .before .before .before .before .before .before .before .args in
+    let w = wordsOf (a .items .now) (a .starts .now) (a .rows .now) (a .queue .now) in
+    let sound = opened-sound _ _ (c .before .before .before .before .before .before .before .before .before .before .before .«open» .ensures) _ (c .before .before .before .before .before .before .before .before .before .found .given .1) in
+    Runs.refused (told-ill-formed _ _ sound _ (c .before .before .before .before .before .before .before .decode .ensures) (a .state) w _ (c .before .well-formed .ensures) (c .if1 .taken))
 
 table-requires : tie.Need-table-requires
 table-requires c κs =
-    tableable (subst (Opens (c .before .before .before .before .before .before .before .before .before .before .before .before .before .before .before .before .before .before .before .args .file .now)) (c .before .before .before .before .before .before .before .before .before .before .found .given .1) (c .before .before .before .before .before .before .before .before .before .before .before .before .«open» .ensures)) (c .before .before .before .before .before .before .before .before .decode .result) (c .before .before .before .before .before .before .before .before .decode .ensures)
+    let sound = opened-sound _ _ (c .before .before .before .before .before .before .before .before .before .before .before .before .«open» .ensures) _ (c .before .before .before .before .before .before .before .before .before .before .found .given .1) in
+    (sound-few _ _ sound, accepted-within _ _ _ _ (sound-checked _ _ sound _ (c .before .before .before .before .before .before .before .before .decode .ensures) .accepted))
 
 run-within-requires : tie.Need-run-within-requires
 run-within-requires c κs =
     let a = c .before .before .before .before .before .before .before .before .before .before .before .before .before .before .before .before .before .before .before .before .before .before .before .before .before .before .args in
-    let w = wordsOf (a .items .now) (a .starts .now) (a .rows .now) (a .queue .now) in (
-      can-step (subst (Opens (c .before .before .before .before .before .before .before .before .before .before .before .before .before .before .before .before .before .before .before .before .before .before .before .before .before .before .args .file .now)) (c .before .before .before .before .before .before .before .before .before .before .before .before .before .before .before .before .before .found .given .1) (c .before .before .before .before .before .before .before .before .before .before .before .before .before .before .before .before .before .before .before .«open» .ensures))
-          (c .before .before .before .before .before .before .before .before .before .before .before .before .before .before .before .decode .result) (c .before .before .before .before .before .before .before .before .before .before .before .before .before .before .before .decode .ensures)
-          (c .before .before .before .before .before .before .table .ensures) (a .state) w
-          (c .before .before .before .before .before .before .before .before .before .well-formed .ensures .yes (not-false (c .before .before .before .before .before .before .before .before .before .well-formed .result) (c .before .before .before .before .before .before .before .before .if1 .left))),
-      c .before .before .before .before .before .before .table .ensures (c .before .before .before .before .before .before .before .before .before .before .before .before .before .before .before .before .before .found .given .0 .0 .tokens),
-    )
+    let w = wordsOf (a .items .now) (a .starts .now) (a .rows .now) (a .queue .now) in
+    let sound = opened-sound _ _ (c .before .before .before .before .before .before .before .before .before .before .before .before .before .before .before .before .before .before .before .«open» .ensures) _ (c .before .before .before .before .before .before .before .before .before .before .before .before .before .before .before .before .before .found .given .1) in
+    let formed = told-formed _ _ sound _ (c .before .before .before .before .before .before .before .before .before .before .before .before .before .before .before .decode .ensures) (a .state) w _ (c .before .before .before .before .before .before .before .before .before .well-formed .ensures) (c .before .before .before .before .before .before .before .before .if1 .left) in
+    let predicts = c .before .before .before .before .before .before .table .ensures (c .before .before .before .before .before .before .before .before .before .before .before .before .before .before .before .before .before .found .given .0 .0 .tokens) in
+    (can-step formed predicts, predicts)
 
 same-length-5 : tie.Need-same-length-5
 same-length-5 c = c .before .before .before .before .before .before .before .before .run-within .kept .1 .1 .1 .1 .0
@@ -88,11 +83,9 @@ returns-3 : tie.Need-returns-3
 returns-3 c =
     let a = c .before .before .before .before .before .before .before .before .before .before .before .before .before .before .before .before .before .before .before .before .before .before .before .before .before .before .before .before .before .before .before .before .before .before .before .args in
     let w = wordsOf (a .items .now) (a .starts .now) (a .rows .now) (a .queue .now) in
-    runs (subst (Opens (c .before .before .before .before .before .before .before .before .before .before .before .before .before .before .before .before .before .before .before .before .before .before .before .before .before .before .before .before .before .before .before .before .before .before .before .args .file .now)) (c .before .before .before .before .before .before .before .before .before .before .before .before .before .before .before .before .before .before .before .before .before .before .before .before .before .before .found .given .1) (c .before .before .before .before .before .before .before .before .before .before .before .before .before .before .before .before .before .before .before .before .before .before .before .before .before .before .before .before .«open» .ensures))
-    (c .before .before .before .before .before .before .before .before .before .before .before .before .before .before .before .before .before .before .before .before .before .before .before .before .decode .result) (c .before .before .before .before .before .before .before .before .before .before .before .before .before .before .before .before .before .before .before .before .before .before .before .before .decode .ensures)
-    (c .before .before .before .before .before .before .before .before .before .before .before .before .before .before .before .table .ensures) (a .state) w
-    (c .before .before .before .before .before .before .before .before .before .before .before .before .before .before .before .before .before .before .well-formed .ensures .yes (not-false (c .before .before .before .before .before .before .before .before .before .before .before .before .before .before .before .before .before .before .well-formed .result) (c .before .before .before .before .before .before .before .before .before .before .before .before .before .before .before .before .before .if1 .left)))
-    (a .tokens .now) (c .before .before .before .before .before .before .before .before .run-within .ensures)
+    let sound = opened-sound _ _ (c .before .before .before .before .before .before .before .before .before .before .before .before .before .before .before .before .before .before .before .before .before .before .before .before .before .before .before .before .«open» .ensures) _ (c .before .before .before .before .before .before .before .before .before .before .before .before .before .before .before .before .before .before .before .before .before .before .before .before .before .before .found .given .1) in
+    let formed = told-formed _ _ sound _ (c .before .before .before .before .before .before .before .before .before .before .before .before .before .before .before .before .before .before .before .before .before .before .before .before .decode .ensures) (a .state) w _ (c .before .before .before .before .before .before .before .before .before .before .before .before .before .before .before .before .before .before .well-formed .ensures) (c .before .before .before .before .before .before .before .before .before .before .before .before .before .before .before .before .before .if1 .left) in
+    runs formed (c .before .before .before .before .before .before .before .before .before .before .before .before .before .before .before .table .ensures (c .before .before .before .before .before .before .before .before .before .before .before .before .before .before .before .before .before .before .before .before .before .before .before .before .before .before .found .given .0 .0 .tokens)) (a .tokens .now) (c .before .before .before .before .before .before .before .before .run-within .ensures)
 
 pub run-spec : {M : Type 1} → statement M
 run-spec =

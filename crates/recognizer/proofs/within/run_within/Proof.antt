@@ -1,3 +1,4 @@
+-- `recognizer::within::run_within` meets its contract.
 use mathlib.Core.Path.{_∙_}
 use Prim.Native.Nat.{_-_}
 use native.Mathlib.Nat.{lt-of-le-of-lt}
@@ -10,10 +11,6 @@ use Rattle.recognizer.specs.Steppable.{grammarFrom, wordsOf}
 use Rattle.recognizer.proofs.Turning.{Going, going-first, going-on, going-off, going-end}
 use Rattle.recognizer.proofs.within.run_within.Statement.{statement}
 use Rattle.recognizer.proofs.within.run_within.Tie as tie
-use Rattle.recognizer.proofs.within.run_within.Reads as reads
-use Rattle.recognizer.proofs.within.run_within.Lts as lts
-use Rattle.recognizer.proofs.within.step_within.Reads as step-within-reads
-use Rattle.recognizer.proofs.within.wide.Reads as wide-reads
 
 abbrev Inv-loop : tie.InvT-loop
 Inv-loop rules sizes table items₀ starts₀ rows₀ queue₀ tokens now₀ taken₀ items starts rows queue now taken =

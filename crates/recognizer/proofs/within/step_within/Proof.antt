@@ -1,3 +1,4 @@
+-- `recognizer::within::step_within` meets its contract.
 use mathlib.Core.Path.{sym, subst}
 use native.Mathlib.Omega.{arith}
 use lib.Seq.{length-take-le}
@@ -9,12 +10,6 @@ use Rattle.recognizer.specs.Steppable.{grammarFrom, wordsOf, Steppable}
 use Rattle.recognizer.proofs.Carving.{starts-there, first-within, replaced-place}
 use Rattle.recognizer.proofs.within.step_within.Statement.{statement}
 use Rattle.recognizer.proofs.within.step_within.Tie as tie
-use Rattle.recognizer.proofs.within.step_within.Reads as reads
-use Rattle.recognizer.proofs.within.step_within.Lts as lts
-use Rattle.parse.proofs.room.item_room.Reads as item-room-reads
-use Rattle.parse.proofs.room.queue_room.Reads as queue-room-reads
-use Rattle.parse.proofs.room.set_room.Reads as set-room-reads
-use Rattle.recognizer.proofs.step.step.Reads as step-reads
 
 item-room-requires : tie.Need-item-room-requires
 item-room-requires c κs = search needs
