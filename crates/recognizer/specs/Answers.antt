@@ -3,13 +3,14 @@ use mathlib.Core.Bool.{Bool, true, false}
 use Prim.Native.Nat.{ℕ}
 use Rattle.parse.specs.declared.State.{State}
 use Rattle.parse.specs.Words.{Words}
-use Rattle.recognizer.specs.Steps.{Outcome}
+use Rattle.recognizer.specs.Steps.{Outcome, Ended}
 use Rattle.recognizer.specs.declared.Refusal.{Refusal}
 use Rattle.recognizer.specs.declared.Refusal.the-variants.{Malformed, Broken, NoSets, IllFormed, NoToken, NotPredicted, ItemsFull, QueueFull, SetsFull}
 use Rattle.recognizer.specs.declared.Answer.{Answer}
 use Rattle.recognizer.specs.declared.Answer.the-variants.{Done, Refused}
-use Rattle.recognizer.specs.declared.Finished.{Finished}
-use Rattle.recognizer.specs.declared.Finished.the-variants as says
+use Rattle.recognizer.specs.declared.Ran.{Ran}
+use Rattle.recognizer.specs.declared.Whether.{Whether}
+use Rattle.recognizer.specs.declared.Whether.the-variants as says
 
 abbrev pub refusalNumber : Refusal → ℕ
 refusalNumber Malformed = 1
@@ -31,13 +32,13 @@ abbrev pub stateOf : Answer → State
 stateOf (Done s) = s
 stateOf (Refused r s) = s
 
-abbrev pub finishedNumber : Finished → ℕ
+abbrev pub finishedNumber : Whether → ℕ
 finishedNumber says.Yes = 0
 finishedNumber says.No = 0
 finishedNumber (says.Refused r) = refusalNumber r
 
 -- A refused finished says no.
-abbrev pub saysYes : Finished → Bool
+abbrev pub saysYes : Whether → Bool
 saysYes says.Yes = true
 saysYes says.No = false
 saysYes (says.Refused r) = false
@@ -45,3 +46,7 @@ saysYes (says.Refused r) = false
 -- What an answer of start or token comes to, with the words as they are left.
 abbrev pub outcomeOf : Answer → Words → Outcome
 outcomeOf a w = record { number = numberOf a; state = stateOf a; words = w }
+
+-- What an answer of run comes to.
+abbrev pub endedOf : Ran → Words → Ended
+endedOf r w = record { outcome = outcomeOf (r .answer) w; taken = r .taken }

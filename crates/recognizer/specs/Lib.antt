@@ -3,4 +3,7 @@ pub mod Steps
 pub mod Answers
 pub mod Steppable
 pub mod Calls
+pub mod Cuts
+pub mod Opening
 pub mod Histories
+pub mod Sentences

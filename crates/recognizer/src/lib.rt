@@ -1,5 +1,22 @@
 // The calls on a parse: start, token, run, finished, latest set.
 
+mod file;
+mod step;
+mod within;
+
+ghost use mathlib.Core.Path.{_≡_};
+ghost use Rattle.recognizer.specs.Answers.{refusalNumber, numberOf, outcomeOf, endedOf, finishedNumber, saysYes};
+ghost use Rattle.recognizer.specs.Calls.{Starts, Takes, Runs, Finishes, Reports};
+ghost use Rattle.recognizer.specs.Steppable.{wordsOf};
+ghost use Rattle.recognizer.specs.Sentences.{TokenTells, RunTells, FinishedTells};
+use crate::file::Opened;
+use crate::file::open;
+use crate::within::begin;
+use crate::within::last_wraps;
+use crate::within::latest_part;
+use crate::within::step_within;
+use crate::within::well_formed;
+use grammar::rules::decode;
 use parse::State;
 
 // The numbers of symbols, ordinary tokens and rules of a grammar.
@@ -35,8 +52,180 @@ pub struct Ran {
 }
 
 // What finished answers.
-pub enum Finished {
+pub enum Whether {
     Yes,
     No,
     Refused(Refusal),
+}
+
+// Starts a parse: clears the words, and predicts what the wrapper begins with. A refused start hands the old state back.
+pub fn start(
+    file: &[u8],
+    state: State,
+    items: &mut [u32],
+    starts: &mut [u32],
+    rows: &mut [u64],
+    queue: &mut [u32],
+) -> Answer
+    ensures calls { λ r. ⌜ Starts (now (file .entry)) state (wordsOf (now (items .entry)) (now (starts .entry)) (now (rows .entry)) (now (queue .entry))) (outcomeOf r (wordsOf (now (items .exit)) (now (starts .exit)) (now (rows .exit)) (now (queue .exit)))) ⌝ }
+{
+    let sizes = match open(file) {
+        Opened::Refused(why) => return Answer::Refused(why, state),
+        Opened::Sound(found) => found,
+    };
+    if parse::room::set_room(starts, rows) == 0 {
+        return Answer::Refused(Refusal::NoSets, state);
+    }
+    let rules = decode(file);
+    let table = prediction::table(&rules, sizes.symbols, sizes.rules);
+    let row = table[sizes.symbols - 2];
+    begin(&row, items, starts, rows, queue);
+    Answer::Done(State { set: 0, items: 0 })
+}
+
+// Reads one token.
+pub fn token(
+    file: &[u8],
+    state: State,
+    items: &mut [u32],
+    starts: &mut [u32],
+    rows: &mut [u64],
+    queue: &mut [u32],
+    t: u16,
+) -> Answer
+    ensures calls { λ r. ⌜ Takes (now (file .entry)) state (wordsOf (now (items .entry)) (now (starts .entry)) (now (rows .entry)) (now (queue .entry))) t (outcomeOf r (wordsOf (now (items .exit)) (now (starts .exit)) (now (rows .exit)) (now (queue .exit)))) ⌝ }
+    ensures sentences { λ r. ⌜ TokenTells (now (file .entry)) state (wordsOf (now (items .entry)) (now (starts .entry)) (now (rows .entry)) (now (queue .entry))) t (numberOf r) ⌝ }
+{
+    let sizes = match open(file) {
+        Opened::Refused(why) => return Answer::Refused(why, state),
+        Opened::Sound(found) => found,
+    };
+    let rules = decode(file);
+    if !well_formed(&rules, sizes, state, items, starts, rows, queue) {
+        return Answer::Refused(Refusal::IllFormed, state);
+    }
+    let table = prediction::table(&rules, sizes.symbols, sizes.rules);
+    step_within(
+        &rules,
+        sizes,
+        &table,
+        state,
+        items,
+        starts,
+        rows,
+        queue,
+        t as usize,
+    )
+}
+
+// Reads tokens up to the first that is refused.
+pub fn run(
+    file: &[u8],
+    state: State,
+    items: &mut [u32],
+    starts: &mut [u32],
+    rows: &mut [u64],
+    queue: &mut [u32],
+    tokens: &[u16],
+) -> Ran
+    ensures calls { λ r. ⌜ Runs (now (file .entry)) state (wordsOf (now (items .entry)) (now (starts .entry)) (now (rows .entry)) (now (queue .entry))) (now (tokens .entry)) (endedOf r (wordsOf (now (items .exit)) (now (starts .exit)) (now (rows .exit)) (now (queue .exit)))) ⌝ }
+    ensures sentences { λ r. ⌜ RunTells (now (file .entry)) state (wordsOf (now (items .entry)) (now (starts .entry)) (now (rows .entry)) (now (queue .entry))) (now (tokens .entry)) (endedOf r (wordsOf (now (items .exit)) (now (starts .exit)) (now (rows .exit)) (now (queue .exit)))) ⌝ }
+{
+    let sizes = match open(file) {
+        Opened::Refused(why) => return Ran {
+            answer: Answer::Refused(why, state),
+            taken: 0,
+        },
+        Opened::Sound(found) => found,
+    };
+    let rules = decode(file);
+    if !well_formed(&rules, sizes, state, items, starts, rows, queue) {
+        return Ran {
+            answer: Answer::Refused(Refusal::IllFormed, state),
+            taken: 0,
+        };
+    }
+    let table = prediction::table(&rules, sizes.symbols, sizes.rules);
+    within::run_within(
+        &rules,
+        sizes,
+        &table,
+        state,
+        items,
+        starts,
+        rows,
+        queue,
+        tokens,
+    )
+}
+
+// Whether the tokens so far are a sentence.
+pub fn finished(
+    file: &[u8],
+    state: State,
+    items: &[u32],
+    starts: &[u32],
+    rows: &[u64],
+    queue: &[u32],
+) -> Whether
+    ensures calls { λ r. ⌜ Finishes (now (file .entry)) state (wordsOf (now (items .entry)) (now (starts .entry)) (now (rows .entry)) (now (queue .entry))) (finishedNumber r) (saysYes r) ⌝ }
+    ensures sentences { λ r. ⌜ FinishedTells (now (file .entry)) state (wordsOf (now (items .entry)) (now (starts .entry)) (now (rows .entry)) (now (queue .entry))) (finishedNumber r) (saysYes r) ⌝ }
+{
+    let sizes = match open(file) {
+        Opened::Refused(why) => return Whether::Refused(why),
+        Opened::Sound(found) => found,
+    };
+    let rules = decode(file);
+    if !well_formed(&rules, sizes, state, items, starts, rows, queue) {
+        return Whether::Refused(Refusal::IllFormed);
+    }
+    if last_wraps(state, items, starts) {
+        return Whether::Yes;
+    }
+    Whether::No
+}
+
+// The part of the item words that holds the latest set; the answer's number goes into the lent word.
+pub fn latest_set<'a>(
+    file: &[u8],
+    state: State,
+    items: &'a [u32],
+    starts: &[u32],
+    rows: &[u64],
+    queue: &[u32],
+    number: &mut u32,
+) -> &'a [u32]
+    ensures calls { λ r. ⌜ Reports (now (file .entry)) state (wordsOf (now (items .entry)) (now (starts .entry)) (now (rows .entry)) (now (queue .entry))) (now (number .exit)) (now r) ⌝ }
+{
+    let sizes = match open(file) {
+        Opened::Refused(why) => {
+            *number = refusal_number(why);
+            return &items[0..0];
+        }
+        Opened::Sound(found) => found,
+    };
+    let rules = decode(file);
+    if !well_formed(&rules, sizes, state, items, starts, rows, queue) {
+        *number = refusal_number(Refusal::IllFormed);
+        return &items[0..0];
+    }
+    *number = 0;
+    latest_part(state, items, starts)
+}
+
+// The paper's number of a refusal.
+pub fn refusal_number(why: Refusal) -> u32
+    ensures { λ r. ⌜ r ≡ refusalNumber why ⌝ }
+{
+    match why {
+        Refusal::Malformed => 1,
+        Refusal::Broken => 2,
+        Refusal::NoSets => 3,
+        Refusal::IllFormed => 4,
+        Refusal::NoToken => 5,
+        Refusal::NotPredicted => 6,
+        Refusal::ItemsFull => 7,
+        Refusal::QueueFull => 8,
+        Refusal::SetsFull => 9,
+    }
 }

@@ -1,0 +1,228 @@
+-- What one token's steps leave in the words, as the code goes about them.
+use mathlib.Core.Path.{_≡_, refl, sym, ap, ap₂, _∙_, subst}
+use mathlib.Core.Bool.{Bool, true, false}
+use mathlib.Core.Logic.{_⊎_, inl, inr}
+use mathlib.Core.List.{List, [], _∷_, _++_}
+use Prim.Native.Nat.{ℕ, _+_, _-_, _*_, _/_, _≤_, _<_}
+use native.Mathlib.Decide.{decLt}
+use native.Mathlib.Omega.{arith}
+use lib.ListN.{length, getD, take, replicate, length-take, List·getD-eq-default}
+use lib.Seq.{ext-getD, length-take-le, getD-take}
+use lib.Dec.{ltb}
+use borrow.Author.Tests.{lt-ltb, le-ltb, ltb-true, ltb-false}
+use Rattle.bits.specs.Width.{rowWords}
+use Rattle.item.specs.Item.{Item, itemWords, itemAt, originAt, ruleAt, flat}
+use Rattle.grammar.specs.Rules.{Grammar, Rule, none}
+use Rattle.grammar.specs.Accepted.{Accepted, maxSymbols}
+use Rattle.grammar.specs.Decoded.{secondIn, rulesIn, grammarIn}
+use Rattle.grammar.proofs.Decoding.{in-count}
+use Rattle.grammar.proofs.Facts.{second-low}
+use Rattle.parse.specs.declared.State.{State}
+use Rattle.parse.specs.Tells.{Clear}
+use Rattle.parse.specs.Words.{Words, maxItems, startOf}
+use Rattle.parse.specs.WellFormed.{WellFormed}
+use Rattle.completion.specs.Pass.{Pass, passOf}
+use Rattle.completion.specs.Complete.{complete}
+use Rattle.completion.specs.Sums.{completeAllSums}
+use Rattle.completion.specs.Ready.{RulesFit, IsSet, Rowed, Sound, Charted}
+use Rattle.completion.specs.Pending.{Grounds, Pending}
+use Rattle.completion.proofs.Waiting.{rule-second}
+use Rattle.completion.proofs.Onward.{onward-take}
+use Rattle.completion.proofs.Pending.{first-pending}
+use Rattle.completion.proofs.Refusals.{Ends}
+use Rattle.completion.proofs.Beginning.{beginning, start-fits, is-set, begins-pending, begins-spare, accepted-grounds, accepted-rules-fit}
+use Rattle.completion.proofs.Passed.{Passed, token-passed, passed-queue, passed-spare}
+use Rattle.advance.specs.Order.{Stored}
+use Rattle.advance.specs.Advance.{padded, lent, Advances, withoutNew, hasRoom, advanceAnswer, advanceWords, nextState, nextWords, lastKept, predictions}
+use Rattle.advance.specs.declared.Advanced.{Advanced}
+use Rattle.advance.specs.declared.Advanced.the-variants as answers
+use Rattle.advance.specs.Ready.{Shape, Ready}
+use Rattle.advance.proofs.Padded.{padded-ext, padded-length, padded-word}
+use Rattle.advance.proofs.Pruning.{last-greatest}
+use Rattle.advance.proofs.Advancing.{answer-done, answer-refused, words-done, words-refused}
+use Rattle.advance.proofs.Steps.{without-new, ready, ready-lent, advances-whole}
+use Rattle.recognizer.specs.declared.Sizes.{Sizes}
+use Rattle.recognizer.specs.Steps.{Outcome, completed, stepped}
+use Rattle.recognizer.specs.Steppable.{grammarFrom, Steppable, FullAt}
+use Rattle.recognizer.proofs.Ways.{keptOf, newOf, reachOf, following, kept, is-full, is-no-room, is-done, Predicted}
+
+module _ (rules : List ℕ) (sizes : Sizes) (table : List (List ℕ)) (s : State) (v : Words) (can : Steppable (grammarFrom rules sizes) table s v) (t : ℕ) where
+  abbrev g : Grammar
+  g = grammarFrom rules sizes
+
+  abbrev rs : List Rule
+  rs = rulesIn rules (sizes .rules)
+
+  abbrev pass : Pass
+  pass = completed g s v t
+
+  -- The words with what the pass stored and queued.
+  abbrev u : Words
+  u = record { items = pass .items; starts = v .starts; rows = v .rows; queue = pass .queue }
+
+  well : WellFormed (sizes .symbols) rs s v
+  well = can .well-formed
+
+  passed : Passed rs (v .starts) (s .set) (beginning s v) pass
+  passed = token-passed g (can .accepted) well (can .few-items) (can .rowed) t
+
+  -- What completing the token asks.
+  pub first-asks : t < sizes .tokens → (RulesFit rs × Rowed (v .starts) (v .rows)) × ((IsSet (v .starts) (s .set) × (t < 128)) × (Sound (beginning s v) × Charted rs (v .starts) (beginning s v)))
+  first-asks small =
+      let pending : Pending rs (v .starts) (beginning s v) = begins-pending well (can .accepted .few-rules) (can .few-items) (can .rowed) in (
+        (accepted-rules-fit g (can .accepted), can .rowed),
+        (
+          (is-set well (can .accepted .few-rules) (can .few-items) (can .rowed) (s .set) (omega arith), omega (arith, can .accepted .room, can .accepted .few-symbols)),
+          (pending .sound, pending .charted),
+        ),
+      )
+
+  -- What the sums ask.
+  pub sums-ask : Grounds rs (v .starts) (v .rows) × Pending rs (v .starts) (complete rs (v .starts) (v .rows) (s .set) t (beginning s v))
+  sums-ask =
+      let grounds : Grounds rs (v .starts) (v .rows) = accepted-grounds g (can .accepted) (v .starts) (v .rows) (can .rowed) in (
+        grounds,
+        first-pending grounds (beginning s v) (begins-pending well (can .accepted .few-rules) (can .few-items) (can .rowed)) (s .set) t
+            (is-set well (can .accepted .few-rules) (can .few-items) (can .rowed) (s .set) (omega arith)) refl,
+      )
+
+  -- The items of the sets are as they were.
+  same-front : (n : ℕ) → n ≤ itemWords * s .items → take n (pass .items) ≡ take n (v .items)
+  same-front n few = onward-take (passed .onward) n few
+
+  -- Clearing what was stored and queued gives the words back.
+  pub cleared-items : padded (length (pass .items)) (take (itemWords * s .items) (pass .items)) ≡ v .items
+  cleared-items =
+      ap₂ padded (passed .onward .item-words) (same-front (itemWords * s .items) (omega arith))
+      ∙ sym
+      (padded-ext (length (v .items)) (take (itemWords * s .items) (v .items)) (v .items) (omega (arith, length-take (itemWords * s .items) (v .items))) refl
+      (λ i there.
+      elim (decLt i (itemWords * s .items)) [
+        | yes front ↦ sym (getD-take (itemWords * s .items) (v .items) i 0 front)
+        | no behind ↦
+            well .spare-items i (omega arith)
+            ∙ sym (List·getD-eq-default (take (itemWords * s .items) (v .items)) 0 {n = i} (omega (arith, length-take (itemWords * s .items) (v .items))))
+      ]))
+
+  zeros-same : (q : List ℕ) → length q ≡ length (v .queue) → ((i : ℕ) → getD q i 0 ≡ 0) → q ≡ v .queue
+  zeros-same q long zero = ext-getD 0 q (v .queue) long (λ i there. zero i ∙ sym (well .spare-queue i))
+
+  pub cleared-queue : padded (length (pass .queue)) (take 0 (pass .queue)) ≡ v .queue
+  cleared-queue =
+      zeros-same (padded (length (pass .queue)) (take 0 (pass .queue))) (padded-length (length (pass .queue)) (take 0 (pass .queue)) (omega arith) ∙ passed .onward .queue-words)
+      (λ i. padded-word (length (pass .queue)) (take 0 (pass .queue)) i)
+
+  -- A pass that was refused met full items or a full queue.
+  pub full-at : (pass .at .stopped ≡ 0 → ⊥) → FullAt (pass .at .stopped)
+  full-at stopped = by-end (passed .ends)
+    where
+      by-end : Ends pass → FullAt (pass .at .stopped)
+      by-end (Ends.empty going none) = absurd (stopped going)
+      by-end (Ends.full-items at full) = record { either = inl at }
+      by-end (Ends.full-queue at full) = record { either = inr at }
+
+  module _ (going : pass .at .stopped ≡ 0) where
+    queue-same : pass .queue ≡ v .queue
+    queue-same = zeros-same (pass .queue) (passed .onward .queue-words) (passed-queue passed (begins-spare well (can .accepted .few-rules) (can .few-items) (can .rowed)) going)
+
+    without : withoutNew s u ≡ v
+    without =
+        ap₂ (λ (i q : List ℕ). let w : Words = record { items = i; starts = v .starts; rows = v .rows; queue = q } in w)
+        (without-new s v u (omega (arith, well .items-fit)) (record { zero = well .spare-items }) (passed .onward .item-words) (same-front (itemWords * s .items) (omega arith)))
+        queue-same
+
+    -- What the advance asks.
+    asks : Ready rules (sizes .rules) table s u (pass .at .items)
+    asks =
+        let count : length rs ≡ sizes .rules = in-count rules 0 0 (sizes .rules) in
+        ready (sizes .symbols) rules (sizes .rules) table s u (pass .at .items) (subst (WellFormed (sizes .symbols) rs s) (sym without) well) (can .rowed .sets)
+        (record {
+          few = omega (arith, count, can .accepted .few-rules);
+          runs = passed .onward .more-items;
+          there = omega (arith, passed .sound .items-fit);
+          rules = λ p from there. omega (arith, count, passed .charted .rules p there);
+        })
+        (omega (arith, passed .sound .items-fit, passed .sound .few-items))
+        (passed .origins)
+        (record { zero = passed-spare passed (well .spare-items) })
+        (λ r there two.
+        omega (
+          arith,
+          second-low g (can .accepted) r (omega (arith, count)) (λ e. two (rule-second rules (sizes .rules) r there ∙ e)),
+          rule-second rules (sizes .rules) r there,
+          can .accepted .few-symbols,
+        ))
+        (can .shape)
+
+    pub advance-asks : Ready rules (sizes .rules) table s (lent (pass .items) (v .starts) (v .rows)) (pass .at .items)
+    advance-asks = ready-lent rules (sizes .rules) table s u (pass .at .items) asks
+
+    -- Before the new items the words are those that were there.
+    next-same : (k m : ℕ) (new : List Item) (row : List ℕ) → startOf v (lastKept k m + 1) ≤ s .items → nextWords k m u new row ≡ nextWords k m v new row
+    next-same k m new row low =
+        ap₂ (λ (n : ℕ) (front : List ℕ). let w : Words = record {
+          items = padded n (front ++ flat new);
+          starts = nextWords k m v new row .starts;
+          rows = nextWords k m v new row .rows;
+          queue = replicate (length (pass .queue)) 0;
+        } in w)
+        (passed .onward .item-words) (same-front (itemWords * startOf v (lastKept k m + 1)) (omega arith))
+        ∙ ap (λ (n : ℕ). let w : Words = record {
+          items = nextWords k m v new row .items;
+          starts = nextWords k m v new row .starts;
+          rows = nextWords k m v new row .rows;
+          queue = replicate n 0;
+        } in w) (passed .onward .queue-words)
+
+    module _ (small : t < sizes .tokens) (there : Predicted s v t) (r : Advanced) (items starts rows : List ℕ)
+        (advances : Advances rs table s (lent (pass .items) (v .starts) (v .rows)) (pass .at .items) r (lent items starts rows)) where
+      abbrev after : Words
+      after = record { items = items; starts = starts; rows = rows; queue = pass .queue }
+
+      whole : (r ≡ advanceAnswer rs s u (pass .at .items)) × (after ≡ advanceWords rs table s u (pass .at .items))
+      whole =
+          advances-whole rules (sizes .rules) table s u (pass .at .items) r items starts rows
+          (record { zero = λ i from. passed-queue passed (begins-spare well (can .accepted .few-rules) (can .few-items) (can .rowed)) going i }) advances
+
+      -- No room for the new set: 9.
+      pub advance-refused : r ≡ answers.Refused → record { number = 9; state = s; words = after } ≡ stepped g table s v t
+      advance-refused no-room = by-room (hasRoom rs s u (pass .at .items)) refl
+        where
+          by-room : (b : Bool) → hasRoom rs s u (pass .at .items) ≡ b → record { number = 9; state = s; words = after } ≡ stepped g table s v t
+          by-room true room =
+              let both : answers.Refused ≡ answers.Done (nextState (keptOf g s v t) u (newOf g s v t)) =
+              sym no-room ∙ whole .0 ∙ answer-done rs table s u (pass .at .items) room in
+              let z : _≡_ {A = ℕ} 0 1 = cc in
+              absurd (omega arith)
+          by-room false room =
+              ap (kept 9 s) (whole .1 ∙ words-refused rs table s u (pass .at .items) room ∙ without)
+              ∙ sym (is-no-room g table s v t small there going (ltb-false (keptOf g s v t + 1) (length (v .rows) / rowWords) room))
+
+      -- The new set is the latest.
+      pub advance-done : (next : State) → r ≡ answers.Done next → record { number = 0; state = next; words = after } ≡ stepped g table s v t
+      advance-done next done = by-room (hasRoom rs s u (pass .at .items)) refl
+        where
+          by-room : (b : Bool) → hasRoom rs s u (pass .at .items) ≡ b → record { number = 0; state = next; words = after } ≡ stepped g table s v t
+          by-room false room =
+              let both : answers.Done next ≡ answers.Refused = sym done ∙ whole .0 ∙ answer-refused rs table s u (pass .at .items) room in
+              let z : _≡_ {A = ℕ} 0 1 = cc in
+              absurd (omega arith)
+          by-room true room =
+              let both : answers.Done next ≡ answers.Done (nextState (keptOf g s v t) u (newOf g s v t)) =
+              sym done ∙ whole .0 ∙ answer-done rs table s u (pass .at .items) room in
+              let same : next ≡ nextState (keptOf g s v t) u (newOf g s v t) = cc in
+              let row = predictions rs table (newOf g s v t) in
+              ap₂ (λ (n : State) (w : Words). let o : Outcome = record { number = 0; state = n; words = w } in o) same
+              (whole .1 ∙ words-done rs table s u (pass .at .items) room ∙ next-same (s .set) (reachOf g s v t) (newOf g s v t) row
+              (start-fits well (can .accepted .few-rules) (can .few-items) (can .rowed) (keptOf g s v t + 1)))
+              ∙ sym (is-done g table s v t small there going (ltb-true (keptOf g s v t + 1) (length (v .rows) / rowWords) room))
+
+  -- A push met full items or a full queue: 7 or 8, and the words are as they were.
+  pub pass-refused : t < sizes .tokens → Predicted s v t → (pass .at .stopped ≡ 0 → ⊥) → (number : ℕ) (items queue : List ℕ) → number ≡ pass .at .stopped
+      → items ≡ padded (length (pass .items)) (take (itemWords * s .items) (pass .items)) → queue ≡ padded (length (pass .queue)) (take 0 (pass .queue))
+      → record { number = number; state = s; words = record { items = items; starts = v .starts; rows = v .rows; queue = queue } } ≡ stepped g table s v t
+  pass-refused small there stopped number items queue is cleared emptied =
+      ap₂ (λ (i q : List ℕ). let o : Outcome = record { number = number; state = s; words = record { items = i; starts = v .starts; rows = v .rows; queue = q } } in o)
+      (cleared ∙ cleared-items) (emptied ∙ cleared-queue)
+      ∙ ap (λ (n : ℕ). kept n s v) is
+      ∙ sym (is-full g table s v t small there stopped)

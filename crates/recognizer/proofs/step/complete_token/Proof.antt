@@ -1,0 +1,59 @@
+use Rattle.recognizer.proofs.OneToken.{first-asks, sums-ask}
+use Rattle.recognizer.specs.Steppable.{wordsOf}
+use Rattle.grammar.specs.Decoded.{rulesIn}
+use Rattle.completion.specs.Sums.{completeAllSums}
+use Rattle.completion.specs.Pending.{Pending}
+use Rattle.completion.specs.Pass.{Pass}
+use native.Mathlib.Omega.{arith}
+use lib.ListN.{length, List·getD-eq-default}
+use Prim.Native.Nat.{ℕ, _+_, _-_, _*_, _≤_, _<_}
+use mathlib.Core.Logic.{⊎-elim}
+use mathlib.Core.List.{List}
+use mathlib.Core.Path.{_≡_, refl, sym, ap, _∙_, subst}
+use borrow.Author.Needs.{needs}
+use Rattle.recognizer.proofs.step.complete_token.Statement.{statement}
+use Rattle.recognizer.proofs.step.complete_token.Tie as tie
+use Rattle.recognizer.proofs.step.complete_token.Reads as reads
+use Rattle.recognizer.proofs.step.complete_token.Lts as lts
+use Rattle.completion.proofs.complete.Reads as complete-reads
+use Rattle.completion.proofs.sums.complete_all_sums_entirely.Reads as complete-all-sums-entirely-reads
+
+-- src/step.rt:43:9
+complete-requires : tie.Need-complete-requires
+complete-requires c κs =
+    let a = c .before .before .before .before .before .before .args in
+    let v = wordsOf (a .items .now) (a .starts .now) (a .rows .now) (a .queue .now) in
+    first-asks (a .rules .now) (a .sizes) (a .table .now) (a .state) v (c .before .before .before .before .before .before .pre .0) (a .t) (c .before .before .before .before .before .before .pre .1)
+
+-- src/step.rt:54:5
+complete-all-sums-entirely-requires : tie.Need-complete-all-sums-entirely-requires
+complete-all-sums-entirely-requires c κs =
+    let a = c .before .before .before .before .before .before .before .before .before .before .before .before .before .args in
+    let v = wordsOf (a .items .now) (a .starts .now) (a .rows .now) (a .queue .now) in
+    let asked = sums-ask (a .rules .now) (a .sizes) (a .table .now) (a .state) v (c .before .before .before .before .before .before .before .before .before .before .before .before .before .pre .0) (a .t) in
+    (asked .0, subst (Pending (rulesIn (a .rules .now) (a .sizes .rules)) (a .starts .now)) (sym (c .before .before .before .before .before .before .complete .ensures)) (asked .1))
+
+-- src/step.rt:23:1
+same-length : tie.Need-same-length
+same-length c = search needs
+
+-- src/step.rt:23:1
+same-length-2 : tie.Need-same-length-2
+same-length-2 c = search needs
+
+-- src/step.rt:23:1
+returns : tie.Need-returns
+returns c =
+    let a = c .before .before .before .before .before .before .before .before .before .before .before .before .before .before .before .before .before .before .args in
+    let v = wordsOf (a .items .now) (a .starts .now) (a .rows .now) (a .queue .now) in
+    c .before .before .before .before .complete-all-sums-entirely .ensures ∙ ap (λ (u : Pass). completeAllSums (rulesIn (a .rules .now) (a .sizes .rules)) (a .starts .now) (a .rows .now) u) (c .before .before .before .before .before .before .before .before .before .before .before .complete .ensures)
+
+pub complete-token-spec : {M : Type 1} → statement M
+complete-token-spec =
+    tie.close
+    (tie.spec
+    complete-requires
+    complete-all-sums-entirely-requires
+    same-length
+    same-length-2
+    returns)

@@ -1,0 +1,50 @@
+use native.Mathlib.Nat.{le-refl}
+use native.Mathlib.Omega.{arith}
+use lib.ListN.{length, List·getD-eq-default}
+use Prim.Native.Nat.{ℕ, _+_, _-_, _*_, _≤_, _<_}
+use mathlib.Core.Logic.{⊎-elim}
+use mathlib.Core.List.{List}
+use mathlib.Core.Path.{_≡_, refl, sym, ap, _∙_, subst}
+use borrow.Author.Needs.{needs}
+use Rattle.recognizer.proofs.step.give_up.Statement.{statement}
+use Rattle.recognizer.proofs.step.give_up.Tie as tie
+use Rattle.recognizer.proofs.step.give_up.Reads as reads
+use Rattle.recognizer.proofs.step.give_up.Lts as lts
+use Rattle.advance.proofs.words.clear_words.Reads as clear-words-reads
+
+-- src/step.rt:64:40
+mul-clear-words : tie.Need-mul-clear-words
+mul-clear-words c = search needs
+
+-- src/step.rt:64:5
+clear-words-requires : tie.Need-clear-words-requires
+clear-words-requires c κs =
+    (c .before .before .before .pre, le-refl (length (c .before .before .before .args .items .now)), record { zero = λ i past. List·getD-eq-default (c .before .before .before .args .items .now) 0 {n = i} past })
+
+-- src/step.rt:66:5
+clear-words-requires-2 : tie.Need-clear-words-requires-2
+clear-words-requires-2 c κs =
+    (omega arith, le-refl (length (c .before .before .before .before .before .before .before .args .queue .now)), record { zero = λ i past. List·getD-eq-default (c .before .before .before .before .before .before .before .args .queue .now) 0 {n = i} past })
+
+-- src/step.rt:58:1
+same-length : tie.Need-same-length
+same-length c = search needs
+
+-- src/step.rt:58:1
+same-length-2 : tie.Need-same-length-2
+same-length-2 c = search needs
+
+-- src/step.rt:58:1
+returns : tie.Need-returns
+returns c = search needs
+
+pub give-up-spec : {M : Type 1} → statement M
+give-up-spec =
+    tie.close
+    (tie.spec
+    mul-clear-words
+    clear-words-requires
+    clear-words-requires-2
+    same-length
+    same-length-2
+    returns)

@@ -1,0 +1,122 @@
+// A token's steps on a well-formed state, in words within the capacities.
+ghost use mathlib.Core.Path.{_≡_};
+ghost use Prim.Native.Nat.{_*_, _≤_, _<_};
+ghost use lib.ListN.{length, replicate, take};
+ghost use Rattle.item.specs.Item.{itemWords};
+ghost use Rattle.completion.specs.Pass.{passOf};
+ghost use Rattle.advance.specs.Advance.{padded};
+ghost use Rattle.recognizer.specs.Steps.{completed, stepped};
+ghost use Rattle.recognizer.specs.Answers.{refusalNumber, outcomeOf};
+ghost use Rattle.recognizer.specs.Steppable.{grammarFrom, wordsOf, Steppable, FullAt};
+use crate::Answer;
+use crate::Refusal;
+use crate::Sizes;
+use advance::Advanced;
+use advance::predict::Table;
+use completion::Progress;
+use completion::pass::ITEMS_FULL;
+use grammar::rules::Rules;
+use item::ITEM_WORDS;
+use parse::State;
+
+// Steps 2 and 3: completes the latest set and the token, and then sum after sum.
+fn complete_token(
+    rules: &Rules,
+    sizes: Sizes,
+    table: &Table,
+    state: State,
+    items: &mut [u32],
+    starts: &[u32],
+    rows: &[u64],
+    queue: &mut [u32],
+    t: usize,
+) -> Progress
+    requires { ⌜ Steppable (grammarFrom (now rules) sizes) (now table) state (wordsOf (now items) (now starts) (now rows) (now queue)) × (t < sizes .tokens) ⌝ }
+    ensures { λ r. ⌜ passOf r (now (items .exit)) (now (queue .exit)) ≡ completed (grammarFrom (now (rules .entry)) sizes) state (wordsOf (now (items .entry)) (now (starts .entry)) (now (rows .entry)) (now (queue .entry))) t ⌝ }
+{
+    let count = sizes.rules;
+    let begun = Progress {
+        stopped: 0,
+        items: state.items,
+        queued: 0,
+    };
+    let scanned = completion::complete(
+        rules,
+        count,
+        items,
+        starts,
+        rows,
+        queue,
+        state.set,
+        t,
+        begun,
+    );
+    completion::sums::complete_all_sums_entirely(rules, count, items, starts, rows, queue, scanned)
+}
+
+// Clears what a refused pass stored and queued.
+fn give_up(items: &mut [u32], queue: &mut [u32], stored: usize)
+    requires { ⌜ itemWords * stored ≤ length (now items) ⌝ }
+    ensures items { λ _. ⌜ now (items .exit) ≡ padded (length (now (items .entry))) (take (itemWords * stored) (now (items .entry))) ⌝ }
+    ensures queue { λ _. ⌜ now (queue .exit) ≡ padded (length (now (queue .entry))) (take 0 (now (queue .entry))) ⌝ }
+{
+    let item_words = items.len();
+    advance::words::clear_words(items, ITEM_WORDS * stored, item_words);
+    let entries = queue.len();
+    advance::words::clear_words(queue, 0, entries);
+}
+
+// The refusal of the push that a pass met.
+fn full(stopped: u32) -> Refusal
+    requires { ⌜ FullAt stopped ⌝ }
+    ensures { λ r. ⌜ refusalNumber r ≡ stopped ⌝ }
+{
+    if stopped == ITEMS_FULL {
+        return Refusal::ItemsFull;
+    }
+    Refusal::QueueFull
+}
+
+// A token: steps 1 to 6, or the refusal that they meet, which leaves state and words as they were.
+pub fn step(
+    rules: &Rules,
+    sizes: Sizes,
+    table: &Table,
+    state: State,
+    items: &mut [u32],
+    starts: &mut [u32],
+    rows: &mut [u64],
+    queue: &mut [u32],
+    t: usize,
+) -> Answer
+    requires { ⌜ Steppable (grammarFrom (now rules) sizes) (now table) state (wordsOf (now items) (now starts) (now rows) (now queue)) ⌝ }
+    ensures { λ r. ⌜ outcomeOf r (wordsOf (now (items .exit)) (now (starts .exit)) (now (rows .exit)) (now (queue .exit))) ≡ stepped (grammarFrom (now (rules .entry)) sizes) (now (table .entry)) state (wordsOf (now (items .entry)) (now (starts .entry)) (now (rows .entry)) (now (queue .entry))) t ⌝ }
+{
+    if t >= sizes.tokens {
+        return Answer::Refused(Refusal::NoToken, state);
+    }
+    let e = state.set;
+    if !bits::has_at(rows, e, t) {
+        return Answer::Refused(Refusal::NotPredicted, state);
+    }
+    let pass = complete_token(rules, sizes, table, state, items, starts, rows, queue, t);
+    let stopped = pass.stopped;
+    if stopped != 0 {
+        give_up(items, queue, state.items);
+        return Answer::Refused(full(stopped), state);
+    }
+    let advanced = advance::advance(
+        rules,
+        sizes.rules,
+        table,
+        state,
+        items,
+        starts,
+        rows,
+        pass.items,
+    );
+    match advanced {
+        Advanced::Refused => Answer::Refused(Refusal::SetsFull, state),
+        Advanced::Done(next) => Answer::Done(next),
+    }
+}

@@ -1,0 +1,209 @@
+// Calls on words cut to their capacities.
+ghost use mathlib.Core.Path.{_≡_};
+ghost use Prim.Native.Nat.{_≤_, _<_};
+ghost use Rattle.grammar.specs.Accepted.{maxRules};
+ghost use Rattle.grammar.specs.Decoded.{rulesIn};
+ghost use Rattle.grammar.specs.Prediction.{Predicts};
+ghost use Rattle.parse.specs.Tells.{Tells};
+ghost use mathlib.Core.List.{_++_};
+ghost use lib.ListN.{length, drop, replicate};
+ghost use Rattle.bits.specs.Width.{rowWords};
+ghost use Rattle.parse.specs.Words.{setRoomOf, within};
+ghost use Rattle.parse.specs.WellFormed.{WellFormed};
+ghost use Rattle.recognizer.specs.Steps.{stepped, ran};
+ghost use Rattle.recognizer.specs.Calls.{inPlace, inPlaceEnded};
+ghost use Rattle.recognizer.specs.Cuts.{begunWords, LatestThere, lastWrapsIn, latestPartIn};
+ghost use Rattle.recognizer.specs.Answers.{outcomeOf, endedOf};
+ghost use Rattle.recognizer.specs.Steppable.{grammarFrom, wordsOf, Steppable};
+use crate::Answer;
+use crate::Ran;
+use crate::Sizes;
+use crate::step::step;
+use advance::predict::Table;
+use bits::Row;
+use bits::WIDTH;
+use grammar::rules::Rules;
+use item::ITEM_WORDS;
+use parse::State;
+use parse::room::item_room;
+use parse::room::queue_room;
+use parse::room::set_room;
+
+// Whether the state is well formed in the words within the capacities.
+pub fn well_formed(
+    rules: &Rules,
+    sizes: Sizes,
+    state: State,
+    items: &[u32],
+    starts: &[u32],
+    rows: &[u64],
+    queue: &[u32],
+) -> bool
+    requires { ⌜ sizes .rules ≤ maxRules ⌝ }
+    ensures { λ r. ⌜ Tells r (WellFormed (sizes .symbols) (rulesIn (now (rules .entry)) (sizes .rules)) state (within (wordsOf (now (items .entry)) (now (starts .entry)) (now (rows .entry)) (now (queue .entry))))) ⌝ }
+{
+    let sets = set_room(starts, rows);
+    if sets == 0 {
+        return false;
+    }
+    let item_end = ITEM_WORDS * item_room(items);
+    let start_end = sets + 1;
+    let row_end = WIDTH * sets;
+    let queue_end = queue_room(queue);
+    parse::well_formed(
+        rules,
+        sizes.symbols,
+        sizes.rules,
+        state,
+        &items[..item_end],
+        &starts[..start_end],
+        &rows[..row_end],
+        &queue[..queue_end],
+    )
+}
+
+// A token's steps in the words within the capacities. The words past them stay.
+pub fn step_within(
+    rules: &Rules,
+    sizes: Sizes,
+    table: &Table,
+    state: State,
+    items: &mut [u32],
+    starts: &mut [u32],
+    rows: &mut [u64],
+    queue: &mut [u32],
+    t: usize,
+) -> Answer
+    requires { ⌜ Steppable (grammarFrom (now rules) sizes) (now table) state (within (wordsOf (now items) (now starts) (now rows) (now queue))) ⌝ }
+    ensures { λ r. ⌜ outcomeOf r (wordsOf (now (items .exit)) (now (starts .exit)) (now (rows .exit)) (now (queue .exit))) ≡ inPlace (wordsOf (now (items .entry)) (now (starts .entry)) (now (rows .entry)) (now (queue .entry))) (stepped (grammarFrom (now (rules .entry)) sizes) (now (table .entry)) state (within (wordsOf (now (items .entry)) (now (starts .entry)) (now (rows .entry)) (now (queue .entry)))) t) ⌝ }
+{
+    let item_end = ITEM_WORDS * item_room(items);
+    let sets = set_room(starts, rows);
+    let start_end = sets + 1;
+    let row_end = WIDTH * sets;
+    let queue_end = queue_room(queue);
+    step(
+        rules,
+        sizes,
+        table,
+        state,
+        &mut items[..item_end],
+        &mut starts[..start_end],
+        &mut rows[..row_end],
+        &mut queue[..queue_end],
+        t,
+    )
+}
+
+// Reads tokens up to the first that is refused, in the words within the capacities.
+pub fn run_within(
+    rules: &Rules,
+    sizes: Sizes,
+    table: &Table,
+    state: State,
+    items: &mut [u32],
+    starts: &mut [u32],
+    rows: &mut [u64],
+    queue: &mut [u32],
+    tokens: &[u16],
+) -> Ran
+    requires { ⌜ Steppable (grammarFrom (now rules) sizes) (now table) state (within (wordsOf (now items) (now starts) (now rows) (now queue))) × Predicts (grammarFrom (now rules) sizes) rowWords (now table) ⌝ }
+    ensures { λ r. ⌜ endedOf r (wordsOf (now (items .exit)) (now (starts .exit)) (now (rows .exit)) (now (queue .exit))) ≡ inPlaceEnded (wordsOf (now (items .entry)) (now (starts .entry)) (now (rows .entry)) (now (queue .entry))) (ran (grammarFrom (now (rules .entry)) sizes) (now (table .entry)) state (within (wordsOf (now (items .entry)) (now (starts .entry)) (now (rows .entry)) (now (queue .entry)))) (now (tokens .entry))) ⌝ }
+{
+    let mut now = state;
+    let mut taken = 0;
+    while taken < tokens.len() {
+        match step_within(
+            rules,
+            sizes,
+            table,
+            now,
+            items,
+            starts,
+            rows,
+            queue,
+            wide(tokens[taken]),
+        ) {
+            Answer::Done(next) => now = next,
+            Answer::Refused(why, kept) => return Ran {
+                answer: Answer::Refused(why, kept),
+                taken: taken,
+            },
+        }
+        taken += 1;
+    }
+    Ran {
+        answer: Answer::Done(now),
+        taken: taken,
+    }
+}
+
+// Clears the words within the capacities, and puts a row into row 0.
+pub fn begin(row: &Row, items: &mut [u32], starts: &mut [u32], rows: &mut [u64], queue: &mut [u32])
+    requires { ⌜ (0 < setRoomOf (now starts) (now rows)) × (length (now row) ≡ rowWords) ⌝ }
+    ensures { λ _. ⌜ wordsOf (now (items .exit)) (now (starts .exit)) (now (rows .exit)) (now (queue .exit)) ≡ begunWords (now (row .entry)) (wordsOf (now (items .entry)) (now (starts .entry)) (now (rows .entry)) (now (queue .entry))) ⌝ }
+{
+    let sets = set_room(starts, rows);
+    let item_end = ITEM_WORDS * item_room(items);
+    clear_front(items, item_end);
+    clear_front(starts, sets + 1);
+    clear_front_rows(rows, WIDTH * sets);
+    let queue_end = queue_room(queue);
+    clear_front(queue, queue_end);
+    bits::put_at(rows, 0, row);
+}
+
+// Clears the words before `end`.
+fn clear_front(words: &mut [u32], end: usize)
+    requires { ⌜ end ≤ length (now words) ⌝ }
+    ensures { λ _. ⌜ now (words .exit) ≡ replicate end 0 ++ drop end (now (words .entry)) ⌝ }
+{
+    for i in 0..end {
+        words[i] = 0;
+    }
+}
+
+fn clear_front_rows(words: &mut [u64], end: usize)
+    requires { ⌜ end ≤ length (now words) ⌝ }
+    ensures { λ _. ⌜ now (words .exit) ≡ replicate end 0 ++ drop end (now (words .entry)) ⌝ }
+{
+    for i in 0..end {
+        words[i] = 0;
+    }
+}
+
+// Whether the last item of the latest set has rule 0.
+pub fn last_wraps(state: State, items: &[u32], starts: &[u32]) -> bool
+    requires { ⌜ LatestThere state (now items) (now starts) ⌝ }
+    ensures { λ r. ⌜ r ≡ lastWrapsIn state (now (items .entry)) (now (starts .entry)) ⌝ }
+{
+    let set = state.set;
+    let end = state.items;
+    if wide32(starts[set]) < end {
+        return item::rule(items, end - 1) == 0;
+    }
+    false
+}
+
+// The part of the item words that holds the latest set.
+pub fn latest_part<'a>(state: State, items: &'a [u32], starts: &[u32]) -> &'a [u32]
+    requires { ⌜ LatestThere state (now items) (now starts) ⌝ }
+    ensures { λ r. ⌜ now r ≡ latestPartIn state (now (items .entry)) (now (starts .entry)) ⌝ }
+{
+    let set = state.set;
+    let from = ITEM_WORDS * wide32(starts[set]);
+    let to = ITEM_WORDS * state.items;
+    &items[from..to]
+}
+
+fn wide(token: u16) -> usize
+    ensures { λ r. ⌜ r ≡ token ⌝ }
+{
+    token as usize
+}
+
+fn wide32(word: u32) -> usize
+    ensures { λ r. ⌜ r ≡ word ⌝ }
+{
+    word as usize
+}
