@@ -23,6 +23,9 @@ pub mod Again
 pub mod Singles
 pub mod Computed
 pub mod Tabled
+pub mod Carving
+pub mod Turning
+pub mod Given
 pub mod Cutting
 pub mod Readying
 pub mod Beginning

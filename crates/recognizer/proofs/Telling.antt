@@ -87,3 +87,13 @@ module _ {file : List ℕ} {s : State} {w : Words} where
           (finished-sentence (formed .checked .accepted) (lasts-holding (lasts h) (formed .checked)));
     };
   }
+
+  -- What a call does tells what it means.
+  pub token-means : {t : ℕ} {o : Outcome} → Takes file s w t o → Takes file s w t o × TokenTells file s w t (o .number)
+  token-means takes = (takes, token-tells takes)
+
+  pub run-means : {us : List ℕ} {e : Ended} → Runs file s w us e → Runs file s w us e × RunTells file s w us e
+  run-means runs = (runs, run-tells runs)
+
+  pub finished-means : {n : ℕ} {yes : Bool} → Finishes file s w n yes → Finishes file s w n yes × FinishedTells file s w n yes
+  finished-means finishes = (finishes, finished-tells finishes)
