@@ -5,6 +5,7 @@ use Rattle.recognizer.specs.Calls.{CallFault, Runs}
 use Rattle.recognizer.specs.Steppable.{wordsOf}
 use Rattle.recognizer.proofs.Readying.{opened-fault, opened-sound, sound-readable, sound-few, sound-checked, told-ill-formed, told-formed}
 use Rattle.recognizer.proofs.Given.{can-step, runs}
+use Rattle.recognizer.proofs.Telling.{run-means}
 use Rattle.recognizer.proofs.run.Statement.{statement}
 use Rattle.recognizer.proofs.run.Tie as tie
 
@@ -16,7 +17,7 @@ enum-known-why c = c .match .keys1
 
 returns : tie.Need-returns
 returns c =
-    Runs.refused (CallFault.file-fault (opened-fault _ _ (c .before .before .before .«open» .ensures) _ (c .before .why .given .1)))
+    run-means (Runs.refused (CallFault.file-fault (opened-fault _ _ (c .before .before .before .«open» .ensures) _ (c .before .why .given .1))))
 
 enum-known-found : tie.Need-enum-known-found
 enum-known-found c = c .match .keys2
@@ -48,7 +49,7 @@ returns-2 c =
     let a = c .before .before .before .before .before .before .before .before .before .before .before .before .before .before .before .before .before .before .args in
     let w = wordsOf (a .items .now) (a .starts .now) (a .rows .now) (a .queue .now) in
     let sound = opened-sound _ _ (c .before .before .before .before .before .before .before .before .before .before .before .«open» .ensures) _ (c .before .before .before .before .before .before .before .before .before .found .given .1) in
-    Runs.refused (told-ill-formed _ _ sound _ (c .before .before .before .before .before .before .before .decode .ensures) (a .state) w _ (c .before .well-formed .ensures) (c .if1 .taken))
+    run-means (Runs.refused (told-ill-formed _ _ sound _ (c .before .before .before .before .before .before .before .decode .ensures) (a .state) w _ (c .before .well-formed .ensures) (c .if1 .taken)))
 
 table-requires : tie.Need-table-requires
 table-requires c κs =
@@ -85,7 +86,7 @@ returns-3 c =
     let w = wordsOf (a .items .now) (a .starts .now) (a .rows .now) (a .queue .now) in
     let sound = opened-sound _ _ (c .before .before .before .before .before .before .before .before .before .before .before .before .before .before .before .before .before .before .before .before .before .before .before .before .before .before .before .before .«open» .ensures) _ (c .before .before .before .before .before .before .before .before .before .before .before .before .before .before .before .before .before .before .before .before .before .before .before .before .before .before .found .given .1) in
     let formed = told-formed _ _ sound _ (c .before .before .before .before .before .before .before .before .before .before .before .before .before .before .before .before .before .before .before .before .before .before .before .before .decode .ensures) (a .state) w _ (c .before .before .before .before .before .before .before .before .before .before .before .before .before .before .before .before .before .before .well-formed .ensures) (c .before .before .before .before .before .before .before .before .before .before .before .before .before .before .before .before .before .if1 .left) in
-    runs formed (c .before .before .before .before .before .before .before .before .before .before .before .before .before .before .before .table .ensures (c .before .before .before .before .before .before .before .before .before .before .before .before .before .before .before .before .before .before .before .before .before .before .before .before .before .before .found .given .0 .0 .tokens)) (a .tokens .now) (c .before .before .before .before .before .before .before .before .run-within .ensures)
+    run-means (runs formed (c .before .before .before .before .before .before .before .before .before .before .before .before .before .before .before .table .ensures (c .before .before .before .before .before .before .before .before .before .before .before .before .before .before .before .before .before .before .before .before .before .before .before .before .before .before .found .given .0 .0 .tokens)) (a .tokens .now) (c .before .before .before .before .before .before .before .before .run-within .ensures))
 
 pub run-spec : {M : Type 1} → statement M
 run-spec =

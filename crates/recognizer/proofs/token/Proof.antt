@@ -5,6 +5,7 @@ use Rattle.recognizer.specs.Calls.{CallFault, Takes}
 use Rattle.recognizer.specs.Steppable.{wordsOf}
 use Rattle.recognizer.proofs.Readying.{opened-fault, opened-sound, sound-readable, sound-few, sound-checked, told-ill-formed, told-formed}
 use Rattle.recognizer.proofs.Given.{can-step, takes}
+use Rattle.recognizer.proofs.Telling.{token-means}
 use Rattle.recognizer.proofs.token.Statement.{statement}
 use Rattle.recognizer.proofs.token.Tie as tie
 
@@ -16,7 +17,7 @@ enum-known-why c = c .match .keys1
 
 returns : tie.Need-returns
 returns c =
-    Takes.refused (CallFault.file-fault (opened-fault _ _ (c .before .before .before .«open» .ensures) _ (c .before .why .given .1)))
+    token-means (Takes.refused (CallFault.file-fault (opened-fault _ _ (c .before .before .before .«open» .ensures) _ (c .before .why .given .1))))
 
 enum-known-found : tie.Need-enum-known-found
 enum-known-found c = c .match .keys2
@@ -48,7 +49,7 @@ returns-2 c =
     let a = c .before .before .before .before .before .before .before .before .before .before .before .before .before .before .before .before .before .args in
     let w = wordsOf (a .items .now) (a .starts .now) (a .rows .now) (a .queue .now) in
     let sound = opened-sound _ _ (c .before .before .before .before .before .before .before .before .before .before .before .«open» .ensures) _ (c .before .before .before .before .before .before .before .before .before .found .given .1) in
-    Takes.refused (told-ill-formed _ _ sound _ (c .before .before .before .before .before .before .before .decode .ensures) (a .state) w _ (c .before .well-formed .ensures) (c .if1 .taken))
+    token-means (Takes.refused (told-ill-formed _ _ sound _ (c .before .before .before .before .before .before .before .decode .ensures) (a .state) w _ (c .before .well-formed .ensures) (c .if1 .taken)))
 
 table-requires : tie.Need-table-requires
 table-requires c κs =
@@ -84,7 +85,7 @@ returns-3 c =
     let w = wordsOf (a .items .now) (a .starts .now) (a .rows .now) (a .queue .now) in
     let sound = opened-sound _ _ (c .before .before .before .before .before .before .before .before .before .before .before .before .before .before .before .before .before .before .before .before .before .before .before .before .before .before .before .before .«open» .ensures) _ (c .before .before .before .before .before .before .before .before .before .before .before .before .before .before .before .before .before .before .before .before .before .before .before .before .before .before .found .given .1) in
     let formed = told-formed _ _ sound _ (c .before .before .before .before .before .before .before .before .before .before .before .before .before .before .before .before .before .before .before .before .before .before .before .before .decode .ensures) (a .state) w _ (c .before .before .before .before .before .before .before .before .before .before .before .before .before .before .before .before .before .before .well-formed .ensures) (c .before .before .before .before .before .before .before .before .before .before .before .before .before .before .before .before .before .if1 .left) in
-    takes formed (c .before .before .before .before .before .before .before .before .before .before .before .before .before .before .before .table .ensures (c .before .before .before .before .before .before .before .before .before .before .before .before .before .before .before .before .before .before .before .before .before .before .before .before .before .before .found .given .0 .0 .tokens)) (a .t) (c .before .before .before .before .before .before .before .before .step-within .ensures)
+    token-means (takes formed (c .before .before .before .before .before .before .before .before .before .before .before .before .before .before .before .table .ensures (c .before .before .before .before .before .before .before .before .before .before .before .before .before .before .before .before .before .before .before .before .before .before .before .before .before .before .found .given .0 .0 .tokens)) (a .t) (c .before .before .before .before .before .before .before .before .step-within .ensures))
 
 pub token-spec : {M : Type 1} → statement M
 token-spec =
