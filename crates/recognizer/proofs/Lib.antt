@@ -15,6 +15,7 @@ pub mod Refusing
 pub mod Holding
 pub mod Running
 pub mod Agree
+pub mod Answered
 pub mod Lasting
 pub mod Finishing
 pub mod Telling
