@@ -1,5 +1,5 @@
 -- What lasts along a history: the file is sound, the state well formed, and the chart holds for the accepted tokens.
-use mathlib.Core.Path.{_≡_, refl, sym, _∙_, subst, subst₂}
+use mathlib.Core.Path.{_≡_, refl, sym, subst, subst₂}
 use mathlib.Core.Logic.{_⊎_, ⊎-elim}
 use mathlib.Core.List.{List, [], _∷_, _++_}
 use Prim.Native.Nat.{ℕ, _/_, _≤_, _<_}
@@ -7,27 +7,17 @@ use native.Mathlib.Omega.{arith}
 use lib.ListN.{length, take}
 use Rattle.bits.specs.Width.{rowWords}
 use Rattle.grammar.specs.Rules.{Grammar}
-use Rattle.grammar.specs.Accepted.{Accepted}
-use Rattle.grammar.specs.Prediction.{Predicts}
-use Rattle.prediction.proofs.Reaching.{predicts-unique}
 use Rattle.parse.specs.declared.State.{State}
 use Rattle.parse.specs.Words.{Words, setRoom, within, beyond, behind}
 use Rattle.parse.proofs.Capacities.{SameSizes, sets-room, within-new}
 use Rattle.recognizer.specs.Steps.{Outcome, Ended, stepped, ran}
 use Rattle.recognizer.specs.Calls.{Checked, Sound, FileFault, StartFault, CallFault, Starts, Takes, Runs}
 use Rattle.recognizer.specs.Histories.{History}
+use Rattle.recognizer.proofs.Agree.{checked-grammar, no-file-fault}
 use Rattle.recognizer.proofs.Cut.{within-cut, sizes-refl}
 use Rattle.recognizer.proofs.Starting.{started-sizes}
 use Rattle.recognizer.proofs.Holding.{Holding, Accepts, Refuses, refused-some, start-holds, step-judged}
 use Rattle.recognizer.proofs.Running.{RunHolds, run-holds}
-
--- A file gives one grammar and one table.
-pub sound-grammar : {file : List ℕ} {g g′ : Grammar} {table table′ : List (List ℕ)} → Sound file g table → Sound file g′ table′ → g ≡ g′
-sound-grammar a b = sym (a .checked .is) ∙ b .checked .is
-
-pub sound-table : {file : List ℕ} {g g′ : Grammar} {table table′ : List (List ℕ)} → Sound file g table → Sound file g′ table′ → table ≡ table′
-sound-table {g = g} {table = table} {table′ = table′} a b =
-    predicts-unique g rowWords table table′ (a .predicts) (subst (λ (k : Grammar). Predicts k rowWords table′) (sym (sound-grammar a b)) (b .predicts))
 
 pub record Lasts (file : List ℕ) (s : State) (w : Words) (ts : List ℕ) : Type 0 where
   pub grammar : Grammar
@@ -38,7 +28,7 @@ pub record Lasts (file : List ℕ) (s : State) (w : Words) (ts : List ℕ) : Typ
 -- It may be said of any grammar that the file gives.
 pub lasts-holding : {file : List ℕ} {s : State} {w : Words} {ts : List ℕ} {g : Grammar} → Lasts file s w ts → Checked file g → Holding g ts s (within w)
 lasts-holding {s = s} {w = w} {ts = ts} l checked =
-    subst (λ (k : Grammar). Holding k ts s (within w)) (sym (l .sound .checked .is) ∙ checked .is) (l .holding)
+    subst (λ (k : Grammar). Holding k ts s (within w)) (checked-grammar (l .sound .checked) checked) (l .holding)
 
 -- There is room for a set.
 holding-room : {g : Grammar} {ts : List ℕ} {s : State} (w : Words) → Holding g ts s (within w) → 1 ≤ setRoom w
@@ -50,14 +40,10 @@ in-place : {file : List ℕ} {g : Grammar} {table : List (List ℕ)} {ts : List 
 in-place {g = g} {table = table} {ts = ts} {s = s} {v = v} w sound some same h =
     record { grammar = g; table = table; sound = sound; holding = subst (Holding g ts s) (sym (within-new w v some same)) h }
 
--- A fault of the file is not 0, and a sound file has none.
+-- A fault of the file is not 0.
 fault-some : {file : List ℕ} {n : ℕ} → FileFault file n → n ≡ 0 → ⊥
 fault-some (FileFault.malformed m) e = omega arith
 fault-some (FileFault.broken w n) e = omega arith
-
-no-file-fault : {file : List ℕ} {g : Grammar} {n : ℕ} → Checked file g → FileFault file n → ⊥
-no-file-fault checked (FileFault.malformed m) = checked .whole m
-no-file-fault checked (FileFault.broken w n) = n (subst Accepted (sym (checked .is)) (checked .accepted))
 
 -- A start that is refused is not answered 0.
 start-some : {file : List ℕ} {w : Words} {n : ℕ} → StartFault file w n → n ≡ 0 → ⊥

@@ -14,11 +14,14 @@ pub mod NextSet
 pub mod Refusing
 pub mod Holding
 pub mod Running
+pub mod Agree
+pub mod Answered
 pub mod Lasting
 pub mod Finishing
 pub mod Telling
 pub mod OneToken
 pub mod Again
+pub mod Singles
 pub mod Computed
 pub mod Tabled
 pub mod Carving

@@ -1,0 +1,3 @@
+-- Document 01's numbers to try.
+pub mod Trials
+pub mod Numbers

@@ -1,0 +1,104 @@
+-- Document 01's marked numbers, those of nodes and those of parses, as rows of one table under one statement.
+use mathlib.Core.Path.{refl, sym, subst}
+use mathlib.Core.Bool.{true, false}
+use mathlib.Core.List.{List, [], _∷_, _++_}
+use Prim.Native.Nat.{ℕ}
+use Rattle.laws.specs.Bits.{union}
+use Rattle.laws.specs.Records as records
+use Rattle.laws.specs.Turns.{over, until}
+use Rattle.binary_heap.specs.Sift.{move, goesUp, rise, siftUp, takesRight, child, goesDown, sink, siftDown}
+use Rattle.binary_heap.specs.Heap.{pushed, popped}
+use Rattle.binary_heap.specs.Words.{pushWords, popWords}
+use Rattle.grammar.specs.Rules.{Grammar}
+use Rattle.grammar.specs.File.{rulesFrom, grammarOf}
+use Rattle.completion.specs.Pass.{andThen, store, enqueue}
+use Rattle.completion.specs.Complete.{completeMedial, completeMedialItems, completeUnary, completeUnaryPredictions, completeBinary, completeBinaryPredictions, complete}
+use Rattle.completion.specs.Sums.{nextSummand, popSum, completeSum, completeAllSums}
+use Rattle.advance.specs.NewItems.{itemsFrom, insert, sortInto, binary}
+use Rattle.advance.specs.Advance.{highest, greatestOrigin, predictions}
+use Rattle.recognizer.specs.Steps.{advanced, stepped, ran}
+use Rattle.recognizer.specs.Calls.{Sound}
+use Rattle.recognizer.proofs.Tabled.{rowsOf, tableOf}
+use Rattle.recognizer.proofs.Examples.{rows-a, rows-b, sound-a, sound-b}
+use Rattle.node.proofs.Numbers.{Row, row, All, joined, nodeRows, numbers}
+use Rattle.paper.proofs.Trials.{zeroed, Printed, ended, tried}
+
+-- Grammar A.
+abbrev pub A : List ℕ
+A =
+    0x01
+    ∷ 0x00 ∷ 0x00 ∷ 0x00 ∷ 0x23
+    ∷ 0x00 ∷ 0x06
+    ∷ 0x00 ∷ 0x02
+    ∷ 0x00 ∷ 0x04
+    ∷ 0x00 ∷ 0x04 ∷ 0x00 ∷ 0x02 ∷ 0x00 ∷ 0x05
+    ∷ 0x00 ∷ 0x02 ∷ 0x00 ∷ 0x02 ∷ 0x00 ∷ 0x03
+    ∷ 0x00 ∷ 0x02 ∷ 0x00 ∷ 0x00 ∷ 0xFF ∷ 0xFF
+    ∷ 0x00 ∷ 0x03 ∷ 0x00 ∷ 0x01 ∷ 0x00 ∷ 0x02
+    ∷ []
+
+-- Grammar B: T 3, N 8; rules 6::=3 7, 3::=3 4, 3::=4, 4::=0 5, 5::=1 2.
+abbrev pub B : List ℕ
+B =
+    0x01
+    ∷ 0x00 ∷ 0x00 ∷ 0x00 ∷ 0x29
+    ∷ 0x00 ∷ 0x08
+    ∷ 0x00 ∷ 0x03
+    ∷ 0x00 ∷ 0x05
+    ∷ 0x00 ∷ 0x06 ∷ 0x00 ∷ 0x03 ∷ 0x00 ∷ 0x07
+    ∷ 0x00 ∷ 0x03 ∷ 0x00 ∷ 0x03 ∷ 0x00 ∷ 0x04
+    ∷ 0x00 ∷ 0x03 ∷ 0x00 ∷ 0x04 ∷ 0xFF ∷ 0xFF
+    ∷ 0x00 ∷ 0x04 ∷ 0x00 ∷ 0x00 ∷ 0x00 ∷ 0x05
+    ∷ 0x00 ∷ 0x05 ∷ 0x00 ∷ 0x01 ∷ 0x00 ∷ 0x02
+    ∷ []
+
+-- The check accepts them, and these are their prediction tables: `told` says of both that the calls answer as the rows below say.
+pub checked-a : Sound A (grammarOf A) (tableOf rows-a)
+checked-a = subst (λ (g : Grammar). Sound A g (tableOf rows-a)) (sym (sound-a .checked .is)) sound-a
+
+pub checked-b : Sound B (grammarOf B) (tableOf rows-b)
+checked-b = subst (λ (g : Grammar). Sound B g (tableOf rows-b)) (sym (sound-b .checked .is)) sound-b
+
+-- A trial of each, with the capacities I, E and Q.
+abbrev a : ℕ → ℕ → ℕ → List ℕ → Printed
+a i e q = tried A (tableOf rows-a) (zeroed i e q)
+
+abbrev b : ℕ → ℕ → ℕ → List ℕ → Printed
+b i e q = tried B (tableOf rows-b) (zeroed i e q)
+
+-- The rows of parses.
+unfoldable pub parseRows : List Row
+parseRows =
+    -- A: "0" finished; items then 0 1, 0 0; set 1
+    row (a 8 4 4 (0 ∷ [])) (record { number = 0; taken = 1; set = 1; items = 0 ∷ 1 ∷ 0 ∷ 0 ∷ []; finished = true })
+    -- "0 1" accepted, not finished
+    ∷ row (a 8 4 4 (0 ∷ 1 ∷ [])) (record { number = 0; taken = 2; set = 2; items = 0 ∷ 1 ∷ 0 ∷ 0 ∷ 1 ∷ 3 ∷ []; finished = false })
+    -- "0 1 0" finished, six items
+    ∷ row (a 8 4 4 (0 ∷ 1 ∷ 0 ∷ []))
+    (record { number = 0; taken = 3; set = 3; items = 0 ∷ 1 ∷ 0 ∷ 0 ∷ 1 ∷ 3 ∷ 0 ∷ 1 ∷ 2 ∷ 1 ∷ 0 ∷ 0 ∷ []; finished = true })
+    -- "1": 6
+    ∷ row (a 8 4 4 (1 ∷ [])) (record { number = 6; taken = 0; set = 0; items = []; finished = false })
+    -- "0 0": 6 at the second
+    ∷ row (a 8 4 4 (0 ∷ 0 ∷ [])) (record { number = 6; taken = 1; set = 1; items = 0 ∷ 1 ∷ 0 ∷ 0 ∷ []; finished = true })
+    -- token 2: 5
+    ∷ row (a 8 4 4 (2 ∷ [])) (record { number = 5; taken = 0; set = 0; items = []; finished = false })
+    -- "0" with I = 2: 7; with I = 3: 0
+    ∷ row (a 2 4 4 (0 ∷ [])) (record { number = 7; taken = 0; set = 0; items = []; finished = false })
+    ∷ row (a 3 4 4 (0 ∷ [])) (record { number = 0; taken = 1; set = 1; items = 0 ∷ 1 ∷ 0 ∷ 0 ∷ []; finished = true })
+    -- B: "0 1 2" ends at set 2 with three items; E = 3 suffices
+    ∷ row (b 8 8 4 (0 ∷ 1 ∷ 2 ∷ [])) (record { number = 0; taken = 3; set = 2; items = 0 ∷ 3 ∷ 0 ∷ 1 ∷ 0 ∷ 0 ∷ []; finished = true })
+    ∷ row (b 8 3 4 (0 ∷ 1 ∷ 2 ∷ [])) (record { number = 0; taken = 3; set = 2; items = 0 ∷ 3 ∷ 0 ∷ 1 ∷ 0 ∷ 0 ∷ []; finished = true })
+    -- a further 0 then gives 9
+    ∷ row (b 8 3 4 (0 ∷ 1 ∷ 2 ∷ 0 ∷ [])) (record { number = 9; taken = 3; set = 2; items = 0 ∷ 3 ∷ 0 ∷ 1 ∷ 0 ∷ 0 ∷ []; finished = true })
+    ∷ []
+
+parse-numbers : All parseRows
+unfolding parseRows tried ended rulesFrom rowsOf ran stepped advanced complete completeMedial completeMedialItems completeUnary completeUnaryPredictions completeBinary completeBinaryPredictions andThen store enqueue completeAllSums completeSum popSum nextSummand over until pushWords popWords pushed popped move goesUp rise siftUp takesRight child goesDown sink siftDown itemsFrom insert sortInto binary highest greatestOrigin predictions union records.flat
+parse-numbers = (refl, (refl, (refl, (refl, (refl, (refl, (refl, (refl, (refl, (refl, (refl, tt)))))))))))
+
+-- ALL OF THEM, in one table.
+abbrev pub rows : List Row
+rows = nodeRows ++ parseRows
+
+pub printed-numbers : All rows
+printed-numbers = joined nodeRows parseRows numbers parse-numbers

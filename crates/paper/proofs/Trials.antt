@@ -1,0 +1,79 @@
+-- A trial: a start in words of given capacities, a run of tokens, and then whether it is finished.
+use mathlib.Core.Path.{_≡_, ap, _∙_, subst}
+use mathlib.Core.Bool.{Bool}
+use mathlib.Core.List.{List}
+use Prim.Native.Nat.{ℕ, _+_, _*_, _<_}
+use lib.ListN.{take, replicate}
+use Rattle.bits.specs.Width.{rowWords}
+use Rattle.item.specs.Item.{itemWords}
+use Rattle.grammar.specs.File.{grammarOf}
+use Rattle.parse.specs.declared.State.{State}
+use Rattle.parse.specs.Words.{Words, setRoom, within}
+use Rattle.recognizer.specs.Steps.{Outcome, Ended, started, ran, lastWraps}
+use Rattle.recognizer.specs.Calls.{Sound, Formed, inPlace, inPlaceEnded, Starts, Runs, Finishes}
+use Rattle.recognizer.specs.Histories.{History}
+use Rattle.recognizer.proofs.Agree.{starts-agree, runs-agree, finishes-agree}
+use Rattle.recognizer.proofs.Again.{started-ready}
+use Rattle.recognizer.proofs.Lasting.{lasts, lasts-holding}
+
+-- Words of 0 with the capacities I, E and Q.
+abbrev pub zeroed : ℕ → ℕ → ℕ → Words
+zeroed i e q =
+    record {
+      items = replicate (itemWords * i) 0;
+      starts = replicate (e + 1) 0;
+      rows = replicate (rowWords * e) 0;
+      queue = replicate q 0;
+    }
+
+-- What document 01 prints of a trial: the answer's number, the tokens taken, the set, the words of the items, and whether it is finished.
+pub record Printed : Type 0 where
+  pub number : ℕ
+  pub taken : ℕ
+  pub set : ℕ
+  pub items : List ℕ
+  pub finished : Bool
+
+abbrev pub printedOf : Ended → Bool → Printed
+printedOf e done =
+    record {
+      number = e .outcome .number;
+      taken = e .taken;
+      set = e .outcome .state .set;
+      items = take (itemWords * e .outcome .state .items) (e .outcome .words .items);
+      finished = done;
+    }
+
+module _ (file : List ℕ) (table : List (List ℕ)) (w : Words) where
+  -- What the steps of document 01 give: a start, and then a run.
+  abbrev begun : Outcome
+  begun = inPlace w (started (grammarOf file) table (within w))
+
+  unfoldable pub ended : List ℕ → Ended
+  ended ts = inPlaceEnded (begun .words) (ran (grammarOf file) table (begun .state) (within (begun .words)) ts)
+
+  unfoldable pub tried : List ℕ → Printed
+  tried ts = printedOf (ended ts) (lastWraps (ended ts .outcome .state) (within (ended ts .outcome .words)))
+
+module _ {file : List ℕ} {table : List (List ℕ)} (sound : Sound file (grammarOf file) table) {s : State} {w : Words} (room : 0 < setRoom w) where
+  begins : {o : Outcome} → Starts file s w o → o ≡ begun file table w
+  begins starts = starts-agree starts (Starts.done sound room)
+
+  ends : {o : Outcome} {ts : List ℕ} {e : Ended} → Starts file s w o → Runs file (o .state) (o .words) ts e → e ≡ ended file table w ts
+  unfolding ended
+  ends {ts = ts} {e = e} starts runs =
+      runs-agree (subst (λ (o : Outcome). Runs file (o .state) (o .words) ts e) (begins starts) runs) (Runs.done (started-ready w sound room))
+
+  -- WHATEVER THE THREE CALLS ANSWER, by their statements, over any old state, is what the steps give.
+  pub told : {o : Outcome} {ts : List ℕ} {e : Ended} {n : ℕ} {yes : Bool} → Starts file s w o → Runs file (o .state) (o .words) ts e
+      → Finishes file (e .outcome .state) (e .outcome .words) n yes → printedOf e yes ≡ tried file table w ts
+  unfolding tried
+  told {ts = ts} {e = e} starts runs finishes =
+      ap (printedOf e) (finishes-agree finishes (Finishes.done formed) .1)
+      ∙ ap (λ (e : Ended). printedOf e (lastWraps (e .outcome .state) (within (e .outcome .words)))) (ends starts runs)
+    where
+      formed : Formed file (e .outcome .state) (e .outcome .words) (grammarOf file)
+      formed = record {
+        checked = sound .checked;
+        well-formed = lasts-holding (lasts (History.run (History.fresh starts (ap (λ (o : Outcome). o .number) (begins starts))) runs)) (sound .checked) .well;
+      }
