@@ -21,3 +21,10 @@ pub mod OneToken
 pub mod Again
 pub mod Computed
 pub mod Tabled
+pub mod Carving
+pub mod Turning
+pub mod Given
+pub mod Cutting
+pub mod Readying
+pub mod Beginning
+pub mod Examples
