@@ -1,0 +1,315 @@
+//! The rule reader of the load balancer, over its proved static library. Safe: no call here can be made in a way that the library does
+//! not take. Nothing is allocated but by the caller.
+//!
+//! ```text
+//! let mut words = Words::largest();
+//! let mut parse = Parse::start(grammar, words.lend())?;
+//! parse.run(&[0, 1, 0]).answer?;
+//! assert!(parse.finished()?);
+//! ```
+
+mod raw;
+
+/// Why a call did nothing: document 01's numbers 1 to 12.
+#[derive(Clone, Copy, Debug, PartialEq, Eq)]
+#[repr(u32)]
+pub enum Refusal {
+    Malformed = 1,
+    Broken = 2,
+    NoSets = 3,
+    IllFormed = 4,
+    NoToken = 5,
+    NotPredicted = 6,
+    ItemsFull = 7,
+    QueueFull = 8,
+    SetsFull = 9,
+    Unfit = 10,
+    NoRoom = 11,
+    NoNode = 12,
+}
+
+impl Refusal {
+    const ALL: [Refusal; 12] = [
+        Refusal::Malformed,
+        Refusal::Broken,
+        Refusal::NoSets,
+        Refusal::IllFormed,
+        Refusal::NoToken,
+        Refusal::NotPredicted,
+        Refusal::ItemsFull,
+        Refusal::QueueFull,
+        Refusal::SetsFull,
+        Refusal::Unfit,
+        Refusal::NoRoom,
+        Refusal::NoNode,
+    ];
+
+    /// The number of document 01.
+    pub fn number(self) -> u32 {
+        self as u32
+    }
+}
+
+fn answer(number: u32) -> Result<(), Refusal> {
+    match number.checked_sub(1) {
+        None => Ok(()),
+        Some(place) => Err(Refusal::ALL[place as usize]),
+    }
+}
+
+/// Checks a grammar file of version 1.
+pub fn check(file: &[u8]) -> Result<(), Refusal> {
+    answer(unsafe { raw::brinesaddle_check(file.as_ptr(), file.len()) })
+}
+
+/// The words that a parse lives in. More may be lent than count; words past the capacities are never touched.
+pub struct Lent<'a> {
+    pub items: &'a mut [u32],
+    pub starts: &'a mut [u32],
+    pub rows: &'a mut [u64],
+    pub queue: &'a mut [u32],
+}
+
+/// Words of one's own.
+pub struct Words {
+    pub items: Vec<u32>,
+    pub starts: Vec<u32>,
+    pub rows: Vec<u64>,
+    pub queue: Vec<u32>,
+}
+
+impl Words {
+    /// Room for so many items, sets and queue entries.
+    pub fn new(items: usize, sets: usize, queue: usize) -> Words {
+        Words { items: vec![0; 2 * items], starts: vec![0; sets + 1], rows: vec![0; 2 * sets], queue: vec![0; queue] }
+    }
+
+    /// The largest capacities.
+    pub fn largest() -> Words {
+        Words::new(4096, 1024, 1024)
+    }
+
+    pub fn lend(&mut self) -> Lent<'_> {
+        Lent { items: &mut self.items, starts: &mut self.starts, rows: &mut self.rows, queue: &mut self.queue }
+    }
+}
+
+/// A state by value. It means something only with the grammar and the words that it came with; with others a call answers 4, or reads
+/// another parse.
+#[derive(Clone, Copy, Debug, PartialEq, Eq, Default)]
+pub struct State {
+    pub set: usize,
+    pub items: usize,
+}
+
+/// What a run came to: how many tokens were taken, and the first refusal if there was one.
+#[derive(Clone, Copy, Debug, PartialEq, Eq)]
+pub struct Ran {
+    pub taken: usize,
+    pub answer: Result<(), Refusal>,
+}
+
+/// A parse: a grammar, words, and the state in them.
+pub struct Parse<'a> {
+    file: &'a [u8],
+    words: Lent<'a>,
+    state: State,
+}
+
+impl<'a> Parse<'a> {
+    /// Starts a parse: refused 1, 2 or 3, the words are as they were.
+    pub fn start(file: &'a [u8], words: Lent<'a>) -> Result<Parse<'a>, Refusal> {
+        let mut parse = Parse { file, words, state: State::default() };
+        parse.restart()?;
+        Ok(parse)
+    }
+
+    /// A parse whose words and state were kept. Nothing is looked at here; a call on a state that is not well formed answers 4.
+    pub fn resume(file: &'a [u8], words: Lent<'a>, state: State) -> Parse<'a> {
+        Parse { file, words, state }
+    }
+
+    /// Starts anew in the same words.
+    pub fn restart(&mut self) -> Result<(), Refusal> {
+        let Lent { items, starts, rows, queue } = &mut self.words;
+        answer(unsafe {
+            raw::brinesaddle_start(
+                self.file.as_ptr(),
+                self.file.len(),
+                &mut self.state.set,
+                &mut self.state.items,
+                items.as_mut_ptr(),
+                items.len(),
+                starts.as_mut_ptr(),
+                starts.len(),
+                rows.as_mut_ptr(),
+                rows.len(),
+                queue.as_mut_ptr(),
+                queue.len(),
+            )
+        })
+    }
+
+    /// Reads one token. Refused, all is as it was.
+    pub fn token(&mut self, token: u32) -> Result<(), Refusal> {
+        let Lent { items, starts, rows, queue } = &mut self.words;
+        answer(unsafe {
+            raw::brinesaddle_token(
+                self.file.as_ptr(),
+                self.file.len(),
+                &mut self.state.set,
+                &mut self.state.items,
+                items.as_mut_ptr(),
+                items.len(),
+                starts.as_mut_ptr(),
+                starts.len(),
+                rows.as_mut_ptr(),
+                rows.len(),
+                queue.as_mut_ptr(),
+                queue.len(),
+                token,
+            )
+        })
+    }
+
+    /// Reads tokens up to the first that is refused.
+    pub fn run(&mut self, tokens: &[u16]) -> Ran {
+        let Lent { items, starts, rows, queue } = &mut self.words;
+        let mut taken = 0;
+        let number = unsafe {
+            raw::brinesaddle_run(
+                self.file.as_ptr(),
+                self.file.len(),
+                &mut self.state.set,
+                &mut self.state.items,
+                items.as_mut_ptr(),
+                items.len(),
+                starts.as_mut_ptr(),
+                starts.len(),
+                rows.as_mut_ptr(),
+                rows.len(),
+                queue.as_mut_ptr(),
+                queue.len(),
+                tokens.as_ptr(),
+                tokens.len(),
+                &mut taken,
+            )
+        };
+        Ran { taken, answer: answer(number) }
+    }
+
+    /// Whether the tokens taken since the start are a sentence.
+    pub fn finished(&self) -> Result<bool, Refusal> {
+        let Lent { items, starts, rows, queue } = &self.words;
+        let mut yes = 0;
+        answer(unsafe {
+            raw::brinesaddle_finished(
+                self.file.as_ptr(),
+                self.file.len(),
+                self.state.set,
+                self.state.items,
+                items.as_ptr(),
+                items.len(),
+                starts.as_ptr(),
+                starts.len(),
+                rows.as_ptr(),
+                rows.len(),
+                queue.as_ptr(),
+                queue.len(),
+                &mut yes,
+            )
+        })?;
+        Ok(yes == 1)
+    }
+
+    /// The item words of the latest set: origin and rule of each item.
+    pub fn latest_set(&self) -> Result<&[u32], Refusal> {
+        let Lent { items, starts, rows, queue } = &self.words;
+        let (mut first, mut count) = (0, 0);
+        answer(unsafe {
+            raw::brinesaddle_latest_set(
+                self.file.as_ptr(),
+                self.file.len(),
+                self.state.set,
+                self.state.items,
+                items.as_ptr(),
+                items.len(),
+                starts.as_ptr(),
+                starts.len(),
+                rows.as_ptr(),
+                rows.len(),
+                queue.as_ptr(),
+                queue.len(),
+                &mut first,
+                &mut count,
+            )
+        })?;
+        Ok(&items[first..first + count])
+    }
+
+    pub fn state(&self) -> State {
+        self.state
+    }
+}
+
+/// A node of a forest. Factors are positions in the same store.
+#[derive(Clone, Copy, Debug, PartialEq, Eq)]
+pub enum Node {
+    Sum { count: u32, nonterminal: u32 },
+    Product { action: u32, left: u32, right: Option<u32> },
+    NullingLeaf { symbol: u32 },
+    Evaluated { symbol: u32 },
+}
+
+const END: u32 = 4;
+
+impl Node {
+    fn numbers(self) -> [u32; 5] {
+        match self {
+            Node::Sum { count, nonterminal } => [0, count, nonterminal, 0, 0],
+            Node::Product { action, left, right: Some(right) } => [1, action, left, 1, right],
+            Node::Product { action, left, right: None } => [1, action, left, 0, 0],
+            Node::NullingLeaf { symbol } => [2, symbol, 0, 0, 0],
+            Node::Evaluated { symbol } => [3, symbol, 0, 0, 0],
+        }
+    }
+
+    fn told([kind, first, second, present, right]: [u32; 5]) -> Option<Node> {
+        match kind {
+            0 => Some(Node::Sum { count: first, nonterminal: second }),
+            1 => Some(Node::Product { action: first, left: second, right: (present != 0).then_some(right) }),
+            2 => Some(Node::NullingLeaf { symbol: first }),
+            3 => Some(Node::Evaluated { symbol: first }),
+            _ => None,
+        }
+    }
+}
+
+/// What a walk came to: the nodes read, the position behind the last, and 12 if that ended it.
+#[derive(Clone, Copy, Debug, PartialEq, Eq)]
+pub struct Walked {
+    pub nodes: usize,
+    pub behind: usize,
+    pub answer: Result<(), Refusal>,
+}
+
+/// Writes a node at a position, and answers the position behind it.
+pub fn write_node(store: &mut [u16], position: usize, node: Node) -> Result<usize, Refusal> {
+    let mut behind = position;
+    answer(unsafe { raw::brinesaddle_node_write(store.as_mut_ptr(), store.len(), position, &node.numbers(), &mut behind) })?;
+    Ok(behind)
+}
+
+/// The first node from a position on, with the position behind it; none at the end.
+pub fn read_node(store: &[u16], position: usize) -> Result<Option<(Node, usize)>, Refusal> {
+    let (mut numbers, mut behind) = ([END, 0, 0, 0, 0], position);
+    answer(unsafe { raw::brinesaddle_node_read(store.as_ptr(), store.len(), position, &mut numbers, &mut behind) })?;
+    Ok(Node::told(numbers).map(|node| (node, behind)))
+}
+
+/// Reads on from a position to the end or the first 12.
+pub fn walk_nodes(store: &[u16], position: usize) -> Walked {
+    let (mut nodes, mut behind) = (0, position);
+    let number = unsafe { raw::brinesaddle_node_walk(store.as_ptr(), store.len(), position, &mut nodes, &mut behind) };
+    Walked { nodes, behind, answer: answer(number) }
+}

@@ -1,0 +1,5 @@
+-- Laws of the host's words.
+pub mod Telling
+pub mod Wide
+pub mod Placed
+pub mod Numbers

@@ -1,0 +1,69 @@
+-- Reading and writing a node as five numbers, once the answer's case is known.
+use mathlib.Core.Path.{_≡_, sym, ap, subst, _∙_}
+use mathlib.Core.List.{List}
+use Prim.Native.Nat.{ℕ}
+use Rattle.node.specs.Answers as said
+use Rattle.node.specs.declared.Node.{Node}
+use Rattle.node.specs.declared.Found.{Found}
+use Rattle.node.specs.declared.Walked.{Walked}
+use Rattle.node.specs.declared.Written.{Written}
+use Rattle.node.specs.Writing.{Outcome, writeAt}
+use Rattle.host.specs.declared.nodes.Told.{Told}
+use Rattle.host.specs.declared.nodes.Told.the-variants as told
+use Rattle.host.specs.Nodes.{numberIn, positionOr, numbersOr, countOr, toldBy, writeIn, writeTold}
+
+-- What a host's words get of an answer: its number, the position behind, and a node's numbers or a count of nodes.
+pub record Heard (word : ℕ) (a b : said.Answer) : Type 0 where
+  pub number : numberIn a ≡ numberIn b
+  pub position : positionOr word a ≡ positionOr word b
+  pub numbers : (words : List ℕ) → numbersOr words a ≡ numbersOr words b
+  pub count : (w : ℕ) → countOr w a ≡ countOr w b
+
+pub heard : (word : ℕ) {a b : said.Answer} → a ≡ b → Heard word a b
+heard word e =
+    record {
+      number = ap numberIn e;
+      position = ap (positionOr word) e;
+      numbers = λ words. ap (numbersOr words) e;
+      count = λ w. ap (countOr w) e;
+    }
+
+-- A read, a walk and a write whose case is known.
+pub heard-read : (word : ℕ) {r c : Found} {a : said.Answer} → said.found r ≡ a → r ≡ c → Heard word (said.found c) a
+heard-read word {a = a} e k = heard word (subst (λ (x : Found). said.found x ≡ a) k e)
+
+pub heard-walk : (word : ℕ) {r c : Walked} {a : said.Answer} → said.walked r ≡ a → r ≡ c → Heard word (said.walked c) a
+heard-walk word {a = a} e k = heard word (subst (λ (x : Walked). said.walked x ≡ a) k e)
+
+-- What is written where five numbers tell a node, and where they tell none.
+module _ (store numbers : List ℕ) (p : ℕ) {t : Told} (e : t ≡ toldBy numbers) where
+  writes-node : {n : Node} → t ≡ told.Node n → writeAt store p n ≡ writeIn store p numbers
+  unfolding writeTold
+  writes-node k = ap (writeTold store p) (sym k) ∙ ap (writeTold store p) e
+
+  writes-none : t ≡ told.Nothing → record { answer = said.answer said.valueUnfit said.nothing; store = store } ≡ writeIn store p numbers
+  unfolding writeTold
+  writes-none k = ap (writeTold store p) (sym k) ∙ ap (writeTold store p) e
+
+-- What a host's words and its store get of a write.
+pub record Wrote (word : ℕ) (a : said.Answer) (store : List ℕ) (o : Outcome) : Type 0 where
+  pub is-number : numberIn a ≡ numberIn (o .answer)
+  pub is-position : positionOr word a ≡ positionOr word (o .answer)
+  pub is-store : store ≡ o .store
+
+wrote : (word : ℕ) {a : said.Answer} {left : List ℕ} {o : Outcome} → record { answer = a; store = left } ≡ o → Wrote word a left o
+wrote word e =
+    record {
+      is-number = ap (λ (o : Outcome). numberIn (o .answer)) e;
+      is-position = ap (λ (o : Outcome). positionOr word (o .answer)) e;
+      is-store = ap (λ (o : Outcome). o .store) e;
+    }
+
+module _ (word : ℕ) (store numbers : List ℕ) (p : ℕ) {t : Told} (e : t ≡ toldBy numbers) where
+  pub wrote-node : {n : Node} {r c : Written} {left : List ℕ} → t ≡ told.Node n → record { answer = said.written r; store = left } ≡ writeAt store p n
+      → r ≡ c → Wrote word (said.written c) left (writeIn store p numbers)
+  wrote-node {left = left} k w is =
+      wrote word (sym (ap (λ (x : Written). record { answer = said.written x; store = left }) is) ∙ w ∙ writes-node store numbers p e k)
+
+  pub wrote-none : t ≡ told.Nothing → Wrote word (said.answer said.valueUnfit said.nothing) store (writeIn store p numbers)
+  wrote-none k = wrote word (writes-none store numbers p e k)

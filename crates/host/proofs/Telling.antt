@@ -1,0 +1,64 @@
+-- An answer in the host's words is that answer.
+use mathlib.Core.Path.{_≡_, ap, sym, _∙_, subst}
+use mathlib.Core.Bool.{Bool, true, false}
+use mathlib.Core.List.{List}
+use Prim.Native.Nat.{ℕ, min}
+use Rattle.grammar.specs.Answers as check
+use Rattle.grammar.specs.declared.Checked.{Checked}
+use Rattle.parse.specs.declared.State.{State}
+use Rattle.parse.specs.Words.{Words}
+use Rattle.recognizer.specs.Steps.{Outcome, Ended}
+use Rattle.recognizer.specs.declared.Answer.{Answer}
+use Rattle.recognizer.specs.declared.Ran.{Ran}
+use Rattle.recognizer.specs.declared.Whether.{Whether}
+use Rattle.recognizer.specs.Answers.{numberOf, stateOf, outcomeOf, endedOf, finishedNumber, saysYes}
+use Rattle.recognizer.specs.Calls.{Starts, Takes, Runs, Finishes}
+use Rattle.host.specs.Answers.{outcomeIn, endedIn}
+use Rattle.host.specs.Reports.{FinishesIn}
+use Rattle.host.proofs.Wide.{greatest, takes-wide}
+
+-- The number and the state that an answer tells.
+pub record Told (a : Answer) (number set held : ℕ) : Type 0 where
+  pub is-number : number ≡ numberOf a
+  pub is-set : set ≡ stateOf a .set
+  pub is-held : held ≡ stateOf a .items
+
+told-outcome : (a : Answer) (v : Words) {n set held : ℕ} → Told a n set held → outcomeOf a v ≡ outcomeIn n set held v
+told-outcome a v {n} {set} {held} t =
+    sym
+    (ap (λ (x : ℕ). outcomeIn x set held v) (t .is-number)
+    ∙ ap (λ (x : ℕ). outcomeIn (numberOf a) x held v) (t .is-set)
+    ∙ ap (λ (x : ℕ). outcomeIn (numberOf a) (stateOf a .set) x v) (t .is-held))
+
+told-ended : (r : Ran) (v : Words) {n set held : ℕ} → Told (r .answer) n set held → endedOf r v ≡ endedIn n set held v (r .taken)
+told-ended r v t = ap (λ (o : Outcome). record { outcome = o; taken = r .taken }) (told-outcome (r .answer) v t)
+
+module _ {file : List ℕ} {s : State} {w v : Words} {n set held : ℕ} where
+  pub starts-told : (a : Answer) → Starts file s w (outcomeOf a v) → Told a n set held → Starts file s w (outcomeIn n set held v)
+  starts-told a c t = subst (λ (o : Outcome). Starts file s w o) (told-outcome a v t) c
+
+  -- A number past a u16 is answered as the greatest u16 is.
+  pub takes-told : (t u : ℕ) (a : Answer) → Takes file s w u (outcomeOf a v) → u ≡ min t greatest → Told a n set held
+      → Takes file s w t (outcomeIn n set held v)
+  takes-told t u a c narrow told =
+      takes-wide t
+      (subst (λ (o : Outcome). Takes file s w (min t greatest) o) (told-outcome a v told)
+      (subst (λ (x : ℕ). Takes file s w x (outcomeOf a v)) narrow c))
+
+  pub runs-told : {ts : List ℕ} (r : Ran) → Runs file s w ts (endedOf r v) → Told (r .answer) n set held
+      → Runs file s w ts (endedIn n set held v (r .taken))
+  runs-told {ts} r c t = subst (λ (e : Ended). Runs file s w ts e) (told-ended r v t) c
+
+-- The check's number, once its case is known.
+pub verdict-of : {file : List ℕ} {r c : Checked} → check.Verdict file (check.numberOf r) → r ≡ c → check.Verdict file (check.numberOf c)
+verdict-of {file} v e = subst (λ (x : Checked). check.Verdict file (check.numberOf x)) e v
+
+-- What finished says, once its case is known.
+pub finishes-of : {file : List ℕ} {s : State} {w : Words} {r c : Whether} → Finishes file s w (finishedNumber r) (saysYes r) → r ≡ c
+    → Finishes file s w (finishedNumber c) (saysYes c)
+finishes-of {file} {s} {w} f e = subst (λ (x : Whether). Finishes file s w (finishedNumber x) (saysYes x)) e f
+
+pub finishes-refused : {file : List ℕ} {s : State} {w : Words} {r c : Whether} {n : ℕ} → Finishes file s w (finishedNumber r) (saysYes r) → r ≡ c
+    → saysYes c ≡ false → n ≡ finishedNumber c → FinishesIn file s w n 0
+finishes-refused {file} {s} {w} {c = c} {n} f e says same =
+    FinishesIn.no (subst (λ (b : Bool). Finishes file s w n b) says (subst (λ (m : ℕ). Finishes file s w m (saysYes c)) (sym same) (finishes-of f e)))

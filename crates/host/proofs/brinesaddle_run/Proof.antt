@@ -1,0 +1,40 @@
+-- `brinesaddle_run` meets its contract: what the call beneath answers, in the host's words.
+use Rattle.host.proofs.Telling.{runs-told}
+use borrow.Author.Needs.{needs}
+use Rattle.host.proofs.brinesaddle_run.Statement.{statement}
+use Rattle.host.proofs.brinesaddle_run.Tie as tie
+
+run-requires : tie.Need-run-requires
+run-requires c κs = search needs
+
+tell-requires : tie.Need-tell-requires
+tell-requires c κs = search needs
+
+same-length : tie.Need-same-length
+same-length c = search needs
+
+same-length-2 : tie.Need-same-length-2
+same-length-2 c = search needs
+
+same-length-3 : tie.Need-same-length-3
+same-length-3 c = search needs
+
+same-length-4 : tie.Need-same-length-4
+same-length-4 c = search needs
+
+returns : tie.Need-returns
+returns c =
+    let t = c .tell .ensures in
+    runs-told (c .before .before .before .before .before .before .before .before .before .before .before .run .result) (c .before .before .before .before .before .before .before .before .before .before .before .run .ensures) (record { is-number = t .0; is-set = t .1 .0; is-held = t .1 .1 })
+
+pub brinesaddle-run-spec : {M : Type 1} → statement M
+brinesaddle-run-spec =
+    tie.close
+    (tie.spec
+    run-requires
+    tell-requires
+    same-length
+    same-length-2
+    same-length-3
+    same-length-4
+    returns)

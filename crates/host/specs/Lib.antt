@@ -1,0 +1,4 @@
+-- What stands in a host's words: the state and answers of a parse, and a node as five numbers.
+pub mod Answers
+pub mod Reports
+pub mod Nodes

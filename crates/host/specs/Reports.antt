@@ -1,0 +1,34 @@
+-- The reports in the host's words.
+use mathlib.Core.Bool.{Bool, true, false}
+use mathlib.Core.List.{List}
+use mathlib.Core.Path.{_≡_}
+use Prim.Native.Nat.{ℕ, _-_, _*_, _≤_}
+use lib.Dec.{eqb}
+use Rattle.item.specs.Item.{itemWords}
+use Rattle.grammar.specs.Rules.{Grammar}
+use Rattle.parse.specs.declared.State.{State}
+use Rattle.parse.specs.Words.{Words, within, startOf, maxItems}
+use Rattle.node.specs.Choice.{pick}
+use Rattle.recognizer.specs.Calls.{CallFault, Formed, Finishes}
+
+-- Finished: its number, and 1 for yes and 0 for no.
+pub data FinishesIn (file : List ℕ) (s : State) (w : Words) : ℕ → ℕ → Type 0 where
+  yes : {n : ℕ} → Finishes file s w n true → FinishesIn file s w n 1
+  no : {n : ℕ} → Finishes file s w n false → FinishesIn file s w n 0
+
+-- The set report: its number, the place of the latest set's first word among the item words, and the number of its words. Refused, the
+-- part is the empty one at place 0.
+pub data ReportsIn (file : List ℕ) (s : State) (w : Words) : ℕ → ℕ → ℕ → Type 0 where
+  refused : {n : ℕ} → CallFault file s w n → ReportsIn file s w n 0 0
+  done :
+      {g : Grammar} → Formed file s w g
+      → ReportsIn file s w 0 (itemWords * startOf (within w) (s .set)) (itemWords * (s .items - startOf (within w) (s .set)))
+
+-- The items of a report that is done are within capacity, and the part is no longer than they are.
+pub record PartFits (number held words : ℕ) : Type 0 where
+  pub few : number ≡ 0 → held ≤ maxItems
+  pub within-items : number ≡ 0 → words ≤ itemWords * held
+
+-- The place of the first word: the part ends where the items do.
+unfoldable pub firstWord : ℕ → ℕ → ℕ → ℕ
+firstWord number held words = pick (eqb number 0) (itemWords * held - words) 0

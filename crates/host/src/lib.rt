@@ -1,0 +1,239 @@
+// The calls for hosts in C and Rust: numbers and slices, answers by document 01's numbers. A slice is a pointer and a length. The state
+// of a parse is two words of the host, the set number and the item count. include/brinesaddle.h describes each call for a host.
+ghost use mathlib.Core.Path.{_≡_};
+ghost use Rattle.grammar.specs.Answers.{Verdict};
+ghost use Rattle.recognizer.specs.Calls.{Starts, Takes, Runs};
+ghost use Rattle.recognizer.specs.Steppable.{wordsOf};
+ghost use Rattle.node.specs.Reading.{readAt};
+ghost use Rattle.node.specs.Walking.{walkAt};
+ghost use Rattle.host.specs.Answers.{stateIn, outcomeIn, endedIn};
+ghost use Rattle.host.specs.Reports.{FinishesIn, ReportsIn};
+ghost use Rattle.host.specs.Nodes.{writeIn, numberIn, positionOr, numbersOr, countOr};
+
+mod nodes;
+mod parse_words;
+
+use crate::nodes::Told;
+use crate::nodes::node_of;
+use crate::nodes::numbers_of;
+use crate::parse_words::first_word;
+use crate::parse_words::narrow;
+use crate::parse_words::tell;
+use grammar::Checked;
+use node::Found;
+use node::Walked;
+use node::Written;
+use parse::State;
+use recognizer::Whether;
+
+// Checks a grammar file.
+#[no_mangle]
+pub extern "C" fn brinesaddle_check(file: &[u8]) -> u32
+    ensures { λ r. ⌜ Verdict (now (file .entry)) r ⌝ }
+{
+    match grammar::check(file) {
+        Checked::Accepted => 0,
+        Checked::Malformed => 1,
+        Checked::Broken => 2,
+    }
+}
+
+// Starts a parse.
+#[no_mangle]
+pub extern "C" fn brinesaddle_start(
+    file: &[u8],
+    set: &mut usize,
+    held: &mut usize,
+    items: &mut [u32],
+    starts: &mut [u32],
+    rows: &mut [u64],
+    queue: &mut [u32],
+) -> u32
+    ensures calls { λ r. ⌜ Starts (now (file .entry)) (stateIn (now (set .entry)) (now (held .entry))) (wordsOf (now (items .entry)) (now (starts .entry)) (now (rows .entry)) (now (queue .entry))) (outcomeIn r (now (set .exit)) (now (held .exit)) (wordsOf (now (items .exit)) (now (starts .exit)) (now (rows .exit)) (now (queue .exit)))) ⌝ }
+{
+    let state = State {
+        set: *set,
+        items: *held,
+    };
+    let answer = recognizer::start(file, state, items, starts, rows, queue);
+    tell(answer, set, held)
+}
+
+// Reads one token. Every number is a token at this door; T and above is 5.
+#[no_mangle]
+pub extern "C" fn brinesaddle_token(
+    file: &[u8],
+    set: &mut usize,
+    held: &mut usize,
+    items: &mut [u32],
+    starts: &mut [u32],
+    rows: &mut [u64],
+    queue: &mut [u32],
+    t: u32,
+) -> u32
+    ensures calls { λ r. ⌜ Takes (now (file .entry)) (stateIn (now (set .entry)) (now (held .entry))) (wordsOf (now (items .entry)) (now (starts .entry)) (now (rows .entry)) (now (queue .entry))) t (outcomeIn r (now (set .exit)) (now (held .exit)) (wordsOf (now (items .exit)) (now (starts .exit)) (now (rows .exit)) (now (queue .exit)))) ⌝ }
+{
+    let state = State {
+        set: *set,
+        items: *held,
+    };
+    let answer = recognizer::token(file, state, items, starts, rows, queue, narrow(t));
+    tell(answer, set, held)
+}
+
+// Reads tokens up to the first that is refused, and tells how many were taken.
+#[no_mangle]
+pub extern "C" fn brinesaddle_run(
+    file: &[u8],
+    set: &mut usize,
+    held: &mut usize,
+    items: &mut [u32],
+    starts: &mut [u32],
+    rows: &mut [u64],
+    queue: &mut [u32],
+    tokens: &[u16],
+    taken: &mut usize,
+) -> u32
+    ensures calls { λ r. ⌜ Runs (now (file .entry)) (stateIn (now (set .entry)) (now (held .entry))) (wordsOf (now (items .entry)) (now (starts .entry)) (now (rows .entry)) (now (queue .entry))) (now (tokens .entry)) (endedIn r (now (set .exit)) (now (held .exit)) (wordsOf (now (items .exit)) (now (starts .exit)) (now (rows .exit)) (now (queue .exit))) (now (taken .exit))) ⌝ }
+{
+    let state = State {
+        set: *set,
+        items: *held,
+    };
+    let ran = recognizer::run(file, state, items, starts, rows, queue, tokens);
+    *taken = ran.taken;
+    let answer = ran.answer;
+    tell(answer, set, held)
+}
+
+// Whether the tokens so far are a sentence: 1 or 0 in `yes`.
+#[no_mangle]
+pub extern "C" fn brinesaddle_finished(
+    file: &[u8],
+    set: usize,
+    held: usize,
+    items: &[u32],
+    starts: &[u32],
+    rows: &[u64],
+    queue: &[u32],
+    yes: &mut u32,
+) -> u32
+    ensures calls { λ r. ⌜ FinishesIn (now (file .entry)) (stateIn set held) (wordsOf (now (items .entry)) (now (starts .entry)) (now (rows .entry)) (now (queue .entry))) r (now (yes .exit)) ⌝ }
+{
+    let state = State { set, items: held };
+    match recognizer::finished(file, state, items, starts, rows, queue) {
+        Whether::Yes => {
+            *yes = 1;
+            0
+        }
+        Whether::No => {
+            *yes = 0;
+            0
+        }
+        Whether::Refused(why) => {
+            *yes = 0;
+            recognizer::refusal_number(why)
+        }
+    }
+}
+
+// Where the latest set stands among the item words: the place of its first word, and the number of its words.
+#[no_mangle]
+pub extern "C" fn brinesaddle_latest_set(
+    file: &[u8],
+    set: usize,
+    held: usize,
+    items: &[u32],
+    starts: &[u32],
+    rows: &[u64],
+    queue: &[u32],
+    first: &mut usize,
+    count: &mut usize,
+) -> u32
+    ensures calls { λ r. ⌜ ReportsIn (now (file .entry)) (stateIn set held) (wordsOf (now (items .entry)) (now (starts .entry)) (now (rows .entry)) (now (queue .entry))) r (now (first .exit)) (now (count .exit)) ⌝ }
+{
+    let state = State { set, items: held };
+    let mut number = 0;
+    let part = recognizer::latest_set(file, state, items, starts, rows, queue, &mut number);
+    let words = part.len();
+    *count = words;
+    *first = first_word(number, held, words);
+    number
+}
+
+// Writes a node at p. The node is five numbers: its kind, and its values.
+#[no_mangle]
+pub extern "C" fn brinesaddle_node_write(
+    store: &mut [u16],
+    p: usize,
+    node: &[u32; 5],
+    behind: &mut usize,
+) -> u32
+    ensures number { λ r. ⌜ r ≡ numberIn (writeIn (now (store .entry)) p (now (node .entry)) .answer) ⌝ }
+    ensures behind { λ _. ⌜ now (behind .exit) ≡ positionOr (now (behind .entry)) (writeIn (now (store .entry)) p (now (node .entry)) .answer) ⌝ }
+    ensures store { λ _. ⌜ now (store .exit) ≡ writeIn (now (store .entry)) p (now (node .entry)) .store ⌝ }
+{
+    let Told::Node(n) = node_of(node) else {
+        return 10;
+    };
+    match node::write(store, p, n) {
+        Written::Behind(q) => {
+            *behind = q;
+            0
+        }
+        Written::Unfit => 10,
+        Written::NoRoom => 11,
+    }
+}
+
+// Reads the first node from p on, as five numbers. At the end the kind is END.
+#[no_mangle]
+pub extern "C" fn brinesaddle_node_read(
+    store: &[u16],
+    p: usize,
+    node: &mut [u32; 5],
+    behind: &mut usize,
+) -> u32
+    ensures number { λ r. ⌜ r ≡ numberIn (readAt (now (store .entry)) p) ⌝ }
+    ensures node { λ _. ⌜ now (node .exit) ≡ numbersOr (now (node .entry)) (readAt (now (store .entry)) p) ⌝ }
+    ensures behind { λ _. ⌜ now (behind .exit) ≡ positionOr (now (behind .entry)) (readAt (now (store .entry)) p) ⌝ }
+{
+    match node::read(store, p) {
+        Found::Whole(n, q) => {
+            *node = numbers_of(n);
+            *behind = q;
+            0
+        }
+        Found::End => {
+            *node = [4, 0, 0, 0, 0];
+            0
+        }
+        Found::NoNode => 12,
+    }
+}
+
+// Reads on from p to the end or the first 12: how many nodes there were, and the position behind the last.
+#[no_mangle]
+pub extern "C" fn brinesaddle_node_walk(
+    store: &[u16],
+    p: usize,
+    count: &mut usize,
+    behind: &mut usize,
+) -> u32
+    ensures number { λ r. ⌜ r ≡ numberIn (walkAt (now (store .entry)) p) ⌝ }
+    ensures count { λ _. ⌜ now (count .exit) ≡ countOr (now (count .entry)) (walkAt (now (store .entry)) p) ⌝ }
+    ensures behind { λ _. ⌜ now (behind .exit) ≡ positionOr (now (behind .entry)) (walkAt (now (store .entry)) p) ⌝ }
+{
+    match node::walk(store, p) {
+        Walked::ToEnd(nodes, q) => {
+            *count = nodes;
+            *behind = q;
+            0
+        }
+        Walked::ToFault(nodes, q) => {
+            *count = nodes;
+            *behind = q;
+            12
+        }
+    }
+}

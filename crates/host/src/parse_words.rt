@@ -1,0 +1,48 @@
+// A parse's answers in the host's words.
+ghost use mathlib.Core.Path.{_≡_};
+ghost use Prim.Native.Nat.{min};
+ghost use Rattle.host.specs.Reports.{firstWord, PartFits};
+ghost use Rattle.recognizer.specs.Answers.{numberOf, stateOf};
+use item::ITEM_WORDS;
+use recognizer::Answer;
+
+// The token that stands for a number at the door. No grammar has as many tokens, so that numbers past a u16 may share one.
+pub fn narrow(t: u32) -> u16
+    ensures { λ r. ⌜ r ≡ min t 65535 ⌝ }
+{
+    if t < 65535 {
+        return t as u16;
+    }
+    65535
+}
+
+// Puts the state of an answer into the host's words, and answers its number.
+pub fn tell(answer: Answer, set: &mut usize, held: &mut usize) -> u32
+    ensures number { λ r. ⌜ r ≡ numberOf answer ⌝ }
+    ensures set { λ _. ⌜ now (set .exit) ≡ stateOf answer .set ⌝ }
+    ensures held { λ _. ⌜ now (held .exit) ≡ stateOf answer .items ⌝ }
+{
+    match answer {
+        Answer::Done(state) => {
+            *set = state.set;
+            *held = state.items;
+            0
+        }
+        Answer::Refused(why, state) => {
+            *set = state.set;
+            *held = state.items;
+            recognizer::refusal_number(why)
+        }
+    }
+}
+
+// The place of the first word of the latest set: behind it there are `words` words of the items held. Place 0 when refused.
+pub fn first_word(number: u32, held: usize, words: usize) -> usize
+    requires { ⌜ PartFits number held words ⌝ }
+    ensures { λ r. ⌜ r ≡ firstWord number held words ⌝ }
+{
+    if number != 0 {
+        return 0;
+    }
+    ITEM_WORDS * held - words
+}

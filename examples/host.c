@@ -1,0 +1,66 @@
+/* A host in C: reads tokens of document 01's grammar A, asks whether they are a sentence, and prints the latest set; then writes a node,
+ * reads it back and walks over it. `tests/host` builds and runs it. */
+#include <stdio.h>
+
+#include "brinesaddle.h"
+
+/* S ::= S P | num, P ::= plus S; num is token 0, plus token 1. */
+static const uint8_t grammar[] = {1, 0, 0, 0, 0x23, 0, 6, 0, 2, 0, 4, 0, 4, 0, 2, 0, 5, 0, 2, 0, 2, 0, 3, 0, 2, 0, 0, 0xFF, 0xFF, 0, 3, 0, 1, 0, 2};
+
+enum { ITEMS = 64, SETS = 16, QUEUE = 16 };
+
+/* A parse: the state, and the words lent to it. */
+struct parse {
+    size_t set, held;
+    uint32_t items[2 * ITEMS], starts[SETS + 1], queue[QUEUE];
+    uint64_t rows[2 * SETS];
+};
+
+/* The words of a parse, as every call takes them. */
+#define WORDS(p) (p)->items, 2 * ITEMS, (p)->starts, SETS + 1, (p)->rows, 2 * SETS, (p)->queue, QUEUE
+#define FILE_OF(bytes) (bytes), sizeof(bytes)
+
+static void show(struct parse *p, const uint16_t *tokens, size_t count)
+{
+    size_t taken = 0, first = 0, words = 0;
+    uint32_t yes = 0;
+    uint32_t started = brinesaddle_start(FILE_OF(grammar), &p->set, &p->held, WORDS(p));
+    uint32_t stopped = brinesaddle_run(FILE_OF(grammar), &p->set, &p->held, WORDS(p), tokens, count, &taken);
+    brinesaddle_finished(FILE_OF(grammar), p->set, p->held, WORDS(p), &yes);
+    brinesaddle_latest_set(FILE_OF(grammar), p->set, p->held, WORDS(p), &first, &words);
+    printf("start %u, read %zu, stopped %u, finished %s, set %zu:", started, taken, stopped, yes ? "yes" : "no", p->set);
+    for (size_t k = first; k < first + words; k += 2)
+        printf(" (%u, %u)", p->items[k], p->items[k + 1]);
+    printf("\n");
+}
+
+static void nodes(void)
+{
+    uint16_t store[48];
+    uint32_t product[5] = {BRINESADDLE_PRODUCT, 9, 20, 1, 35}, found[5] = {0};
+    size_t behind = 0, count = 0, end = 0;
+    for (size_t k = 0; k < 48; k++)
+        store[k] = 0xFFFF;
+    uint32_t wrote = brinesaddle_node_write(store, 48, 40, product, &behind);
+    printf("write %u, behind %zu, units %04X %04X\n", wrote, behind, store[40], store[41]);
+    uint32_t read = brinesaddle_node_read(store, 48, 0, found, &behind);
+    printf("read %u, kind %u, action %u, left %u, right %u, behind %zu\n", read, found[0], found[1], found[2], found[4], behind);
+    uint32_t walked = brinesaddle_node_walk(store, 48, 0, &count, &end);
+    printf("walk %u, nodes %zu, behind %zu\n", walked, count, end);
+    uint32_t at_end = brinesaddle_node_read(store, 48, behind, found, &behind);
+    printf("read on %u, end %s\n", at_end, found[0] == BRINESADDLE_END ? "yes" : "no");
+}
+
+int main(void)
+{
+    static struct parse p;
+    const uint16_t sentence[] = {0, 1, 0}, no_sentence[] = {0, 0};
+    printf("check %u\n", brinesaddle_check(FILE_OF(grammar)));
+    show(&p, sentence, 3);
+    show(&p, no_sentence, 2);
+    printf("token 70000: %u\n", brinesaddle_token(FILE_OF(grammar), &p.set, &p.held, WORDS(&p), 70000));
+    p.starts[0] = 1;
+    printf("damaged: %u\n", brinesaddle_token(FILE_OF(grammar), &p.set, &p.held, WORDS(&p), 1));
+    nodes();
+    return 0;
+}

@@ -1,0 +1,118 @@
+/* Brinesaddle: the rule reader of the load balancer, for hosts in C.
+ *
+ * Link target/staticlib/libhost.a (`rt staticlib host`, x86-64 Linux). Nothing is allocated and nothing is kept between calls: a parse
+ * is two words of the host, the set number and the item count, and four slices that the host lends.
+ *
+ * Slices. A slice is a pointer and a number of elements. The pointer is not null, even of an empty slice, and is aligned for its
+ * elements. Slices and words that a call may write overlap nothing else that the same call takes. A slice that is `const` here is not
+ * written. Any contents are taken: no call needs its words prepared but for what a start does.
+ *
+ * Answers. Each call returns a number: 0 is done; the others tell why nothing was done, in this order of precedence.
+ */
+#ifndef BRINESADDLE_H
+#define BRINESADDLE_H
+
+#include <stddef.h>
+#include <stdint.h>
+
+#ifdef __cplusplus
+extern "C" {
+#endif
+
+enum {
+    BRINESADDLE_DONE = 0,
+    BRINESADDLE_MALFORMED = 1,     /* fewer than 11 bytes, version not 1, or L not the real length or not 11 + 6R */
+    BRINESADDLE_BROKEN = 2,        /* another rule for grammars is broken */
+    BRINESADDLE_NO_SETS = 3,       /* start: no room for a set */
+    BRINESADDLE_ILL_FORMED = 4,    /* the state is not well formed in these words under this grammar */
+    BRINESADDLE_NO_TOKEN = 5,      /* the token is T or above */
+    BRINESADDLE_NOT_PREDICTED = 6, /* no sentence goes on with this token */
+    BRINESADDLE_ITEMS_FULL = 7,    /* the items are full */
+    BRINESADDLE_QUEUE_FULL = 8,    /* the queue is full */
+    BRINESADDLE_SETS_FULL = 9,     /* the new set number would be past the sets */
+    BRINESADDLE_UNFIT = 10,        /* node value unfit */
+    BRINESADDLE_NO_ROOM = 11,      /* the node does not fit the store from its position */
+    BRINESADDLE_NO_NODE = 12       /* the units at the position are no node */
+};
+
+/* The words that count. More may be lent: words past these are never touched and do not matter.
+ *   items   two words an item, origin and rule
+ *   starts  a word a set, and one more
+ *   rows    two words a set
+ *   queue   a word an entry */
+enum {
+    BRINESADDLE_MAX_ITEM_WORDS = 8192,
+    BRINESADDLE_MAX_START_WORDS = 1025,
+    BRINESADDLE_MAX_ROW_WORDS = 2048,
+    BRINESADDLE_MAX_QUEUE_WORDS = 1024,
+    BRINESADDLE_MAX_UNITS = 32768 /* of a node store */
+};
+
+/* Checks a grammar file of version 1. Answers 0, 1 or 2. */
+uint32_t brinesaddle_check(const uint8_t *file, size_t file_len);
+
+/* Starts a parse. `set` and `held` hold an old state, of any value.
+ * Answers 0, 1, 2 or 3. Done: the state is fresh (both words 0), the words within capacity are cleared and row 0 holds what the wrapper
+ * begins with. Refused: all as it was, the old state too. */
+uint32_t brinesaddle_start(const uint8_t *file, size_t file_len, size_t *set, size_t *held, uint32_t *items, size_t items_len,
+                           uint32_t *starts, size_t starts_len, uint64_t *rows, size_t rows_len, uint32_t *queue, size_t queue_len);
+
+/* Reads one token. Any number is taken; T and above is answered 5.
+ * Answers 0, 1, 2, 4, 5, 6, 7, 8 or 9. Done: the state and the words are those after the token. Refused: all as it was. */
+uint32_t brinesaddle_token(const uint8_t *file, size_t file_len, size_t *set, size_t *held, uint32_t *items, size_t items_len,
+                           uint32_t *starts, size_t starts_len, uint64_t *rows, size_t rows_len, uint32_t *queue, size_t queue_len,
+                           uint32_t token);
+
+/* Reads tokens up to the first that is refused. The same as one call a token, but grammar and state are checked once; they are checked
+ * for an empty run too.
+ * Answers as a token does, for the first refusal. `taken` is the number of tokens that were taken, 0 where the answer is 1, 2 or 4. State
+ * and words are those after the tokens taken. */
+uint32_t brinesaddle_run(const uint8_t *file, size_t file_len, size_t *set, size_t *held, uint32_t *items, size_t items_len,
+                         uint32_t *starts, size_t starts_len, uint64_t *rows, size_t rows_len, uint32_t *queue, size_t queue_len,
+                         const uint16_t *tokens, size_t tokens_len, size_t *taken);
+
+/* Whether the tokens taken since the start are a sentence.
+ * Answers 0, 1, 2 or 4. `yes` is 1 or 0; refused, it is 0. */
+uint32_t brinesaddle_finished(const uint8_t *file, size_t file_len, size_t set, size_t held, const uint32_t *items, size_t items_len,
+                              const uint32_t *starts, size_t starts_len, const uint64_t *rows, size_t rows_len, const uint32_t *queue,
+                              size_t queue_len, uint32_t *yes);
+
+/* Where the latest set stands: items[first] up to items[first + count - 1], two words an item.
+ * Answers 0, 1, 2 or 4. Refused, `first` and `count` are 0. At the start the set is empty. */
+uint32_t brinesaddle_latest_set(const uint8_t *file, size_t file_len, size_t set, size_t held, const uint32_t *items, size_t items_len,
+                                const uint32_t *starts, size_t starts_len, const uint64_t *rows, size_t rows_len, const uint32_t *queue,
+                                size_t queue_len, size_t *first, size_t *count);
+
+/* A node of a forest is five numbers: its kind, and
+ *   Sum          count, nonterminal, 0, 0
+ *   Product      action, left factor, 1 and the right factor; or 0 and 0 where there is none
+ *   NullingLeaf  symbol, 0, 0, 0
+ *   Evaluated    symbol, 0, 0, 0
+ * Factors are positions in the same store. A writer may leave anything in numbers that its kind has no use for. */
+enum {
+    BRINESADDLE_SUM = 0,
+    BRINESADDLE_PRODUCT = 1,
+    BRINESADDLE_NULLING_LEAF = 2,
+    BRINESADDLE_EVALUATED = 3,
+    BRINESADDLE_END = 4 /* read: no node, the end of the store */
+};
+
+/* Writes a node at position p of a store.
+ * Answers 0, 10 (a value is unfit, or the kind is none of the four) or 11. Done: `behind` is the position behind the node, and no other
+ * unit is changed. Refused: store and `behind` as they were. */
+uint32_t brinesaddle_node_write(uint16_t *store, size_t store_len, size_t p, const uint32_t node[5], size_t *behind);
+
+/* Reads the first node from p on, fillers 0xFFFF skipped.
+ * Answers 0 or 12. Done: `node` is the node and `behind` the position behind it; at the end of the store `node` is BRINESADDLE_END and
+ * four zeros, and `behind` as it was. 12: both as they were. */
+uint32_t brinesaddle_node_read(const uint16_t *store, size_t store_len, size_t p, uint32_t node[5], size_t *behind);
+
+/* Reads on from p to the end or the first 12.
+ * Answers 0 or 12. `count` is the number of nodes read, and `behind` the position behind the last one, p if there is none. */
+uint32_t brinesaddle_node_walk(const uint16_t *store, size_t store_len, size_t p, size_t *count, size_t *behind);
+
+#ifdef __cplusplus
+}
+#endif
+
+#endif

@@ -1,0 +1,419 @@
+#!/usr/bin/env python3
+"""The built library beside the plain model of document 01 and beside the Rust.
+
+    differential.py SEED ROUNDS LEAST
+
+ROUNDS times 400 random cases from SEED beside the model, and 25 runs beside the Rust: grammars, capacities of every small size, rubbish in all words before a start and in the words past
+the capacities after it, tokens in and out of range, runs, reports, forged and damaged states; every word is compared after every call.
+Prints what was met. Fails where one of the refusals 3 to 9 was met less than LEAST times, or an answer of one call or a way to damage a
+state less than a twentieth of that.
+"""
+
+import random
+import sys
+from collections import Counter
+from functools import lru_cache
+
+import generate
+import library
+import model
+import streams
+
+U32, U64 = 2**32, 2**64
+met = Counter()
+model.check = lru_cache(maxsize=64)(model.check)  # every call checks its file; the answer is the same
+
+
+class Differs(Exception):
+    pass
+
+
+def same(what, ours, wanted):
+    if ours != wanted:
+        raise Differs(f"{what}\n  library {ours}\n  wanted  {wanted}")
+
+
+# -------------------------------------------------------------------------------------------- A parse kept by both
+
+class Both:
+    """One parse in the model's words and in the library's. Each call is made on both, and everything compared."""
+
+    def __init__(self, file, state, buffers):
+        self.data, self.file, self.state, self.buffers = file, library.File(file), state, buffers
+        self.lent = library.Lent(buffers)
+
+    def words(self):
+        return [self.buffers.items, self.buffers.starts, self.buffers.rows, self.buffers.queue]
+
+    def tell(self, call, ours, wanted):
+        met[f"{call} {wanted[0]}"] += 1
+        met["calls"] += 1
+        about = f"{call} on {self.data.hex()}, state {tuple(self.state)}"
+        same(about, ours, wanted)
+        same(f"{about}: words", self.lent.words(), self.words())
+
+    def begin(self):
+        wanted = model.begin(self.data, self.state, self.buffers)
+        self.tell("start", library.begin(self.file, self.state, self.lent), wanted)
+        self.state = wanted[1]
+        return wanted[0]
+
+    def token(self, number):
+        wanted = model.token(self.data, self.state, self.buffers, number)
+        self.tell("token", library.token(self.file, self.state, self.lent, number), wanted)
+        self.state = wanted[1]
+        return wanted[0]
+
+    def run(self, tokens):
+        wanted = model.run(self.data, self.state, self.buffers, tokens)
+        self.tell("run", library.run(self.file, self.state, self.lent, tokens), wanted)
+        self.state = wanted[1]
+        return wanted[0]
+
+    def reports(self):
+        wanted = model.finished(self.data, self.state, self.buffers)
+        self.tell("finished", library.finished(self.file, self.state, self.lent), wanted)
+        answer, part = model.latest_set(self.data, self.state, self.buffers)
+        first = 0 if answer else 2 * self.buffers.latest(self.state)[0]
+        self.tell("latest set", library.latest_set(self.file, self.state, self.lent), (answer, first, len(part)))
+
+    def every_call(self, rng, grammar):
+        """Each call but start, where all are to be refused alike."""
+        token = rng.randrange(grammar.tokens)
+        answer = self.token(token)
+        same("a run refused alike", self.run([token]), answer)
+        self.reports()
+        return answer
+
+
+def rubbish(rng, words, top):
+    return [rng.choice([0, 1, 2, 7, top - 1, rng.randrange(top)]) for _ in range(words)]
+
+
+def small_words(rng):
+    """Words of any small number, odd ones too, all rubbish. E is the least of starts less one and half the rows."""
+    often = lambda most: rng.choice([rng.randint(0, 3), rng.randint(0, most)] + [rng.randint(most // 2, most)] * 4)
+    return model.Buffers(rubbish(rng, often(90), U32), rubbish(rng, often(14), U32), rubbish(rng, often(27), U64), rubbish(rng, often(18), U32))
+
+
+def large_words(rng):
+    """Words about the largest capacities, so that some lie past them."""
+    about = lambda most: max(0, most + rng.randint(-2, 3))
+    return model.Buffers(rubbish(rng, about(8192), U32), rubbish(rng, about(1025), U32), rubbish(rng, about(2048), U64), rubbish(rng, about(1024), U32))
+
+
+# ------------------------------------------------------------------------------------------------------ Kinds of case
+
+def random_file(rng):
+    """A grammar file; now and then one that the check refuses."""
+    file, grammar = rng.choice([generate.small_grammar] * 9 + [generate.middle_grammar])(rng)
+    if rng.random() < 0.1:
+        damaged = bytearray(file)
+        damaged[rng.randrange(len(file))] ^= 1 << rng.randrange(8)
+        file = bytes(damaged)[:len(file) - rng.choice([0, 0, 0, 1, 6])]
+    return file, grammar
+
+
+def next_token(rng, both, grammar):
+    """Mostly a predicted token; else any, T and above, or past a u16."""
+    row = both.buffers.row(both.state.set_number) if both.buffers.set_room > both.state.set_number else 0
+    predicted = [token for token in range(grammar.tokens) if row & model.bit(token)]
+    if predicted and rng.random() < 0.8:
+        return rng.choice(predicted)
+    if rng.random() < 0.6:
+        return rng.choice([token for token in range(grammar.tokens) if token not in predicted] or [grammar.tokens])
+    return rng.choice([grammar.tokens, grammar.symbols - 1, 65535, 65536, 65536 + rng.randrange(grammar.tokens), U32 - 1])
+
+
+def a_parse(rng):
+    """A parse from the start, in words of any size, each answer looked at."""
+    file, grammar = random_file(rng)
+    buffers = large_words(rng) if rng.random() < 0.002 else small_words(rng)
+    both = Both(file, model.State(rng.randrange(5), rng.randrange(5)), buffers)
+    same("check", library.check(both.file), model.check(file)[0])
+    met[f"check {model.check(file)[0]}"] += 1
+    if both.begin():
+        if rng.random() < 0.3:
+            both.every_call(rng, grammar)
+        return
+    refusals = 0
+    for _ in range(rng.randint(1, 16)):
+        if rng.random() < 0.25:
+            answer = both.run([min(next_token(rng, both, grammar), 65535) for _ in range(rng.randint(0, 4))])
+        else:
+            answer = both.token(next_token(rng, both, grammar))
+        if rng.random() < 0.3:
+            both.reports()
+        refusals += answer != 0
+        if refusals > 2:
+            break
+    both.reports()
+
+
+def fitting(rng, chart):
+    """Words that hold a chart with little or no room to spare, rubbish past the capacities, and its state."""
+    spare = lambda: rng.choice([0, 0, 1, 2, 3, 8])
+    sets = chart.set_number + 1 + spare()
+    state, buffers = generate.rooms(chart, len(chart.items) + spare(), sets, rng.choice([0, 1, 2, 3, 5, 9, 30]))
+    if rng.random() < 0.5:
+        buffers.items += rubbish(rng, 1, U32)
+    if rng.random() < 0.5:
+        buffers.starts += rubbish(rng, rng.randint(1, 3), U32)  # then the rows are the fewer
+        buffers.rows += rubbish(rng, rng.randint(0, 1), U64)
+    elif rng.random() < 0.5:
+        buffers.rows += rubbish(rng, rng.randint(1, 5), U64)
+    return state, buffers
+
+
+def a_forged_state(rng):
+    """Tokens on a well-formed state that no start need reach."""
+    case = generate.forged_case(rng, generate.small_grammar, 0)
+    grammar = model.check(case.file)[1]
+    both = Both(case.file, *fitting(rng, case.chart))
+    for _ in range(rng.randint(1, 4)):
+        if both.token(next_token(rng, both, grammar)):
+            break
+    both.reports()
+
+
+# ----------------------------------------------------------------------------------- Each phrase of well formed, broken
+
+def a_set_with(rng, chart, least):
+    """A set that has at least so many items, and its places."""
+    sets = [k for k in range(chart.set_number + 1) if chart.starts[k + 1] - chart.starts[k] >= least]
+    if not sets:
+        return None, None
+    k = rng.choice(sets)
+    return k, range(chart.starts[k], chart.starts[k + 1])
+
+
+def damage(rng, way, grammar, chart, state, buffers):
+    """Breaks one phrase. The new state, or None where the chart has no place for this damage."""
+    e, count = state
+    if way == "set number past the sets":
+        return model.State(buffers.set_room + rng.choice([0, 1, 7, 2**40]), count)
+    if way == "item count past the items":
+        buffers.starts[e + 1] = buffers.item_room + 1
+        return model.State(e, buffers.item_room + rng.choice([1, 2, 2**40]))
+    if way == "first start":
+        buffers.starts[0] = rng.choice([1, count + 1, U32 - 1])
+        return state
+    if way == "second start":
+        buffers.starts[1] = rng.choice([1, count + 1, U32 - 1])
+        return state
+    if way == "falling start":
+        if e < 2 or count == 0:
+            return None
+        k = rng.randint(2, e)
+        buffers.starts[k] = rng.choice([chart.starts[k + 1] + 1, U32 - 1])
+        return state
+    if way == "last start":
+        buffers.starts[e + 1] = rng.choice([count + 1, max(0, count - 1), U32 - 1])
+        return state if buffers.starts[e + 1] != count else None
+    if way in ("origin", "rule past the rules", "rule without a second"):
+        k, places = a_set_with(rng, chart, 1)
+        unary = [rule for rule, (_, _, second) in enumerate(grammar.rules) if second is None]
+        if k is None or (way == "rule without a second" and not unary):
+            return None
+        place = rng.choice(places)
+        if way == "origin":
+            buffers.items[2 * place] = rng.choice([k, k + 1, U32 - 1])
+        elif way == "rule past the rules":
+            buffers.items[2 * place + 1] = len(grammar.rules) + rng.choice([0, 1, 512, 2**31])
+        else:
+            buffers.items[2 * place + 1] = rng.choice(unary)
+        return state
+    if way in ("two items swapped", "an item twice"):
+        k, places = a_set_with(rng, chart, 2)
+        if k is None:
+            return None
+        at = 2 * rng.choice(places[:-1])
+        one, other = buffers.items[at:at + 2], buffers.items[at + 2:at + 4]
+        buffers.items[at:at + 4] = other + one if way == "two items swapped" else one + one
+        return state
+    if way == "row bit":
+        k, symbol = rng.randint(0, e), rng.choice([grammar.symbols, 63, 64, 127, rng.randint(grammar.symbols, 127)])
+        if symbol < grammar.symbols:
+            return None
+        buffers.rows[2 * k + symbol // 64] |= 1 << symbol % 64
+        return state
+    kind = ["spare item word", "spare start", "spare row word", "queue word"].index(way)
+    words, room = buffers.parts()[kind]
+    used = buffers.used(state)[kind]
+    if used >= room:
+        return None
+    words[rng.randrange(used, room)] = rng.choice([1, 2, U32 - 1])
+    return state
+
+
+WAYS = ["set number past the sets", "item count past the items", "first start", "second start", "falling start", "last start", "origin",
+        "rule past the rules", "rule without a second", "two items swapped", "an item twice", "row bit", "spare item word", "spare start",
+        "spare row word", "queue word"]
+
+
+def a_damaged_state(rng):
+    """One phrase of well formed broken alone: 4 from every call, and nothing touched. Unbroken, the state is taken."""
+    case = generate.forged_case(rng, generate.small_grammar, 0)
+    grammar = model.check(case.file)[1]
+    state, buffers = fitting(rng, case.chart)
+    for way in rng.sample(WAYS, 4):
+        broken = buffers.copy()
+        damaged = damage(rng, way, grammar, case.chart, state, broken)
+        if damaged is None:
+            continue
+        both = Both(case.file, damaged, broken)
+        same(f"broken: {way}", both.every_call(rng, grammar), 4)
+        met[f"damaged: {way}"] += 1
+    both = Both(case.file, state, buffers)
+    both.reports()
+    same("unbroken", model.finished(case.file, state, buffers)[0], 0)
+
+
+# ---------------------------------------------------------------------------------------------------------- Nodes
+
+def any_node(rng, position):
+    """Five numbers, mostly of a node beside the edges of 01's rows, now and then of none."""
+    edge = lambda *edges: max(0, min(U32 - 1, rng.choice(edges) + rng.randint(-2, 2))) if rng.random() < 0.8 else rng.randrange(U32)
+    factor = lambda: rng.choice([max(0, position - edge(0, 31, 32, 255, 256, 8191, 8192)), edge(position, 0, U32 - 1)])
+    kind = rng.choice([0, 0, 1, 1, 1, 1, 2, 3])
+    if kind == 0:
+        return [0, edge(0, 31, 32, 65536, 2**28), edge(0, 255, 256, 65536, U32 - 1), 0, 0]
+    if kind == 1:
+        present = rng.randint(0, 1)
+        return [1, edge(0, 255, 256, 65535, 2**29), factor(), present, factor() if present else 0]
+    return [kind, edge(0, 4095, 4096, 65536, U32 - 1), 0, 0, 0]
+
+
+def read_numbers(numbers):
+    return streams.read_node(streams.Numbers(numbers))
+
+
+def some_nodes(rng):
+    """Nodes written, read back and walked over, and foreign units read."""
+    store = [rng.choice([0xFFFF, 0, rng.randrange(65536)]) for _ in range(rng.randint(0, 40))]
+    if rng.random() < 0.02:
+        store += [0xFFFF] * (32768 - rng.randint(-3, 50))
+    for _ in range(6):
+        position = rng.choice([rng.randrange(len(store) + 3), max(0, len(store) - rng.randint(0, 8)), 32760 + rng.randint(0, 9)])
+        numbers = any_node(rng, position)
+        units = store[:]
+        answer, behind = model.write_node(units, position, read_numbers(numbers))
+        same(f"write {numbers} at {position}", library.node_write(store, position, numbers), (answer, behind if answer == 0 else 0xBAD, units))
+        met[f"node write {answer}"] += 1
+        store = units
+        a_read(rng.choice([position, rng.randrange(len(store) + 3)]), store)
+        a_walk(rng.choice([0, position, rng.randrange(len(store) + 3)]), store)
+    same("no kind of a node", library.node_write(store, 0, [rng.randint(4, U32 - 1), 0, 0, 0, 0]), (10, 0xBAD, store))
+
+
+def a_read(position, store):
+    answer, node, behind = model.read_node(store, position)
+    if node is not None:
+        wanted = (0, streams.node_numbers(node), behind)
+    else:
+        wanted = (0, [4, 0, 0, 0, 0], 0xBAD) if answer == 0 else (12, [0xBAD] * 5, 0xBAD)
+    same(f"read at {position}", library.node_read(store, position), wanted)
+    met[f"node read {answer}" + (" end" if answer == 0 and node is None else "")] += 1
+
+
+def a_walk(position, store):
+    wanted = model.walk(store, position)
+    same(f"walk from {position}", library.node_walk(store, position), wanted)
+    met[f"node walk {wanted[0]}"] += 1
+
+
+# -------------------------------------------------------------------------------------------------------- The Rust
+
+def beside_the_rust(rng, cases=20):
+    """Whole states after each token, of random runs from the start and from forged states, as the Rust tells them. The capacities are
+    just those that the Rust needed; with one less of a kind the last step is refused 7, 8 or 9."""
+    made = [generate.reached_case(rng, rng.choice([generate.small_grammar] * 6 + [generate.middle_grammar] * 2 + [generate.large_grammar]), 12, 250)
+            for _ in range(cases)]
+    made += [generate.forged_case(rng, generate.small_grammar, 4, 150) for _ in range(cases // 4)]
+    for case, (before, answers) in zip(made, streams.ask_states(made)):
+        items = max([len(before.items)] + [answer.room[0] for answer in answers if answer.number == 0])
+        queue = max([0] + [answer.room[1] for answer in answers if answer.number == 0])
+        charts = [before] + [answer.chart for answer in answers if answer.number == 0]
+        sets = max(chart.set_number + 1 for chart in charts)
+        compare_run(case, before, answers, items, sets, queue)
+        taken = [answer for answer in answers if answer.number == 0]
+        if taken and max(answer.room[0] for answer in taken) == items > len(before.items):
+            refused_run(case, before, answers, items - 1, sets, queue, 7)
+        if queue:
+            refused_run(case, before, answers, items, sets, queue - 1, 8)
+        if sets > before.set_number + 1:
+            refused_run(case, before, answers, items, sets - 1, queue, 9)
+
+
+def placed(case, before, items, sets, queue):
+    """The library's words with the chart before the tokens, from a start where the case begins there."""
+    file = library.File(case.file)
+    state, buffers = generate.rooms(before, items, sets, queue)
+    lent = library.Lent(buffers)
+    if case.chart is None:
+        lent = library.Lent(model.Buffers.zeroed(items, sets, queue))
+        same("start beside the Rust", library.begin(file, model.State(9, 9), lent), (0, state))
+        same("words after start", lent.words(), library.Lent(buffers).words())
+    return file, state, lent
+
+
+def compare_run(case, before, answers, items, sets, queue):
+    file, state, lent = placed(case, before, items, sets, queue)
+    for token, answer in zip(case.tokens, answers):
+        number, state = library.token(file, state, lent, token)
+        same(f"Rust: token {token} on {case.file.hex()}", number, answer.number)
+        met[f"Rust: token {number}"] += 1
+        if number == 0:
+            wanted_state, wanted = generate.rooms(answer.chart, items, sets, queue)
+            same("Rust: state", state, wanted_state)
+            same("Rust: words", lent.words(), [wanted.items, wanted.starts, wanted.rows, wanted.queue])
+            same("Rust: finished", library.finished(file, state, lent), (0, answer.chart.finished))
+    met["Rust: runs"] += 1
+
+
+def refused_run(case, before, answers, items, sets, queue, refusal):
+    file, state, lent = placed(case, before, items, sets, queue)
+    number, taken = 0, 0
+    while number in (0, 6) and taken < len(case.tokens):
+        number, state = library.token(file, state, lent, case.tokens[taken])
+        taken += 1
+    same(f"Rust: with one less, {items} items, {sets} sets, {queue} queued, {case.file.hex()}", number, refusal)
+    met[f"Rust: one less {refusal}"] += 1
+
+
+# ------------------------------------------------------------------------------------------------------------- Runs
+
+KINDS = [(a_parse, 50), (a_forged_state, 12), (a_damaged_state, 22), (some_nodes, 6)]
+ASKED = [f"start {n}" for n in (0, 1, 2, 3)] + [f"{call} {n}" for call in ("token", "run") for n in (0, 1, 2, 4, 5, 6, 7, 8, 9)] + \
+        [f"{call} {n}" for call in ("finished", "latest set") for n in (0, 1, 2, 4)] + [f"damaged: {way}" for way in WAYS] + \
+        ["node write 0", "node write 10", "node write 11", "node read 0", "node read 12", "node read 0 end", "node walk 0", "node walk 12"]
+
+
+def refusals(number):
+    return sum(count for name, count in met.items() if name in (f"start {number}", f"token {number}", f"run {number}"))
+
+
+def main():
+    seed, rounds, least = (int(word) for word in sys.argv[1:4])
+    rng = random.Random(seed)
+    kinds, weights = zip(*KINDS)
+    try:
+        for _ in range(rounds):
+            for kind in rng.choices(kinds, weights, k=400):
+                kind(rng)
+            beside_the_rust(rng)
+    except Differs as differs:
+        print(f"seed {seed}: {differs}")
+        return 1
+    for name in sorted(met):
+        print(f"{name}: {met[name]}")
+    rare = [f"refusal {n}" for n in range(3, 10) if refusals(n) < least] + [name for name in ASKED if met[name] < least // 20]
+    if rare:
+        print("met too rarely: " + ", ".join(rare))
+        return 1
+    print(f"seed {seed}: {met['calls']} calls beside the model, {met['Rust: runs']} runs beside the Rust, no difference")
+    return 0
+
+
+if __name__ == "__main__":
+    sys.exit(main())

@@ -1,0 +1,134 @@
+"""The built library, as Python calls: the exported functions of crate `host`, over a shared object made of the static library.
+
+Words are ctypes arrays with the length that the host lends; a state is a model.State. Each call answers as its namesake in model.py.
+"""
+
+import ctypes
+import os
+
+import model
+
+HERE = os.path.dirname(os.path.abspath(__file__))
+SHARED = os.environ.get("BRINESADDLE_LIBRARY", os.path.join(os.path.dirname(HERE), "target", "staticlib", "libhost.so"))
+
+u8, u16, u32, u64, size = ctypes.c_uint8, ctypes.c_uint16, ctypes.c_uint32, ctypes.c_uint64, ctypes.c_size_t
+library = ctypes.CDLL(SHARED)
+
+
+def slice_of(word):
+    return [ctypes.POINTER(word), size]
+
+
+FILE, STATE, STATE_BY_VALUE = slice_of(u8), [ctypes.POINTER(size)] * 2, [size] * 2
+WORDS = slice_of(u32) + slice_of(u32) + slice_of(u64) + slice_of(u32)
+OUT = [ctypes.POINTER(size)]
+NODE = [ctypes.POINTER(u32)]
+for name, parameters in {
+    "check": FILE,
+    "start": FILE + STATE + WORDS,
+    "token": FILE + STATE + WORDS + [u32],
+    "run": FILE + STATE + WORDS + slice_of(u16) + OUT,
+    "finished": FILE + STATE_BY_VALUE + WORDS + [ctypes.POINTER(u32)],
+    "latest_set": FILE + STATE_BY_VALUE + WORDS + OUT + OUT,
+    "node_write": slice_of(u16) + [size] + NODE + OUT,
+    "node_read": slice_of(u16) + [size] + NODE + OUT,
+    "node_walk": slice_of(u16) + [size] + OUT + OUT,
+}.items():
+    function = getattr(library, "brinesaddle_" + name)
+    function.argtypes, function.restype = parameters, u32
+
+
+def array(word, numbers):
+    """An array of words; an empty one still has an address."""
+    made = (word * max(1, len(numbers)))(*numbers)
+    return made, len(numbers)
+
+
+class Lent:
+    """The words lent to a parse, and the host's two words of its state."""
+
+    def __init__(self, buffers):
+        self.parts = [array(u32, buffers.items), array(u32, buffers.starts), array(u64, buffers.rows), array(u32, buffers.queue)]
+        self.set, self.held = size(0), size(0)
+
+    def words(self):
+        return [made[:length] for made, length in self.parts]
+
+    def lent(self):
+        return [argument for part in self.parts for argument in part]
+
+    def buffers(self):
+        return model.Buffers(*self.words())
+
+    def state(self):
+        return model.State(self.set.value, self.held.value)
+
+
+class File:
+    """A grammar file, as the library takes it."""
+
+    def __init__(self, data):
+        self.lent = array(u8, data)
+
+
+def check(file):
+    return library.brinesaddle_check(*file.lent)
+
+
+def by_reference(state, lent):
+    lent.set.value, lent.held.value = state
+    return ctypes.byref(lent.set), ctypes.byref(lent.held)
+
+
+def begin(file, state, lent):
+    answer = library.brinesaddle_start(*file.lent, *by_reference(state, lent), *lent.lent())
+    return answer, lent.state()
+
+
+def token(file, state, lent, number):
+    answer = library.brinesaddle_token(*file.lent, *by_reference(state, lent), *lent.lent(), number)
+    return answer, lent.state()
+
+
+def run(file, state, lent, tokens):
+    taken = size(0xBAD)
+    answer = library.brinesaddle_run(*file.lent, *by_reference(state, lent), *lent.lent(), *array(u16, tokens), ctypes.byref(taken))
+    return answer, lent.state(), taken.value
+
+
+def finished(file, state, lent):
+    yes = u32(0xBAD)
+    answer = library.brinesaddle_finished(*file.lent, *state, *lent.lent(), ctypes.byref(yes))
+    assert yes.value in (0, 1), f"finished says {yes.value}"
+    return answer, yes.value == 1
+
+
+def latest_set(file, state, lent):
+    """The answer, the place of the first word and the number of words."""
+    first, count = size(0xBAD), size(0xBAD)
+    answer = library.brinesaddle_latest_set(*file.lent, *state, *lent.lent(), ctypes.byref(first), ctypes.byref(count))
+    return answer, first.value, count.value
+
+
+def node_write(store, position, numbers):
+    """The answer, the position behind (or the word as it was, 0xBAD), and the units."""
+    units, length = array(u16, store)
+    behind = size(0xBAD)
+    answer = library.brinesaddle_node_write(units, length, position, array(u32, numbers)[0], ctypes.byref(behind))
+    return answer, behind.value, units[:length]
+
+
+def node_read(store, position):
+    units, length = array(u16, store)
+    node, behind = array(u32, [0xBAD] * 5)[0], size(0xBAD)
+    answer = library.brinesaddle_node_read(units, length, position, node, ctypes.byref(behind))
+    assert units[:length] == store
+    return answer, node[:5], behind.value
+
+
+def node_walk(store, position):
+    units, length = array(u16, store)
+    count, behind = size(0xBAD), size(0xBAD)
+    answer = library.brinesaddle_node_walk(units, length, position, ctypes.byref(count), ctypes.byref(behind))
+    assert units[:length] == store
+    return answer, count.value, behind.value
