@@ -9,7 +9,7 @@ const MAX_ITEMS: usize = 4096;
 const MAX_SETS: usize = 1024;
 const MAX_QUEUED: usize = 1024;
 
-/// Origin and rule. The order of arrays is the queue's order.
+/// Origin and rule.
 pub type Item = [u32; 2];
 
 pub struct Chart<'a> {
@@ -88,6 +88,11 @@ impl<'a> Chart<'a> {
             (origin as usize) < k && grammar.rules.get(rule as usize).is_some_and(|rule| rule.second != NONE)
         }) && items.is_sorted_by(|&a, &b| set_order(grammar, a) < set_order(grammar, b))
     }
+}
+
+/// The order of the items in the queue: origin, rule.
+pub fn queue_order([origin, rule]: Item) -> u64 {
+    u64::from(origin) << 32 | u64::from(rule)
 }
 
 /// The order of the items in a set: second (none last), rule, origin.
