@@ -103,7 +103,7 @@ def numbers_joined(count):
 
 
 def inputs(rng):
-    """Name, file, short sentences and a long one. A's long one is near the most that 4,096 items have room for."""
+    """Name, file, short sentences and a long one. A's is short of 129 tokens, at which the queue is full."""
     routing = read_grammar(ROUTING)
     assert model.check(routing)[1].symbols == 100
     made = Sentences(routing, rng)
