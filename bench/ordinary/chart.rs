@@ -1,0 +1,101 @@
+//! The lent words within their capacities, as items, set starts, predicted rows and queue.
+
+use std::ops::Range;
+
+use crate::grammar::{Grammar, Row, NONE};
+use crate::{State, Words};
+
+const MAX_ITEMS: usize = 4096;
+const MAX_SETS: usize = 1024;
+const MAX_QUEUED: usize = 1024;
+
+/// Origin and rule.
+pub type Item = [u32; 2];
+
+pub struct Chart<'a> {
+    pub items: &'a mut [Item],
+    pub starts: &'a mut [u32],
+    pub rows: &'a mut [[u64; 2]],
+    pub queue: &'a mut [u32],
+}
+
+impl<'a> Chart<'a> {
+    /// The words within the capacities, if there is room for a set.
+    pub fn within(words: &'a mut Words) -> Option<Chart<'a>> {
+        let items = words.items.as_chunks_mut().0;
+        let rows = words.rows.as_chunks_mut().0;
+        let item_room = items.len().min(MAX_ITEMS);
+        let set_room = words.starts.len().saturating_sub(1).min(rows.len()).min(MAX_SETS);
+        let queue_room = words.queue.len().min(MAX_QUEUED);
+        if set_room == 0 {
+            return None;
+        }
+        Some(Chart {
+            items: &mut items[..item_room],
+            starts: &mut words.starts[..=set_room],
+            rows: &mut rows[..set_room],
+            queue: &mut words.queue[..queue_room],
+        })
+    }
+
+    pub fn clear(&mut self) {
+        self.items.fill([0; 2]);
+        self.starts.fill(0);
+        self.rows.fill([0; 2]);
+        self.queue.fill(0);
+    }
+
+    pub fn row(&self, set: usize) -> Row {
+        let [low, high] = self.rows[set];
+        Row::from(low) | Row::from(high) << 64
+    }
+
+    pub fn set_row(&mut self, set: usize, row: Row) {
+        self.rows[set] = [row as u64, (row >> 64) as u64];
+    }
+
+    /// The places of a set's items.
+    pub fn places(&self, set: usize) -> Range<usize> {
+        self.starts[set] as usize..self.starts[set + 1] as usize
+    }
+
+    pub fn set(&self, set: usize) -> &[Item] {
+        &self.items[self.places(set)]
+    }
+
+    pub fn is_well_formed(&self, grammar: &Grammar, state: State) -> bool {
+        let State { set: e, items: count } = state;
+        e < self.rows.len()
+            && count <= self.items.len()
+            && self.has_fit_starts(e, count)
+            && (0..=e).all(|k| self.has_fit_items(grammar, k))
+            && (0..=e).all(|k| self.row(k).checked_shr(grammar.symbols as u32).unwrap_or(0) == 0)
+            && self.items[count..].iter().all(|item| *item == [0; 2])
+            && self.starts[e + 2..].iter().all(|word| *word == 0)
+            && self.rows[e + 1..].iter().all(|row| *row == [0; 2])
+            && self.queue.iter().all(|word| *word == 0)
+    }
+
+    fn has_fit_starts(&self, e: usize, count: usize) -> bool {
+        let starts = &self.starts[..e + 2];
+        starts[..2] == [0, 0] && starts.is_sorted() && starts[e + 1] as usize == count
+    }
+
+    /// Whether the items of set k have fit origins and rules, and rise strictly.
+    fn has_fit_items(&self, grammar: &Grammar, k: usize) -> bool {
+        let items = self.set(k);
+        items.iter().all(|&[origin, rule]| {
+            (origin as usize) < k && grammar.rules.get(rule as usize).is_some_and(|rule| rule.second != NONE)
+        }) && items.is_sorted_by(|&a, &b| set_order(grammar, a) < set_order(grammar, b))
+    }
+}
+
+/// The order of the items in the queue: origin, rule.
+pub fn queue_order([origin, rule]: Item) -> u64 {
+    u64::from(origin) << 32 | u64::from(rule)
+}
+
+/// The order of the items in a set: second (none last), rule, origin.
+pub fn set_order(grammar: &Grammar, [origin, rule]: Item) -> (u16, u32, u32) {
+    (grammar.rules[rule as usize].second, rule, origin)
+}

@@ -1,0 +1,205 @@
+//! Grammar file version 1: its check, its rules, and what is worked out from them.
+
+use crate::Refusal;
+
+const VERSION: u8 = 1;
+const HEADER: usize = 11;
+const RULE: usize = 6;
+
+pub const MAX_SYMBOLS: usize = 128;
+pub const MAX_RULES: usize = 512;
+
+/// What stands for the second symbol of a rule that has one symbol.
+pub const NONE: u16 = 0xFFFF;
+
+/// A set of symbols: symbol s is bit s.
+pub type Row = u128;
+
+#[derive(Clone, Copy, PartialEq, Eq)]
+pub struct Rule {
+    pub left: u16,
+    pub first: u16,
+    pub second: u16,
+}
+
+pub struct Grammar {
+    pub symbols: usize,
+    pub tokens: usize,
+    pub rules: Vec<Rule>,
+}
+
+pub fn holds(row: Row, symbol: usize) -> bool {
+    row >> symbol & 1 == 1
+}
+
+impl Grammar {
+    /// The grammar of an accepted file.
+    pub fn read(file: &[u8]) -> Result<Grammar, Refusal> {
+        let Some((header, body)) = file.split_first_chunk::<HEADER>() else {
+            return Err(Refusal::Malformed);
+        };
+        let [version, l3, l2, l1, l0, n1, n0, t1, t0, r1, r0] = *header;
+        let length = u32::from_be_bytes([l3, l2, l1, l0]) as usize;
+        let count = usize::from(u16::from_be_bytes([r1, r0]));
+        if version != VERSION || length != file.len() || length != HEADER + RULE * count {
+            return Err(Refusal::Malformed);
+        }
+        let symbols = usize::from(u16::from_be_bytes([n1, n0]));
+        let tokens = usize::from(u16::from_be_bytes([t1, t0]));
+        if tokens < 1 || symbols < tokens + 3 || symbols > MAX_SYMBOLS || !(1..=MAX_RULES).contains(&count) {
+            return Err(Refusal::Broken);
+        }
+        let (triples, _) = body.as_chunks::<RULE>();
+        let rules = triples
+            .iter()
+            .map(|&[a1, a0, b1, b0, c1, c0]| Rule {
+                left: u16::from_be_bytes([a1, a0]),
+                first: u16::from_be_bytes([b1, b0]),
+                second: u16::from_be_bytes([c1, c0]),
+            })
+            .collect();
+        let grammar = Grammar { symbols, tokens, rules };
+        if grammar.is_wrapped()
+            && grammar.has_fit_symbols()
+            && grammar.has_fit_order()
+            && !grammar.has_equal_pair()
+            && grammar.is_productive()
+        {
+            Ok(grammar)
+        } else {
+            Err(Refusal::Broken)
+        }
+    }
+
+    pub fn wrapper(&self) -> usize {
+        self.symbols - 2
+    }
+
+    fn is_nonterminal(&self, symbol: u16) -> bool {
+        (self.tokens..self.wrapper()).contains(&usize::from(symbol))
+    }
+
+    /// Whether rule 0 is W ::= S end with S a nonterminal.
+    fn is_wrapped(&self) -> bool {
+        let Rule { left, first, second } = self.rules[0];
+        usize::from(left) == self.symbols - 2 && usize::from(second) == self.symbols - 1 && self.is_nonterminal(first)
+    }
+
+    /// Whether every other rule has a nonterminal on the left and only symbols 0..N-3 on the right.
+    fn has_fit_symbols(&self) -> bool {
+        let fits = |symbol: u16| usize::from(symbol) < self.wrapper();
+        self.rules[1..]
+            .iter()
+            .all(|rule| self.is_nonterminal(rule.left) && fits(rule.first) && (rule.second == NONE || fits(rule.second)))
+    }
+
+    /// Whether the rules of one left side are adjacent, and no rule of B stands up to a rule A ::= B.
+    fn has_fit_order(&self) -> bool {
+        let mut met = [false; MAX_SYMBOLS];
+        let mut block = None;
+        for rule in &self.rules {
+            if block != Some(rule.left) {
+                if met[usize::from(rule.left)] {
+                    return false;
+                }
+                met[usize::from(rule.left)] = true;
+                block = Some(rule.left);
+            }
+            if rule.second == NONE && met[usize::from(rule.first)] {
+                return false;
+            }
+        }
+        true
+    }
+
+    /// Whether two rules are equal: all pairs are looked at, up to the first that is.
+    fn has_equal_pair(&self) -> bool {
+        (1..self.rules.len()).any(|r| self.rules[..r].contains(&self.rules[r]))
+    }
+
+    /// Whether every nonterminal derives some string of tokens.
+    fn is_productive(&self) -> bool {
+        let mut marked = [false; MAX_SYMBOLS];
+        marked[..self.tokens].fill(true);
+        loop {
+            let mut changed = false;
+            for rule in &self.rules[1..] {
+                let left = usize::from(rule.left);
+                if !marked[left]
+                    && marked[usize::from(rule.first)]
+                    && (rule.second == NONE || marked[usize::from(rule.second)])
+                {
+                    marked[left] = true;
+                    changed = true;
+                }
+            }
+            if !changed {
+                return marked[self.tokens..self.wrapper()].iter().all(|&mark| mark);
+            }
+        }
+    }
+
+    /// The prediction table: row X holds X and every symbol reached from X by first symbols.
+    pub fn table(&self) -> [Row; MAX_SYMBOLS] {
+        let mut table = [0; MAX_SYMBOLS];
+        for (symbol, row) in table[..self.symbols].iter_mut().enumerate() {
+            *row = 1 << symbol;
+        }
+        for rule in &self.rules {
+            table[usize::from(rule.left)] |= 1 << rule.first;
+        }
+        // Warshall's order. A token leads nowhere.
+        for through in self.tokens..self.symbols {
+            let reached = table[through];
+            for row in &mut table[self.tokens..self.symbols] {
+                if holds(*row, through) {
+                    *row |= reached;
+                }
+            }
+        }
+        table
+    }
+
+    pub fn by_first(&self) -> ByFirst {
+        ByFirst::new(&self.rules)
+    }
+}
+
+/// The rules of each first symbol, those of one symbol apart from those of two, in number order.
+pub struct ByFirst {
+    begins: [u16; 2 * MAX_SYMBOLS + 1],
+    numbers: [u16; MAX_RULES],
+}
+
+impl ByFirst {
+    fn new(rules: &[Rule]) -> ByFirst {
+        let class = |rule: &Rule| 2 * usize::from(rule.first) + usize::from(rule.second != NONE);
+        let mut begins = [0; 2 * MAX_SYMBOLS + 1];
+        for rule in rules {
+            begins[class(rule) + 1] += 1;
+        }
+        for class in 0..2 * MAX_SYMBOLS {
+            begins[class + 1] += begins[class];
+        }
+        let mut numbers = [0; MAX_RULES];
+        let mut places = begins;
+        for (number, rule) in rules.iter().enumerate() {
+            let place = &mut places[class(rule)];
+            numbers[usize::from(*place)] = number as u16;
+            *place += 1;
+        }
+        ByFirst { begins, numbers }
+    }
+
+    pub fn unary(&self, first: usize) -> &[u16] {
+        self.class(2 * first)
+    }
+
+    pub fn binary(&self, first: usize) -> &[u16] {
+        self.class(2 * first + 1)
+    }
+
+    fn class(&self, class: usize) -> &[u16] {
+        &self.numbers[usize::from(self.begins[class])..usize::from(self.begins[class + 1])]
+    }
+}

@@ -1,0 +1,108 @@
+//! The rule reader as an ordinary Rust program: document 01's grammar check and calls on a parse, over lent words, with the same limits
+//! and refusals as the proved library. It is what that library's speed is measured against, and `bench/compare` holds it to the model.
+#![forbid(unsafe_code)]
+
+mod chart;
+mod grammar;
+mod queue;
+mod step;
+
+use chart::Chart;
+use grammar::Grammar;
+
+/// Why a call is refused, by document 01's number.
+#[derive(Clone, Copy, Debug, PartialEq, Eq)]
+pub enum Refusal {
+    Malformed = 1,
+    Broken = 2,
+    NoSets = 3,
+    IllFormed = 4,
+    NoToken = 5,
+    NotPredicted = 6,
+    ItemsFull = 7,
+    QueueFull = 8,
+    SetsFull = 9,
+}
+
+/// A parse by value: the number of the latest set, and the number of items in all sets.
+#[derive(Clone, Copy, Debug, Default, PartialEq, Eq)]
+pub struct State {
+    pub set: usize,
+    pub items: usize,
+}
+
+/// The words that the caller lends.
+pub struct Words<'a> {
+    pub items: &'a mut [u32],
+    pub starts: &'a mut [u32],
+    pub rows: &'a mut [u64],
+    pub queue: &'a mut [u32],
+}
+
+/// What a run answers: the state as it is now, the number of tokens taken, and the refusal of the next one, if any.
+pub struct Ran {
+    pub state: State,
+    pub taken: usize,
+    pub refusal: Option<Refusal>,
+}
+
+/// Checks a grammar file.
+pub fn check(file: &[u8]) -> Result<(), Refusal> {
+    Grammar::read(file).map(|_| ())
+}
+
+/// Starts a parse: clears the words, and predicts what the wrapper begins with.
+pub fn start(file: &[u8], words: &mut Words) -> Result<State, Refusal> {
+    let grammar = Grammar::read(file)?;
+    let mut chart = Chart::within(words).ok_or(Refusal::NoSets)?;
+    chart.clear();
+    chart.set_row(0, grammar.table()[grammar.wrapper()]);
+    Ok(State::default())
+}
+
+/// Reads one token.
+pub fn token(file: &[u8], state: State, words: &mut Words, token: u16) -> Result<State, Refusal> {
+    let ran = run(file, state, words, &[token]);
+    ran.refusal.map_or(Ok(ran.state), Err)
+}
+
+/// Reads tokens up to the first that is refused.
+pub fn run(file: &[u8], state: State, words: &mut Words, tokens: &[u16]) -> Ran {
+    let (grammar, mut chart) = match open(file, state, words) {
+        Ok(opened) => opened,
+        Err(refusal) => return Ran { state, taken: 0, refusal: Some(refusal) },
+    };
+    let table = grammar.table();
+    let by_first = grammar.by_first();
+    let mut now = state;
+    for (taken, &token) in tokens.iter().enumerate() {
+        match step::step(&grammar, &by_first, &table, &mut chart, now, usize::from(token)) {
+            Ok(next) => now = next,
+            Err(refusal) => return Ran { state: now, taken, refusal: Some(refusal) },
+        }
+    }
+    Ran { state: now, taken: tokens.len(), refusal: None }
+}
+
+/// Whether the tokens so far are a sentence.
+pub fn finished(file: &[u8], state: State, words: &mut Words) -> Result<bool, Refusal> {
+    let (_, chart) = open(file, state, words)?;
+    Ok(chart.set(state.set).last().is_some_and(|&[_, rule]| rule == 0))
+}
+
+/// The part of the item words that holds the latest set.
+pub fn latest_set<'a>(file: &[u8], state: State, words: &'a mut Words) -> Result<&'a [u32], Refusal> {
+    let (_, chart) = open(file, state, words)?;
+    let places = chart.places(state.set);
+    Ok(&words.items[2 * places.start..2 * places.end])
+}
+
+/// The checks that every call on a running parse makes first.
+fn open<'a>(file: &[u8], state: State, words: &'a mut Words) -> Result<(Grammar, Chart<'a>), Refusal> {
+    let grammar = Grammar::read(file)?;
+    let chart = Chart::within(words).ok_or(Refusal::IllFormed)?;
+    if !chart.is_well_formed(&grammar, state) {
+        return Err(Refusal::IllFormed);
+    }
+    Ok((grammar, chart))
+}
