@@ -1,0 +1,2 @@
+-- What the driver's functions on slices promise.
+pub mod Header
