@@ -1,6 +1,6 @@
 -- A call leaves a state in which the next may follow: no call of a history is refused with 1, 2 or 4.
-use mathlib.Core.Path.{sym, subst}
-use mathlib.Core.List.{List, []}
+use mathlib.Core.Path.{_≡_, refl, sym, ap, subst}
+use mathlib.Core.List.{List, [], _∷_, _++_}
 use Prim.Native.Nat.{ℕ, _/_, _≤_, _<_}
 use native.Mathlib.Omega.{arith}
 use lib.ListN.{length}
@@ -11,10 +11,16 @@ use Rattle.parse.specs.Words.{Words, setRoom, within, beyond, behind}
 use Rattle.parse.specs.WellFormed.{WellFormed}
 use Rattle.parse.proofs.Capacities.{SameSizes, sets-room, within-new}
 use Rattle.recognizer.specs.Steps.{Outcome, started, stepped}
-use Rattle.recognizer.specs.Calls.{Sound, Ready, inPlace}
+use Rattle.recognizer.specs.Calls.{Sound, Ready, asItWas, inPlace, Starts, Takes}
+use Rattle.recognizer.specs.Histories.{History}
 use Rattle.recognizer.proofs.Cut.{Cut, within-cut}
 use Rattle.recognizer.proofs.Starting.{started-sizes, started-well}
 use Rattle.recognizer.proofs.Refusing.{step-sizes, step-well}
+
+-- A history behind which a call may follow.
+pub record Reading (file : List ℕ) (g : Grammar) (table : List (List ℕ)) (s : State) (w : Words) (ts : List ℕ) : Type 0 where
+  pub ready : Ready file s w g table
+  pub history : History file s w ts
 
 module _ {file : List ℕ} {g : Grammar} {table : List (List ℕ)} where
   -- Well-formed words in the place of those within the capacities.
@@ -40,3 +46,21 @@ module _ {file : List ℕ} {g : Grammar} {table : List (List ℕ)} where
       ready-in w (ready .sound) (omega arith)
       (step-sizes (ready .sound .accepted) (ready .well-formed) cut t (ready .sound .predicts))
       (step-well (ready .sound .accepted) (ready .well-formed) cut t (ready .sound .predicts))
+
+  -- One that starts, over any state and words,
+  pub reading-start : {s′ : State} {w′ : Words} (s : State) (w : Words) → Sound file g table → 0 < setRoom w → inPlace w (started g table (within w)) ≡ asItWas 0 s′ w′
+      → Reading file g table s′ w′ []
+  reading-start s w sound some e = record {
+    ready = subst (λ (o : Outcome). Ready file (o .state) (o .words) g table) e (started-ready w sound some);
+    history = subst (λ (o : Outcome). History file (o .state) (o .words) []) e (History.fresh {s = s} {w = w} (Starts.done sound some) refl);
+  }
+
+  -- and one that goes on.
+  pub reading-on : {s s′ : State} {w w′ : Words} {ts : List ℕ} → Reading file g table s w ts → (t : ℕ) → inPlace w (stepped g table s (within w) t) ≡ asItWas 0 s′ w′
+      → Reading file g table s′ w′ (ts ++ (t ∷ []))
+  reading-on {s} {w = w} {ts = ts} h t e = record {
+    ready = subst (λ (o : Outcome). Ready file (o .state) (o .words) g table) e (stepped-ready s w t (h .ready));
+    history =
+        subst (λ (o : Outcome). History file (o .state) (o .words) (ts ++ (t ∷ []))) e
+        (History.accepted (h .history) (Takes.done (h .ready)) (ap (λ (o : Outcome). o .number) e));
+  }

@@ -2,21 +2,17 @@
 use mathlib.Core.Path.{_≡_, refl, sym, ap, ap₂, _∙_, subst}
 use mathlib.Core.Bool.{Bool, true, false, _&&_, _||_, not}
 use mathlib.Core.Logic.{_⊎_, inl, inr, ⊎-elim}
-use mathlib.Core.List.{List, [], _∷_, _++_}
-use Prim.Native.Nat.{ℕ, zero, suc, _+_, _-_, _*_, _/_, _%_, _^_, _≤_, _<_}
-use native.Mathlib.Decide.{decLt, ℕ-discrete}
-use native.Mathlib.Nat.{div-eq-of-lt}
+use mathlib.Core.List.{[], _∷_, _++_}
+use Prim.Native.Nat.{ℕ, zero, suc, _+_, _-_, _<_}
+use native.Mathlib.Decide.{ℕ-discrete}
 use native.Mathlib.Omega.{arith}
-use lib.ListN.{length, getD, replicate}
 use lib.Dec.{eqb, ltb, leb}
-use borrow.Author.Tests.{ltb-true, leb-true, eqb-true, eqb-false, lt-ltb, le-leb, eq-eqb, not-true}
+use borrow.Author.Tests.{ltb-true, leb-true, eqb-true, lt-ltb, le-leb, eq-eqb, not-true}
 use Rattle.laws.proofs.Decides.{false-true}
-use Rattle.laws.proofs.Tests.{both-true, either-way}
+use Rattle.laws.proofs.Tests.{both-true}
 use Rattle.grammar.specs.Rules.{Rule, Grammar, Says, none, ruleCount, ruleAt, wrapper, endMark, start}
 use Rattle.grammar.specs.Sentences.{Derives}
 use Rattle.grammar.specs.Accepted.{Accepted, Nonterminal, Productive, maxSymbols, maxRules}
-use Rattle.grammar.specs.Prediction.{Reaches}
-use Rattle.grammar.proofs.Facts.{rule-says}
 
 -- One of two tests passes; one passes where the other does.
 pub one-true : (a b : Bool) → (a || b) ≡ true → (a ≡ true) ⊎ (b ≡ true)

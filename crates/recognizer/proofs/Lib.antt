@@ -21,3 +21,7 @@ pub mod OneToken
 pub mod Again
 pub mod Computed
 pub mod Tabled
+pub mod Cutting
+pub mod Readying
+pub mod Beginning
+pub mod Examples

@@ -212,7 +212,7 @@ module _ {g : Grammar} {table : List (List ℕ)} {s : State} {v : Words} (accept
   new-led : (x : ℕ) → Holds (rowOf rowWords (v′ .rows) (suc kept)) x → Led g (chartOf s′ v′) (suc kept) x
   new-led x held =
       let leads : Leads (g .rules) table new x =
-          predictions-lead (g .rules) table x new (holds-same row (rowOf rowWords (v′ .rows) (suc kept)) x (λ i. sym (row-new movable (suc kept) (sym (add-one kept)) i)) held) in
+      predictions-lead (g .rules) table x new (holds-same row (rowOf rowWords (v′ .rows) (suc kept)) x (λ i. sym (row-new movable (suc kept) (sym (add-one kept)) i)) held) in
       record {
         origin = leads .item .origin;
         rule = leads .item .rule;

@@ -3,8 +3,8 @@ use mathlib.Core.Path.{_≡_, refl, sym, ap, _∙_, subst}
 use mathlib.Core.Bool.{Bool, true, false, _||_}
 use mathlib.Core.Logic.{⊎-elim}
 use mathlib.Core.List.{List, [], _∷_, _++_}
-use Prim.Native.Nat.{ℕ, zero, suc, _+_, _-_, _*_, _/_, _%_, _^_, _≤_, _<_}
-use native.Mathlib.Decide.{decLt, ℕ-discrete}
+use Prim.Native.Nat.{ℕ, zero, suc, _+_, _-_, _/_, _%_, _^_, _<_}
+use native.Mathlib.Decide.{decLt}
 use native.Mathlib.Nat.{div-eq-of-lt}
 use native.Mathlib.Omega.{arith}
 use lib.ListN.{length, getD, replicate, length-append, length-replicate, getD-replicate, List·getD-append, List·getD-eq-default}
@@ -12,17 +12,17 @@ use lib.Seq.{getD-append-add}
 use lib.Pow.{pow-mono, pow-pos}
 use lib.Dec.{eqb, ltb}
 use borrow.Author.Tests.{ltb-true, eqb-true, eq-eqb}
-use Rattle.laws.specs.Bits.{wordBits, bit, bitAt, Holds, Row}
+use Rattle.laws.specs.Bits.{wordBits, bit, bitAt, Holds}
 use Rattle.laws.proofs.Bits.{bit-zero}
 use Rattle.bits.specs.Width.{rowWords}
-use Rattle.grammar.specs.Rules.{Grammar, Says, ruleCount, ruleAt}
+use Rattle.grammar.specs.Rules.{Grammar, ruleCount, ruleAt}
 use Rattle.grammar.specs.Accepted.{Accepted, maxSymbols}
 use Rattle.grammar.specs.Prediction.{Reaches, Predicts, rowAt}
 use Rattle.grammar.specs.Prediction.Reaches.{here, by-first}
 use Rattle.grammar.proofs.Facts.{wrapper-first}
 use Rattle.advance.specs.Advance.{padded}
 use Rattle.advance.proofs.Padded.{zeros-word, padded-word, padded-length}
-use Rattle.recognizer.proofs.Computed.{every, some, every-at, Found, found, guarded, one-true, implies, implied}
+use Rattle.recognizer.proofs.Computed.{every, some, every-at, found, guarded, one-true, implies, implied}
 
 -- A row for each word, and rows of 0 for the symbols behind.
 unfoldable pub rowsOf : List ℕ → List (List ℕ)

@@ -1,0 +1,75 @@
+-- What a call knows of a file that it has opened.
+use mathlib.Core.Path.{_≡_, sym, subst, subst⁻¹, _∙_}
+use mathlib.Core.Bool.{Bool, true, false, not}
+use mathlib.Core.List.{List, []}
+use Prim.Native.Nat.{ℕ, _+_, _*_, _≤_}
+use native.Mathlib.Omega.{arith}
+use lib.ListN.{length}
+use borrow.Author.Tests.{not-true, not-false}
+use Rattle.grammar.specs.Accepted.{Accepted, maxRules}
+use Rattle.grammar.specs.File.{grammarOf, symbolsOf, tokensOf, ruleCountOf, headerBytes, ruleBytes}
+use Rattle.grammar.specs.Decoded.{grammarIn, rulesIn}
+use Rattle.grammar.proofs.Verdicts.{accepted-readable, read-grammar}
+use Rattle.grammar.specs.Rules.{Grammar}
+use Rattle.parse.specs.declared.State.{State}
+use Rattle.parse.specs.Tells.{Tells}
+use Rattle.parse.specs.Words.{Words, within}
+use Rattle.parse.specs.WellFormed.{WellFormed}
+use Rattle.recognizer.specs.declared.Sizes.{Sizes}
+use Rattle.recognizer.specs.declared.Refusal.{Refusal}
+use Rattle.recognizer.specs.declared.file.Opened.{Opened}
+use Rattle.recognizer.specs.declared.file.Opened.the-variants as opened
+use Rattle.recognizer.specs.Answers.{refusalNumber}
+use Rattle.recognizer.specs.Calls.{Checked, FileFault, CallFault, Formed, Finishes, Reports}
+use Rattle.recognizer.specs.Cuts.{lastWrapsIn, latestPartIn}
+use Rattle.recognizer.specs.Opening.{Sound, Opens}
+use Rattle.recognizer.specs.Steppable.{grammarFrom}
+use Rattle.recognizer.proofs.Cutting.{last-same, part-same}
+
+-- What opening a file has told.
+module _ (file : List ℕ) (r : Opened) (tells : Opens file r) where
+  pub opened-fault : (why : Refusal) → r ≡ opened.Refused why → FileFault file (refusalNumber why)
+  opened-fault why is = subst (Opens file) is tells
+
+  pub opened-sound : (sizes : Sizes) → r ≡ opened.Sound sizes → Sound file sizes
+  opened-sound sizes is = subst (Opens file) is tells
+
+module _ (file : List ℕ) (sizes : Sizes) (sound : Sound file sizes) where
+  -- Its rules can be decoded, ..
+  pub sound-readable : (headerBytes + ruleBytes * ruleCountOf file ≤ length file) × (ruleCountOf file ≤ maxRules)
+  sound-readable = accepted-readable file (sound .whole) (sound .accepted)
+
+  -- .. are few, ..
+  pub sound-few : sizes .rules ≤ maxRules
+  sound-few = omega (arith, sound .rules, sound-readable .1)
+
+  -- .. and are, decoded, the grammar of the file.
+  module _ (words : List ℕ) (decoded : grammarIn words (symbolsOf file) (tokensOf file) (ruleCountOf file) ≡ grammarOf file) where
+    decoded-is : grammarFrom words sizes ≡ grammarOf file
+    decoded-is =
+        read-grammar file (sizes .symbols) (sizes .tokens) (sizes .rules) words
+        (record { symbols = sound .symbols; tokens = sound .tokens; rules = sound .rules }) decoded
+
+    pub sound-checked : Checked file (grammarFrom words sizes)
+    sound-checked = record { whole = sound .whole; is = sym decoded-is; accepted = subst⁻¹ Accepted decoded-is (sound .accepted) }
+
+    -- The state is well formed or not, as the test tells.
+    module _ (s : State) (w : Words) (b : Bool) (tells : Tells b (WellFormed (sizes .symbols) (rulesIn words (sizes .rules)) s (within w))) where
+      pub told-ill-formed : not b ≡ true → CallFault file s w 4
+      told-ill-formed not-so = CallFault.ill-formed sound-checked (tells .nay (not-true b not-so))
+
+      pub told-formed : not b ≡ false → Formed file s w (grammarFrom words sizes)
+      told-formed so = record { checked = sound-checked; well-formed = tells .yes (not-false b so) }
+
+-- The reports of a well-formed state, from the uncut words.
+module _ (file : List ℕ) (s : State) (w : Words) where
+  pub finishes-with : {g : Grammar} → Formed file s w g → (b answer : Bool) → b ≡ lastWrapsIn s (w .items) (w .starts) → b ≡ answer → Finishes file s w 0 answer
+  finishes-with {g} formed b answer is says =
+      subst (Finishes file s w 0) (sym (last-same (g .symbols) (g .rules) s w (formed .well-formed)) ∙ sym is ∙ says) (Finishes.done formed)
+
+  pub reports-with : {g : Grammar} → Formed file s w g → (part : List ℕ) → part ≡ latestPartIn s (w .items) (w .starts) → Reports file s w 0 part
+  reports-with {g} formed part is =
+      subst (Reports file s w 0) (sym (is ∙ part-same (g .symbols) (g .rules) s w (formed .well-formed))) (Reports.done formed)
+
+  pub reports-refused : {n : ℕ} → CallFault file s w n → (number : ℕ) → number ≡ n → Reports file s w number []
+  reports-refused fault number is = subst (λ (k : ℕ). Reports file s w k []) (sym is) (Reports.refused fault)
