@@ -34,8 +34,8 @@ module _ {file : List ℕ} {g : Grammar} {table : List (List ℕ)} where
       → Ready file (started g table (within w) .state) (inPlace w (started g table (within w)) .words) g table
   started-ready w sound some =
       let sets : 0 < length (within w .rows) / rowWords = omega (arith, sets-room w) in
-      ready-in w sound (omega arith) (started-sizes (sound .accepted) (sound .predicts) (within w) sets)
-      (started-well (sound .accepted) (sound .predicts) (within w) sets)
+      ready-in w sound (omega arith) (started-sizes (sound .checked .accepted) (sound .predicts) (within w) sets)
+      (started-well (sound .checked .accepted) (sound .predicts) (within w) sets)
 
   -- and after a token.
   pub stepped-ready : (s : State) (w : Words) (t : ℕ) → Ready file s w g table
@@ -44,8 +44,8 @@ module _ {file : List ℕ} {g : Grammar} {table : List (List ℕ)} where
       let some : 0 < setRoom w = omega (arith, ready .well-formed .set-fits, sets-room w) in
       let cut : Cut (within w) = within-cut w some in
       ready-in w (ready .sound) (omega arith)
-      (step-sizes (ready .sound .accepted) (ready .well-formed) cut t (ready .sound .predicts))
-      (step-well (ready .sound .accepted) (ready .well-formed) cut t (ready .sound .predicts))
+      (step-sizes (ready .sound .checked .accepted) (ready .well-formed) cut t (ready .sound .predicts))
+      (step-well (ready .sound .checked .accepted) (ready .well-formed) cut t (ready .sound .predicts))
 
   -- One that starts, over any state and words,
   pub reading-start : {s′ : State} {w′ : Words} (s : State) (w : Words) → Sound file g table → 0 < setRoom w → inPlace w (started g table (within w)) ≡ asItWas 0 s′ w′

@@ -26,7 +26,7 @@ use Rattle.completion.proofs.Turning.{not-resting, rest-empty, pop-items, pop-w
 use Rattle.completion.proofs.Through.{Begins}
 use Rattle.completion.proofs.Charting.{steady-refl, greatest-charts}
 use Rattle.completion.proofs.Heaped.{heaped-pop}
-use Rattle.completion.proofs.Grounds.{Grounds, Pending}
+use Rattle.completion.specs.Pending.{Grounds, Pending}
 use Rattle.completion.proofs.Pending.{first-pending, all-sums-rest}
 use Rattle.completion.proofs.Beginning.{beginning, accepted-grounds, begins-pending, is-set}
 use Rattle.earley.proofs.Steps as steps

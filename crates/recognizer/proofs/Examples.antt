@@ -81,7 +81,7 @@ predicts-a = tabulates-predicts grammar-a rows-a accepted-a (record { wide = ref
 
 pub sound-a : Sound file-a grammar-a (tableOf rows-a)
 unfolding rulesFrom
-sound-a = record { whole = whole file-a (omega arith) refl refl refl; is = refl; accepted = accepted-a; predicts = predicts-a }
+sound-a = record { checked = record { whole = whole file-a (omega arith) refl refl refl; is = refl; accepted = accepted-a }; predicts = predicts-a }
 
 abbrev words-a0 : Words
 words-a0 = record { items = 0 ∷ 0 ∷ 0 ∷ 0 ∷ 0 ∷ 0 ∷ 0 ∷ 0 ∷ 0 ∷ 0 ∷ 0 ∷ 0 ∷ 0 ∷ 0 ∷ 0 ∷ 0 ∷ []; starts = 0 ∷ 0 ∷ 0 ∷ 0 ∷ 0 ∷ []; rows = 21 ∷ 0 ∷ 0 ∷ 0 ∷ 0 ∷ 0 ∷ 0 ∷ 0 ∷ []; queue = 0 ∷ 0 ∷ 0 ∷ 0 ∷ [] }
@@ -118,7 +118,7 @@ read-a = reading-on (reading-on {s′ = state 2 3} {w′ = words-a2} one-a 1 ref
 
 -- So it is a sentence, since finished says yes;
 pub sentence-a : Sentence (grammarOf file-a) (0 ∷ 1 ∷ 0 ∷ [])
-sentence-a = finished-tells (Finishes.done (read-a .ready)) .sentences (0 ∷ 1 ∷ 0 ∷ []) (read-a .history) .sentence .0 refl
+sentence-a = finished-tells (Finishes.done (record { checked = sound-a .checked; well-formed = read-a .ready .well-formed })) .sentences (0 ∷ 1 ∷ 0 ∷ []) (read-a .history) .sentence .0 refl
 
 -- and no sentence begins with "0 0", since the second is answered 6.
 pub none-a : Begins (grammarOf file-a) (0 ∷ 0 ∷ []) → ⊥
@@ -161,7 +161,7 @@ predicts-b = tabulates-predicts grammar-b rows-b accepted-b (record { wide = ref
 
 pub sound-b : Sound file-b grammar-b (tableOf rows-b)
 unfolding rulesFrom
-sound-b = record { whole = whole file-b (omega arith) refl refl refl; is = refl; accepted = accepted-b; predicts = predicts-b }
+sound-b = record { checked = record { whole = whole file-b (omega arith) refl refl refl; is = refl; accepted = accepted-b }; predicts = predicts-b }
 
 abbrev words-b0 : Words
 words-b0 = record { items = 0 ∷ 0 ∷ 0 ∷ 0 ∷ 0 ∷ 0 ∷ 0 ∷ 0 ∷ 0 ∷ 0 ∷ 0 ∷ 0 ∷ []; starts = 0 ∷ 0 ∷ 0 ∷ 0 ∷ []; rows = 89 ∷ 0 ∷ 0 ∷ 0 ∷ 0 ∷ 0 ∷ []; queue = 0 ∷ 0 ∷ [] }
@@ -181,3 +181,19 @@ start-b = reading-start (state 7 7) old-b sound-b (omega arith) refl
 pub read-b : History file-b (state 2 3) words-b3 (0 ∷ 1 ∷ 2 ∷ [])
 unfolding advanced stepped ran andThen store enqueue completeMedial completeMedialItems completeUnary completeUnaryPredictions completeBinary completeBinaryPredictions complete nextSummand popSum completeSum completeAllSums over until union records.flat highest greatestOrigin predictions itemsFrom insert sortInto binary pushWords popWords pushed popped move goesUp rise siftUp takesRight child goesDown sink siftDown rowsOf
 read-b = History.run {us = 0 ∷ 1 ∷ 2 ∷ []} (start-b .history) (Runs.done (start-b .ready))
+
+-- A START IN THE MIDDLE BEGINS ANEW: over the words that B's parse left, "0 1" is read and a second 0 is answered 6. No sentence begins so.
+abbrev words-b1 : Words
+words-b1 = record { items = 0 ∷ 3 ∷ 0 ∷ 0 ∷ 0 ∷ 0 ∷ 0 ∷ 0 ∷ 0 ∷ 0 ∷ 0 ∷ 0 ∷ []; starts = 0 ∷ 0 ∷ 1 ∷ 0 ∷ []; rows = 89 ∷ 0 ∷ 34 ∷ 0 ∷ 0 ∷ 0 ∷ []; queue = 0 ∷ 0 ∷ [] }
+
+abbrev words-b2 : Words
+words-b2 = record { items = 0 ∷ 3 ∷ 1 ∷ 4 ∷ 0 ∷ 0 ∷ 0 ∷ 0 ∷ 0 ∷ 0 ∷ 0 ∷ 0 ∷ []; starts = 0 ∷ 0 ∷ 1 ∷ 2 ∷ []; rows = 89 ∷ 0 ∷ 34 ∷ 0 ∷ 4 ∷ 0 ∷ []; queue = 0 ∷ 0 ∷ [] }
+
+again-b : Reading file-b grammar-b (tableOf rows-b) (state 2 2) words-b2 (0 ∷ 1 ∷ [])
+unfolding advanced stepped ran andThen store enqueue completeMedial completeMedialItems completeUnary completeUnaryPredictions completeBinary completeBinaryPredictions complete nextSummand popSum completeSum completeAllSums over until union records.flat highest greatestOrigin predictions itemsFrom insert sortInto binary pushWords popWords pushed popped move goesUp rise siftUp takesRight child goesDown sink siftDown rowsOf
+again-b =
+    reading-on (reading-on {s′ = state 1 1} {w′ = words-b1} (reading-start {s′ = state 0 0} {w′ = words-b0} (state 2 3) words-b3 sound-b (omega arith) refl) 0 refl) 1 refl
+
+pub none-b : Begins (grammarOf file-b) (0 ∷ 1 ∷ 0 ∷ []) → ⊥
+unfolding stepped
+none-b = token-tells {t = 0} (Takes.done (again-b .ready)) .sentences (0 ∷ 1 ∷ []) (again-b .history) (omega arith) .impossible .0 refl

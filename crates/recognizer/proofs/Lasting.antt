@@ -14,7 +14,7 @@ use Rattle.parse.specs.declared.State.{State}
 use Rattle.parse.specs.Words.{Words, setRoom, within, beyond, behind}
 use Rattle.parse.proofs.Capacities.{SameSizes, sets-room, within-new}
 use Rattle.recognizer.specs.Steps.{Outcome, Ended, stepped, ran}
-use Rattle.recognizer.specs.Calls.{Sound, FileFault, StartFault, CallFault, Starts, Takes, Runs}
+use Rattle.recognizer.specs.Calls.{Checked, Sound, FileFault, StartFault, CallFault, Starts, Takes, Runs}
 use Rattle.recognizer.specs.Histories.{History}
 use Rattle.recognizer.proofs.Cut.{within-cut, sizes-refl}
 use Rattle.recognizer.proofs.Starting.{started-sizes}
@@ -23,7 +23,7 @@ use Rattle.recognizer.proofs.Running.{RunHolds, run-holds}
 
 -- A file gives one grammar and one table.
 pub sound-grammar : {file : List ℕ} {g g′ : Grammar} {table table′ : List (List ℕ)} → Sound file g table → Sound file g′ table′ → g ≡ g′
-sound-grammar a b = sym (a .is) ∙ b .is
+sound-grammar a b = sym (a .checked .is) ∙ b .checked .is
 
 pub sound-table : {file : List ℕ} {g g′ : Grammar} {table table′ : List (List ℕ)} → Sound file g table → Sound file g′ table′ → table ≡ table′
 sound-table {g = g} {table = table} {table′ = table′} a b =
@@ -36,9 +36,9 @@ pub record Lasts (file : List ℕ) (s : State) (w : Words) (ts : List ℕ) : Typ
   pub holding : Holding grammar ts s (within w)
 
 -- It may be said of any grammar that the file gives.
-pub lasts-holding : {file : List ℕ} {s : State} {w : Words} {ts : List ℕ} {g : Grammar} {table : List (List ℕ)} → Lasts file s w ts → Sound file g table
-    → Holding g ts s (within w)
-lasts-holding {s = s} {w = w} {ts = ts} l sound = subst (λ (k : Grammar). Holding k ts s (within w)) (sound-grammar (l .sound) sound) (l .holding)
+pub lasts-holding : {file : List ℕ} {s : State} {w : Words} {ts : List ℕ} {g : Grammar} → Lasts file s w ts → Checked file g → Holding g ts s (within w)
+lasts-holding {s = s} {w = w} {ts = ts} l checked =
+    subst (λ (k : Grammar). Holding k ts s (within w)) (sym (l .sound .checked .is) ∙ checked .is) (l .holding)
 
 -- There is room for a set.
 holding-room : {g : Grammar} {ts : List ℕ} {s : State} (w : Words) → Holding g ts s (within w) → 1 ≤ setRoom w
@@ -55,27 +55,27 @@ fault-some : {file : List ℕ} {n : ℕ} → FileFault file n → n ≡ 0 → �
 fault-some (FileFault.malformed m) e = omega arith
 fault-some (FileFault.broken w n) e = omega arith
 
-no-file-fault : {file : List ℕ} {g : Grammar} {table : List (List ℕ)} {n : ℕ} → Sound file g table → FileFault file n → ⊥
-no-file-fault sound (FileFault.malformed m) = sound .whole m
-no-file-fault sound (FileFault.broken w n) = n (subst Accepted (sym (sound .is)) (sound .accepted))
+no-file-fault : {file : List ℕ} {g : Grammar} {n : ℕ} → Checked file g → FileFault file n → ⊥
+no-file-fault checked (FileFault.malformed m) = checked .whole m
+no-file-fault checked (FileFault.broken w n) = n (subst Accepted (sym (checked .is)) (checked .accepted))
 
 -- A start that is refused is not answered 0.
 start-some : {file : List ℕ} {w : Words} {n : ℕ} → StartFault file w n → n ≡ 0 → ⊥
 start-some (StartFault.file-fault f) e = fault-some f e
-start-some (StartFault.no-sets sound none) e = omega arith
+start-some (StartFault.no-sets checked none) e = omega arith
 
 -- No call of a history is refused with 1, 2 or 4.
 pub no-fault : {file : List ℕ} {s : State} {w : Words} {ts : List ℕ} {n : ℕ} → Lasts file s w ts → CallFault file s w n → ⊥
-no-fault l (CallFault.file-fault f) = no-file-fault (l .sound) f
-no-fault l (CallFault.ill-formed sound ill) = ill (lasts-holding l sound .well)
+no-fault l (CallFault.file-fault f) = no-file-fault (l .sound .checked) f
+no-fault l (CallFault.ill-formed checked ill) = ill (lasts-holding l checked .well)
 
 -- A start answered 0 begins.
 lasts-start : {file : List ℕ} {s : State} {w : Words} {o : Outcome} → Starts file s w o → o .number ≡ 0 → Lasts file (o .state) (o .words) []
 lasts-start (Starts.refused fault) e = absurd (start-some fault e)
 lasts-start {w = w} (Starts.done sound some) e =
     let sets : 0 < length (within w .rows) / rowWords = omega (arith, sets-room w) in
-    in-place w sound (omega arith) (started-sizes (sound .accepted) (sound .predicts) (within w) sets)
-    (start-holds (sound .accepted) (sound .predicts) (within w) (within-cut w some) sets)
+    in-place w sound (omega arith) (started-sizes (sound .checked .accepted) (sound .predicts) (within w) sets)
+    (start-holds (sound .checked .accepted) (sound .predicts) (within w) (within-cut w some) sets)
 
 -- One that is refused changes nothing.
 lasts-not-started : {file : List ℕ} {s : State} {w : Words} {ts : List ℕ} {o : Outcome} → Lasts file s w ts → Starts file s w o → (o .number ≡ 0 → ⊥)
@@ -87,10 +87,10 @@ module _ {file : List ℕ} {s : State} {w : Words} {ts : List ℕ} (l : Lasts fi
   -- A step in the words of a history accepts its token, or refuses it.
   pub lasts-judged : {g : Grammar} {table : List (List ℕ)} → Sound file g table → (t : ℕ)
       → Accepts g ts (within w) t (stepped g table s (within w) t) ⊎ Refuses g ts s (within w) t (stepped g table s (within w) t)
-  lasts-judged sound t = step-judged (sound .accepted) (sound .predicts) (lasts-holding l sound) t
+  lasts-judged sound t = step-judged (sound .checked .accepted) (sound .predicts) (lasts-holding l (sound .checked)) t
 
   pub lasts-ran : {g : Grammar} {table : List (List ℕ)} → Sound file g table → (us : List ℕ) → RunHolds g ts (within w) us (ran g table s (within w) us)
-  lasts-ran sound us = run-holds (sound .accepted) (sound .predicts) us (lasts-holding l sound)
+  lasts-ran sound us = run-holds (sound .checked .accepted) (sound .predicts) us (lasts-holding l (sound .checked))
 
   room : 1 ≤ setRoom w
   room = holding-room w (l .holding)
@@ -110,7 +110,7 @@ module _ {file : List ℕ} {s : State} {w : Words} {ts : List ℕ} (l : Lasts fi
       (λ (a : Accepts g ts (within w) t (stepped g table s (within w) t)). absurd (n (a .zero)))
       (λ (r : Refuses g ts s (within w) t (stepped g table s (within w) t)).
       in-place w (ready .sound) room (subst (λ (u : Words). SameSizes u (within w)) (sym (r .words)) (sizes-refl (within w)))
-      (subst₂ (Holding g ts) (sym (r .state)) (sym (r .words)) (lasts-holding l (ready .sound))))
+      (subst₂ (Holding g ts) (sym (r .state)) (sym (r .words)) (lasts-holding l (ready .sound .checked))))
       (lasts-judged (ready .sound) t)
 
   lasts-run : {us : List ℕ} {e : Ended} → Runs file s w us e → Lasts file (e .outcome .state) (e .outcome .words) (ts ++ take (e .taken) us)

@@ -21,6 +21,9 @@ pub mod OneToken
 pub mod Again
 pub mod Computed
 pub mod Tabled
+pub mod Carving
+pub mod Turning
+pub mod Given
 pub mod Cutting
 pub mod Readying
 pub mod Beginning

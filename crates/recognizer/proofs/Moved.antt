@@ -7,7 +7,8 @@ use native.Mathlib.Omega.{arith}
 use lib.ListN.{length, getD, take, drop, replicate, length-append, length-take, length-replicate, List·getD-append, List·getD-eq-default}
 use lib.Seq.{length-take-le, getD-take, getD-append-add, getD-at}
 use Rattle.laws.specs.Bits.{Holds, rowOf}
-use Rattle.laws.proofs.Bits.{row-word, zeros-hold}
+use Rattle.laws.proofs.Bits.{zeros-hold}
+use Rattle.laws.proofs.Rows.{row-word}
 use Rattle.bits.specs.Width.{rowWords}
 use Rattle.item.specs.Item.{Item, itemWords, itemAt}
 use Rattle.parse.specs.declared.State.{State}

@@ -34,11 +34,11 @@ on-end a t us = append-assoc a (t ∷ []) us
 
 module _ (g : Grammar) (table : List (List ℕ)) (s : State) (v : Words) (t : ℕ) (us : List ℕ) where
   -- A run goes on behind a token that is accepted, and ends at one that is refused.
-  ran-on : stepped g table s v t .number ≡ 0 → ran g table s v (t ∷ us) ≡ oneMore (ran g table (stepped g table s v t .state) (stepped g table s v t .words) us)
+  pub ran-on : stepped g table s v t .number ≡ 0 → ran g table s v (t ∷ us) ≡ oneMore (ran g table (stepped g table s v t .state) (stepped g table s v t .words) us)
   unfolding ran
   ran-on e = rw (ran, eq-eqb (stepped g table s v t .number) 0 e) refl
 
-  ran-off : (stepped g table s v t .number ≡ 0 → ⊥) → ran g table s v (t ∷ us) ≡ record { outcome = stepped g table s v t; taken = 0 }
+  pub ran-off : (stepped g table s v t .number ≡ 0 → ⊥) → ran g table s v (t ∷ us) ≡ record { outcome = stepped g table s v t; taken = 0 }
   unfolding ran
   ran-off n = rw (ran, ne-eqb (stepped g table s v t .number) 0 n) refl
 

@@ -60,10 +60,10 @@ module _ {file : List ℕ} {s : State} {w : Words} where
   token-tells (Takes.refused fault) = record { sentences = λ ts h small. absurd (no-fault (lasts h) fault) }
   token-tells {t} (Takes.done {g = g} {table = table} ready) = record {
     sentences = λ ts h small.
-        subst (λ (k : Grammar). Judged k ts t (stepped g table s (within w) t .number)) (sym (ready .sound .is))
+        subst (λ (k : Grammar). Judged k ts t (stepped g table s (within w) t .number)) (sym (ready .sound .checked .is))
         (⊎-elim
         (λ (a : Accepts g ts (within w) t (stepped g table s (within w) t)). judged-accepted a)
-        (λ (r : Refuses g ts s (within w) t (stepped g table s (within w) t)). judged-refused (subst (λ (k : Grammar). t < k .tokens) (ready .sound .is) small) (r .why))
+        (λ (r : Refuses g ts s (within w) t (stepped g table s (within w) t)). judged-refused (subst (λ (k : Grammar). t < k .tokens) (ready .sound .checked .is) small) (r .why))
         (lasts-judged (lasts h) (ready .sound) t));
   }
 
@@ -72,18 +72,28 @@ module _ {file : List ℕ} {s : State} {w : Words} where
   run-tells (Runs.refused fault) = record { sentences = λ ts h. absurd (no-fault (lasts h) fault) }
   run-tells {us} (Runs.done {g = g} {table = table} ready) = record {
     sentences = λ ts h.
-        subst (λ (k : Grammar). RunJudged k ts us (ran g table s (within w) us .outcome .number) (ran g table s (within w) us .taken)) (sym (ready .sound .is))
+        subst (λ (k : Grammar). RunJudged k ts us (ran g table s (within w) us .outcome .number) (ran g table s (within w) us .taken)) (sym (ready .sound .checked .is))
         (run-judged (lasts-ran (lasts h) (ready .sound) us));
   }
 
   -- Of finished.
   pub finished-tells : {n : ℕ} {yes : Bool} → Finishes file s w n yes → FinishedTells file s w n yes
   finished-tells (Finishes.refused fault) = record { sentences = λ ts h. absurd (no-fault (lasts h) fault) }
-  finished-tells (Finishes.done {g = g} ready) = record {
+  finished-tells (Finishes.done formed) = record {
     sentences = λ ts h. record {
       done = refl;
       sentence =
-          subst (λ (k : Grammar). (lastWraps s (within w) ≡ true) ↔ Sentence k ts) (sym (ready .sound .is))
-          (finished-sentence (ready .sound .accepted) (lasts-holding (lasts h) (ready .sound)));
+          subst (λ (k : Grammar). (lastWraps s (within w) ≡ true) ↔ Sentence k ts) (sym (formed .checked .is))
+          (finished-sentence (formed .checked .accepted) (lasts-holding (lasts h) (formed .checked)));
     };
   }
+
+  -- What a call does tells what it means.
+  pub token-means : {t : ℕ} {o : Outcome} → Takes file s w t o → Takes file s w t o × TokenTells file s w t (o .number)
+  token-means takes = (takes, token-tells takes)
+
+  pub run-means : {us : List ℕ} {e : Ended} → Runs file s w us e → Runs file s w us e × RunTells file s w us e
+  run-means runs = (runs, run-tells runs)
+
+  pub finished-means : {n : ℕ} {yes : Bool} → Finishes file s w n yes → Finishes file s w n yes × FinishedTells file s w n yes
+  finished-means finishes = (finishes, finished-tells finishes)

@@ -1,22 +1,13 @@
 -- What the calls on cut words rely on and give.
-use mathlib.Core.Path.{_≡_}
-use mathlib.Core.Bool.{Bool, true, false, _&&_}
-use mathlib.Core.List.{List, _++_}
-use Prim.Native.Nat.{ℕ, _+_, _-_, _*_, _≤_, _<_}
+use mathlib.Core.Bool.{Bool, _&&_}
+use mathlib.Core.List.{List}
+use Prim.Native.Nat.{ℕ, _-_, _*_, _≤_, _<_}
 use lib.ListN.{length, getD, take, drop, replicate}
 use lib.Dec.{eqb, ltb}
-use Rattle.laws.specs.Bits.{Below, Holds}
-use Rattle.bits.specs.Width.{rowWords}
 use Rattle.item.specs.Item.{itemWords, ruleAt}
-use Rattle.grammar.specs.Rules.{Grammar}
-use Rattle.grammar.specs.Prediction.{rowAt}
 use Rattle.parse.specs.declared.State.{State}
 use Rattle.parse.specs.Words.{Words, within, beyond, behind}
 use Rattle.advance.specs.Advance.{padded}
-
--- No row of a table has a bit at N or above.
-pub record Closed (g : Grammar) (table : List (List ℕ)) : Type 0 where
-  pub below : (x : ℕ) → Below (g .symbols) (rowAt table x)
 
 -- The words within the capacities cleared, with a row in row 0, and the words past them as they were.
 abbrev pub begunWords : List ℕ → Words → Words

@@ -5,9 +5,10 @@ mod step;
 mod within;
 
 ghost use mathlib.Core.Path.{_≡_};
-ghost use Rattle.recognizer.specs.Answers.{refusalNumber, outcomeOf, endedOf, finishedNumber, saysYes};
+ghost use Rattle.recognizer.specs.Answers.{refusalNumber, numberOf, outcomeOf, endedOf, finishedNumber, saysYes};
 ghost use Rattle.recognizer.specs.Calls.{Starts, Takes, Runs, Finishes, Reports};
 ghost use Rattle.recognizer.specs.Steppable.{wordsOf};
+ghost use Rattle.recognizer.specs.Sentences.{TokenTells, RunTells, FinishedTells};
 use crate::file::Opened;
 use crate::file::open;
 use crate::within::begin;
@@ -93,6 +94,7 @@ pub fn token(
     t: u16,
 ) -> Answer
     ensures calls { λ r. ⌜ Takes (now (file .entry)) state (wordsOf (now (items .entry)) (now (starts .entry)) (now (rows .entry)) (now (queue .entry))) t (outcomeOf r (wordsOf (now (items .exit)) (now (starts .exit)) (now (rows .exit)) (now (queue .exit)))) ⌝ }
+    ensures sentences { λ r. ⌜ TokenTells (now (file .entry)) state (wordsOf (now (items .entry)) (now (starts .entry)) (now (rows .entry)) (now (queue .entry))) t (numberOf r) ⌝ }
 {
     let sizes = match open(file) {
         Opened::Refused(why) => return Answer::Refused(why, state),
@@ -127,6 +129,7 @@ pub fn run(
     tokens: &[u16],
 ) -> Ran
     ensures calls { λ r. ⌜ Runs (now (file .entry)) state (wordsOf (now (items .entry)) (now (starts .entry)) (now (rows .entry)) (now (queue .entry))) (now (tokens .entry)) (endedOf r (wordsOf (now (items .exit)) (now (starts .exit)) (now (rows .exit)) (now (queue .exit)))) ⌝ }
+    ensures sentences { λ r. ⌜ RunTells (now (file .entry)) state (wordsOf (now (items .entry)) (now (starts .entry)) (now (rows .entry)) (now (queue .entry))) (now (tokens .entry)) (endedOf r (wordsOf (now (items .exit)) (now (starts .exit)) (now (rows .exit)) (now (queue .exit)))) ⌝ }
 {
     let sizes = match open(file) {
         Opened::Refused(why) => return Ran {
@@ -166,6 +169,7 @@ pub fn finished(
     queue: &[u32],
 ) -> Whether
     ensures calls { λ r. ⌜ Finishes (now (file .entry)) state (wordsOf (now (items .entry)) (now (starts .entry)) (now (rows .entry)) (now (queue .entry))) (finishedNumber r) (saysYes r) ⌝ }
+    ensures sentences { λ r. ⌜ FinishedTells (now (file .entry)) state (wordsOf (now (items .entry)) (now (starts .entry)) (now (rows .entry)) (now (queue .entry))) (finishedNumber r) (saysYes r) ⌝ }
 {
     let sizes = match open(file) {
         Opened::Refused(why) => return Whether::Refused(why),

@@ -3,6 +3,7 @@ ghost use mathlib.Core.Path.{_≡_};
 ghost use Prim.Native.Nat.{_≤_, _<_};
 ghost use Rattle.grammar.specs.Accepted.{maxRules};
 ghost use Rattle.grammar.specs.Decoded.{rulesIn};
+ghost use Rattle.grammar.specs.Prediction.{Predicts};
 ghost use Rattle.parse.specs.Tells.{Tells};
 ghost use mathlib.Core.List.{_++_};
 ghost use lib.ListN.{length, drop, replicate};
@@ -11,7 +12,7 @@ ghost use Rattle.parse.specs.Words.{setRoomOf, within};
 ghost use Rattle.parse.specs.WellFormed.{WellFormed};
 ghost use Rattle.recognizer.specs.Steps.{stepped, ran};
 ghost use Rattle.recognizer.specs.Calls.{inPlace, inPlaceEnded};
-ghost use Rattle.recognizer.specs.Cuts.{Closed, begunWords, LatestThere, lastWrapsIn, latestPartIn};
+ghost use Rattle.recognizer.specs.Cuts.{begunWords, LatestThere, lastWrapsIn, latestPartIn};
 ghost use Rattle.recognizer.specs.Answers.{outcomeOf, endedOf};
 ghost use Rattle.recognizer.specs.Steppable.{grammarFrom, wordsOf, Steppable};
 use crate::Answer;
@@ -106,7 +107,7 @@ pub fn run_within(
     queue: &mut [u32],
     tokens: &[u16],
 ) -> Ran
-    requires { ⌜ Steppable (grammarFrom (now rules) sizes) (now table) state (within (wordsOf (now items) (now starts) (now rows) (now queue))) × Closed (grammarFrom (now rules) sizes) (now table) ⌝ }
+    requires { ⌜ Steppable (grammarFrom (now rules) sizes) (now table) state (within (wordsOf (now items) (now starts) (now rows) (now queue))) × Predicts (grammarFrom (now rules) sizes) rowWords (now table) ⌝ }
     ensures { λ r. ⌜ endedOf r (wordsOf (now (items .exit)) (now (starts .exit)) (now (rows .exit)) (now (queue .exit))) ≡ inPlaceEnded (wordsOf (now (items .entry)) (now (starts .entry)) (now (rows .entry)) (now (queue .entry))) (ran (grammarFrom (now (rules .entry)) sizes) (now (table .entry)) state (within (wordsOf (now (items .entry)) (now (starts .entry)) (now (rows .entry)) (now (queue .entry)))) (now (tokens .entry))) ⌝ }
 {
     let mut now = state;

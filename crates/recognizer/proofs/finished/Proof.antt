@@ -3,6 +3,7 @@ use borrow.Author.Needs.{needs}
 use Rattle.recognizer.specs.Calls.{CallFault, Finishes}
 use Rattle.recognizer.specs.Steppable.{wordsOf}
 use Rattle.recognizer.proofs.Readying.{opened-fault, opened-sound, sound-readable, sound-few, told-ill-formed, told-formed, finishes-with}
+use Rattle.recognizer.proofs.Telling.{finished-means}
 use Rattle.recognizer.proofs.Cutting.{latest-there}
 use Rattle.recognizer.proofs.finished.Statement.{statement}
 use Rattle.recognizer.proofs.finished.Tie as tie
@@ -15,7 +16,7 @@ enum-known-why c = search needs
 
 returns : tie.Need-returns
 returns c =
-    Finishes.refused (CallFault.file-fault (opened-fault _ _ (c .before .before .before .«open» .ensures) _ (c .before .why .given .1)))
+    finished-means (Finishes.refused (CallFault.file-fault (opened-fault _ _ (c .before .before .before .«open» .ensures) _ (c .before .why .given .1))))
 
 enum-known-found : tie.Need-enum-known-found
 enum-known-found c = search needs
@@ -36,7 +37,7 @@ returns-2 c =
     let words = wordsOf (start .args .items .now) (start .args .starts .now) (start .args .rows .now) (start .args .queue .now) in
     let sound = opened-sound _ _ (c .before .before .before .before .before .before .before .«open» .ensures) _ (c .before .before .before .before .before .found .given .1) in
     let fault = told-ill-formed _ _ sound _ (c .before .before .before .decode .ensures) (start .args .state) words _ (c .before .well-formed .ensures) (c .if1 .taken) in
-    Finishes.refused fault
+    finished-means (Finishes.refused fault)
 
 last-wraps-requires : tie.Need-last-wraps-requires
 last-wraps-requires c κs =
@@ -52,7 +53,7 @@ returns-3 c =
     let words = wordsOf (start .args .items .now) (start .args .starts .now) (start .args .rows .now) (start .args .queue .now) in
     let sound = opened-sound _ _ (c .before .before .before .before .before .before .before .before .before .«open» .ensures) _ (c .before .before .before .before .before .before .before .found .given .1) in
     let formed = told-formed _ _ sound _ (c .before .before .before .before .before .decode .ensures) (start .args .state) words _ (c .before .before .before .well-formed .ensures) (c .before .before .if1 .left) in
-    finishes-with _ (start .args .state) words formed _ _ (c .before .last-wraps .ensures) (c .if2 .taken)
+    finished-means (finishes-with _ (start .args .state) words formed _ _ (c .before .last-wraps .ensures) (c .if2 .taken))
 
 returns-4 : tie.Need-returns-4
 returns-4 c =
@@ -60,7 +61,7 @@ returns-4 c =
     let words = wordsOf (start .args .items .now) (start .args .starts .now) (start .args .rows .now) (start .args .queue .now) in
     let sound = opened-sound _ _ (c .before .before .before .before .before .before .before .before .before .«open» .ensures) _ (c .before .before .before .before .before .before .before .found .given .1) in
     let formed = told-formed _ _ sound _ (c .before .before .before .before .before .decode .ensures) (start .args .state) words _ (c .before .before .before .well-formed .ensures) (c .before .before .if1 .left) in
-    finishes-with _ (start .args .state) words formed _ _ (c .before .last-wraps .ensures) (c .if2 .left)
+    finished-means (finishes-with _ (start .args .state) words formed _ _ (c .before .last-wraps .ensures) (c .if2 .left))
 
 pub finished-spec : {M : Type 1} → statement M
 finished-spec =

@@ -1,0 +1,41 @@
+-- What a call on a parse may do, and gives, that has found its state well formed and made its table.
+use mathlib.Core.Path.{_≡_, sym, subst}
+use mathlib.Core.List.{List}
+use Prim.Native.Nat.{ℕ, _<_}
+use native.Mathlib.Omega.{arith}
+use Rattle.bits.specs.Width.{rowWords}
+use Rattle.grammar.specs.Rules.{Grammar}
+use Rattle.grammar.specs.Prediction.{Predicts}
+use Rattle.parse.specs.declared.State.{State}
+use Rattle.parse.specs.Words.{Words, setRoom, within}
+use Rattle.recognizer.specs.Steps.{Outcome, Ended, stepped, ran}
+use Rattle.recognizer.specs.Calls.{Formed, Ready, inPlace, inPlaceEnded, Takes, Runs}
+use Rattle.recognizer.specs.Steppable.{Steppable}
+use Rattle.recognizer.proofs.Carving.{some-set}
+use Rattle.recognizer.proofs.Cut.{Cut, within-cut}
+use Rattle.recognizer.proofs.Tables.{table-shape}
+
+module _ {file : List ℕ} {s : State} {w : Words} {g : Grammar} {table : List (List ℕ)} (formed : Formed file s w g) (predicts : Predicts g rowWords table) where
+  -- A step can be taken in the words within the capacities.
+  pub can-step : Steppable g table s (within w)
+  can-step =
+      let some : 0 < setRoom w = omega (arith, some-set w (formed .well-formed)) in
+      let cut : Cut (within w) = within-cut w some in
+      record {
+        accepted = formed .checked .accepted;
+        shape = table-shape (formed .checked .accepted) predicts;
+        well-formed = formed .well-formed;
+        rowed = cut .rowed;
+        few-items = cut .few-items;
+      }
+
+  ready : Ready file s w g table
+  ready = record { sound = record { checked = formed .checked; predicts = predicts }; well-formed = formed .well-formed }
+
+  -- What a step comes to is what a token's contract tells, ..
+  pub takes : (t : ℕ) {o : Outcome} → o ≡ inPlace w (stepped g table s (within w) t) → Takes file s w t o
+  takes t came = subst (Takes file s w t) (sym came) (Takes.done ready)
+
+  -- .. and what a step a token comes to what a run's tells.
+  pub runs : (ts : List ℕ) {e : Ended} → e ≡ inPlaceEnded w (ran g table s (within w) ts) → Runs file s w ts e
+  runs ts came = subst (Runs file s w ts) (sym came) (Runs.done ready)

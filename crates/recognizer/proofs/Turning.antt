@@ -1,0 +1,162 @@
+-- A run's turns: what is left of the tokens gives what all of them give.
+use mathlib.Core.Path.{_≡_, sym, ap, _∙_, subst}
+use mathlib.Core.List.{List, [], _∷_}
+use Prim.Native.Nat.{ℕ, _+_, _≤_, _<_}
+use native.Mathlib.Numerals.{add-one}
+use native.Mathlib.Omega.{arith}
+use lib.ListN.{length, getD, drop}
+use lib.Seq.{drop-cons, drop-length}
+use Rattle.bits.specs.Width.{rowWords}
+use Rattle.grammar.specs.Rules.{Grammar}
+use Rattle.grammar.specs.Prediction.{Predicts}
+use Rattle.parse.specs.declared.State.{State}
+use Rattle.parse.specs.Words.{Words, setRoom, within, beyond, behind}
+use Rattle.parse.proofs.Capacities.{SameSizes, split-whole, within-new, beyond-new}
+use Rattle.recognizer.specs.Steps.{Outcome, Ended, stepped, ran}
+use Rattle.recognizer.specs.Calls.{inPlace, inPlaceEnded}
+use Rattle.recognizer.specs.Steppable.{Steppable}
+use Rattle.recognizer.specs.declared.Refusal.{Refusal}
+use Rattle.recognizer.specs.declared.Refusal.the-variants.{Malformed, Broken, NoSets, IllFormed, NoToken, NotPredicted, ItemsFull, QueueFull, SetsFull}
+use Rattle.recognizer.specs.declared.Answer.{Answer}
+use Rattle.recognizer.specs.declared.Answer.the-variants.{Done, Refused}
+use Rattle.recognizer.specs.Answers.{refusalNumber, outcomeOf, endedOf}
+use Rattle.recognizer.proofs.Carving.{some-set, place-sizes}
+use Rattle.recognizer.proofs.Cut.{Cut, cut-same, sizes-refl, sizes-trans}
+use Rattle.recognizer.proofs.Refusing.{step-sizes, step-well}
+use Rattle.recognizer.proofs.Running.{ran-on, ran-off}
+
+-- A refusal's number is not 0.
+number-some : (why : Refusal) → refusalNumber why ≡ 0 → ⊥
+number-some Malformed e = omega arith
+number-some Broken e = omega arith
+number-some NoSets e = omega arith
+number-some IllFormed e = omega arith
+number-some NoToken e = omega arith
+number-some NotPredicted e = omega arith
+number-some ItemsFull e = omega arith
+number-some QueueFull e = omega arith
+number-some SetsFull e = omega arith
+
+-- `n` tokens before a run.
+abbrev pub before : ℕ → Ended → Ended
+before n e = record { outcome = e .outcome; taken = n + e .taken }
+
+-- What a run comes to, with words behind.
+abbrev putBack : Words → Ended → Ended
+putBack b e = record { outcome = record { number = e .outcome .number; state = e .outcome .state; words = behind (e .outcome .words) b }; taken = e .taken }
+
+-- A run over `ts` from `s₀` and `w₀` has taken `n` tokens and stands at `s` and `w`.
+pub record Going (g : Grammar) (table : List (List ℕ)) (s₀ : State) (w₀ : Words) (ts : List ℕ) (s : State) (w : Words) (n : ℕ) : Type 0 where
+  pub few : n ≤ length ts
+  pub sizes : SameSizes w w₀
+  pub steppable : Steppable g table s (within w)
+  pub gives : before n (inPlaceEnded w (ran g table s (within w) (drop n ts))) ≡ inPlaceEnded w₀ (ran g table s₀ (within w₀) ts)
+
+-- Nothing before, or nothing behind.
+none-before : (n : ℕ) → 0 + n ≡ n
+none-before n = omega arith
+
+none-behind : (n : ℕ) → n ≡ n + 0
+none-behind n = omega arith
+
+-- It begins so.
+pub going-first : {g : Grammar} {table : List (List ℕ)} {s : State} {w : Words} (ts : List ℕ) → Steppable g table s (within w) → Going g table s w ts s w 0
+going-first {g} {table} {s} {w} ts h = record {
+  few = omega arith;
+  sizes = sizes-refl w;
+  steppable = h;
+  gives = λ k. record { outcome = whole .outcome; taken = none-before (whole .taken) k };
+}
+  where
+    whole : Ended
+    whole = inPlaceEnded w (ran g table s (within w) ts)
+
+module _ {g : Grammar} {table : List (List ℕ)} {s₀ : State} {w₀ : Words} {ts : List ℕ} {s : State} {w : Words} {n : ℕ} (h : Going g table s₀ w₀ ts s w n) where
+  -- The run ends with the tokens.
+  pub going-end : length ts ≤ n → endedOf (record { answer = Done s; taken = n }) w ≡ inPlaceEnded w₀ (ran g table s₀ (within w₀) ts)
+  unfolding ran
+  going-end l =
+      (λ k. record { outcome = record { number = 0; state = s; words = sym (split-whole w) k }; taken = none-behind n k })
+      ∙ ap (λ (us : List ℕ). before n (inPlaceEnded w (ran g table s (within w) us))) (sym none)
+      ∙ h .gives
+    where
+      none : drop n ts ≡ []
+      none = let e : n ≡ length ts = omega (arith, h .few) in ap (λ (k : ℕ). drop k ts) e ∙ drop-length ts
+
+  module _ (there : n < length ts) where
+    abbrev t : ℕ
+    t = getD ts n 0
+
+    abbrev after : Outcome
+    after = stepped g table s (within w) t
+
+    next : drop n ts ≡ t ∷ drop (n + 1) ts
+    next = drop-cons ts n 0 there ∙ ap (λ (k : ℕ). t ∷ drop k ts) (sym (add-one n))
+
+    -- It ends at the first refusal.
+    off : (o : Outcome) → o ≡ inPlace w after → (o .number ≡ 0 → ⊥) → record { outcome = o; taken = n } ≡ inPlaceEnded w₀ (ran g table s₀ (within w₀) ts)
+    off o came some =
+        (λ k. record { outcome = came k; taken = none-behind n k })
+        ∙ ap (λ (e : Ended). before n (inPlaceEnded w e)) (sym (ran-off g table s (within w) t (drop (n + 1) ts) (λ zero. some (ap (λ (p : Outcome). p .number) came ∙ zero))))
+        ∙ ap (λ (us : List ℕ). before n (inPlaceEnded w (ran g table s (within w) us))) (sym next)
+        ∙ h .gives
+
+    module _ (predicts : Predicts g rowWords table) where
+      cut : Cut (within w)
+      cut = record { few-items = h .steppable .few-items; rowed = h .steppable .rowed }
+
+      same : SameSizes (after .words) (within w)
+      same = step-sizes (h .steppable .accepted) (h .steppable .well-formed) cut t predicts
+
+      some : 1 ≤ setRoom w
+      some = some-set w (h .steppable .well-formed)
+
+      -- A step's words stand within the capacities, with the same words past them, ..
+      inside : within (inPlace w after .words) ≡ after .words
+      inside = within-new w (after .words) some same
+
+      past : beyond (inPlace w after .words) ≡ beyond w
+      past = beyond-new w (after .words) some same
+
+      -- .. and the next step can be taken on them.
+      can-step : Steppable g table (after .state) (after .words)
+      can-step = record {
+        accepted = h .steppable .accepted;
+        shape = h .steppable .shape;
+        well-formed = step-well (h .steppable .accepted) (h .steppable .well-formed) cut t predicts;
+        rowed = cut-same same cut .rowed;
+        few-items = cut-same same cut .few-items;
+      }
+
+      on : after .number ≡ 0 → Going g table s₀ w₀ ts (after .state) (inPlace w after .words) (n + 1)
+      on zero = record {
+        few = omega arith;
+        sizes = sizes-trans (place-sizes w (after .words) same) (h .sizes);
+        steppable = subst (Steppable g table (after .state)) (sym inside) can-step;
+        gives =
+            (λ k. before (n + 1) (putBack (past k) (rest (inside k))))
+            ∙ (λ k. record { outcome = putBack (beyond w) (rest (after .words)) .outcome; taken = counts k })
+            ∙ ap (λ (e : Ended). before n (inPlaceEnded w e)) (sym (ran-on g table s (within w) t (drop (n + 1) ts) zero))
+            ∙ ap (λ (us : List ℕ). before n (inPlaceEnded w (ran g table s (within w) us))) (sym next)
+            ∙ h .gives;
+      }
+        where
+          rest : Words → Ended
+          rest v = ran g table (after .state) v (drop (n + 1) ts)
+
+          counts : n + 1 + rest (after .words) .taken ≡ n + (rest (after .words) .taken + 1)
+          counts = omega arith
+
+    module _ {r : Answer} {u : ℕ} {left : Words} (came : outcomeOf r left ≡ inPlace w (stepped g table s (within w) u)) (read : u ≡ t) where
+      comes : {r′ : Answer} → r ≡ r′ → outcomeOf r′ left ≡ inPlace w after
+      comes is = ap (λ (x : Answer). outcomeOf x left) (sym is) ∙ came ∙ ap (λ (x : ℕ). inPlace w (stepped g table s (within w) x)) read
+
+      pub going-off : {why : Refusal} {kept : State} → r ≡ Refused why kept
+          → endedOf (record { answer = Refused why kept; taken = n }) left ≡ inPlaceEnded w₀ (ran g table s₀ (within w₀) ts)
+      going-off {why} {kept} is = off (outcomeOf (Refused why kept) left) (comes is) (number-some why)
+
+      -- It goes on behind a token that is accepted.
+      pub going-on : Predicts g rowWords table → {s′ : State} → r ≡ Done s′ → Going g table s₀ w₀ ts s′ left (n + 1)
+      going-on predicts {s′} is =
+          let here : outcomeOf (Done s′) left ≡ inPlace w after = comes is in
+          subst (λ (p : Outcome). Going g table s₀ w₀ ts (p .state) (p .words) (n + 1)) (sym here) (on predicts (sym (ap (λ (p : Outcome). p .number) here)))

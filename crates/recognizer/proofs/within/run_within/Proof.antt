@@ -1,0 +1,118 @@
+-- `recognizer::within::run_within` meets its contract.
+use mathlib.Core.Path.{_∙_}
+use Prim.Native.Nat.{_-_}
+use native.Mathlib.Nat.{lt-of-le-of-lt}
+use native.Mathlib.Numerals.{add-one-le}
+use native.Mathlib.Omega.{arith}
+use lib.ListN.{length}
+use borrow.Author.Needs.{scaled-fits}
+use Rattle.parse.specs.Words.{within}
+use Rattle.recognizer.specs.Steppable.{grammarFrom, wordsOf}
+use Rattle.recognizer.proofs.Turning.{Going, going-first, going-on, going-off, going-end}
+use Rattle.recognizer.proofs.within.run_within.Statement.{statement}
+use Rattle.recognizer.proofs.within.run_within.Tie as tie
+
+abbrev Inv-loop : tie.InvT-loop
+Inv-loop rules sizes table items₀ starts₀ rows₀ queue₀ tokens now₀ taken₀ items starts rows queue now taken =
+    Going (grammarFrom rules sizes) table now₀ (wordsOf items₀ starts₀ rows₀ queue₀) tokens now (wordsOf items starts rows queue) taken
+
+abbrev μ-loop : tie.MeasureT-loop
+μ-loop rules sizes table items₀ starts₀ rows₀ queue₀ tokens now₀ taken₀ items starts rows queue now taken =
+    length tokens - taken
+
+loop-holds : tie.Need-loop-holds Inv-loop μ-loop
+loop-holds c =
+    let a = c .before .before .before .before .before .args in going-first (a .tokens .now) (c .before .before .before .before .before .pre .0)
+
+mul-wide : tie.Need-mul-wide Inv-loop μ-loop
+mul-wide c =
+    scaled-fits _ _ _ (c .before .before .before .before .loop-test .taken) (c .before .before .before .before .before .before .before .before .before .before .before .good .1 .1 .1 .1 .1 .1 .1 .1 .0 .1)
+
+shared-slice-read-wide : tie.Need-shared-slice-read-wide Inv-loop μ-loop
+shared-slice-read-wide c = c .before .before .before .before .before .loop-test .taken
+
+wide-requires : tie.Need-wide-requires Inv-loop μ-loop
+wide-requires c κs = tt
+
+step-within-requires : tie.Need-step-within-requires Inv-loop μ-loop
+step-within-requires c κs = c .before .before .before .before .before .before .before .loop .inv .steppable
+
+enum-known-next : tie.Need-enum-known-next Inv-loop μ-loop
+enum-known-next c = c .match .keys1
+
+enum-known-why : tie.Need-enum-known-why Inv-loop μ-loop
+enum-known-why c = c .match .keys2
+
+same-length : tie.Need-same-length Inv-loop μ-loop
+same-length c =
+    c .before .before .before .before .before .before .before .before .before .before .before .step-within .kept .1 .1 .1 .1 .0 ∙ c .before .before .before .before .before .before .before .before .before .before .before .before .before .before .before .before .before .before .before .loop .inv .sizes .items
+
+same-length-2 : tie.Need-same-length-2 Inv-loop μ-loop
+same-length-2 c =
+    c .before .before .before .before .before .before .before .before .before .before .before .step-within .kept .1 .1 .1 .1 .1 .0 ∙ c .before .before .before .before .before .before .before .before .before .before .before .before .before .before .before .before .before .before .before .loop .inv .sizes .starts
+
+same-length-3 : tie.Need-same-length-3 Inv-loop μ-loop
+same-length-3 c =
+    c .before .before .before .before .before .before .before .before .before .before .before .step-within .kept .1 .1 .1 .1 .1 .1 .0 ∙ c .before .before .before .before .before .before .before .before .before .before .before .before .before .before .before .before .before .before .before .loop .inv .sizes .rows
+
+same-length-4 : tie.Need-same-length-4 Inv-loop μ-loop
+same-length-4 c =
+    c .before .before .before .before .before .before .before .before .before .before .before .step-within .kept .1 .1 .1 .1 .1 .1 .1 .0 ∙ c .before .before .before .before .before .before .before .before .before .before .before .before .before .before .before .before .before .before .before .loop .inv .sizes .queue
+
+returns : tie.Need-returns Inv-loop μ-loop
+returns c =
+    going-off (c .before .before .before .before .before .before .before .before .before .before .before .before .before .before .before .before .before .before .before .loop .inv) (c .before .before .before .before .before .before .before .before .before .before .before .before .before .before .before .before .before .before .loop-test .taken) (c .before .before .before .before .before .before .before .before .before .before .before .step-within .ensures) (c .before .before .before .before .before .before .before .before .before .before .before .before .wide .ensures) (c .before .why .given .1)
+
+add-taken : tie.Need-add-taken Inv-loop μ-loop
+add-taken c =
+    record { fits = lt-of-le-of-lt (add-one-le (c .before .before .before .before .before .before .before .before .before .before .before .before .before .before .before .before .before .before .loop-test .taken)) (c .before .before .before .before .before .before .before .before .before .before .before .before .before .before .before .before .before .before .before .before .before .before .before .before .before .good .1 .1 .1 .1 .1 .1 .1 .1 .0 .0) }
+
+loop-less : tie.Need-loop-less Inv-loop μ-loop
+loop-less c =
+    omega (arith, c .before .before .before .before .before .before .before .before .before .before .before .before .before .before .before .before .before .before .loop-test .taken)
+
+loop-again : tie.Need-loop-again Inv-loop μ-loop
+loop-again c =
+    going-on (c .before .before .before .before .before .before .before .before .before .before .before .before .before .before .before .before .before .before .before .loop .inv) (c .before .before .before .before .before .before .before .before .before .before .before .before .before .before .before .before .before .before .loop-test .taken) (c .before .before .before .before .before .before .before .before .before .before .before .step-within .ensures) (c .before .before .before .before .before .before .before .before .before .before .before .before .wide .ensures) (c .before .before .before .before .before .before .before .before .before .before .before .before .before .before .before .before .before .before .before .before .before .before .before .before .before .pre .1) (c .before .next .given .1)
+
+same-length-5 : tie.Need-same-length-5 Inv-loop μ-loop
+same-length-5 c = c .before .loop .inv .sizes .items
+
+same-length-6 : tie.Need-same-length-6 Inv-loop μ-loop
+same-length-6 c = c .before .loop .inv .sizes .starts
+
+same-length-7 : tie.Need-same-length-7 Inv-loop μ-loop
+same-length-7 c = c .before .loop .inv .sizes .rows
+
+same-length-8 : tie.Need-same-length-8 Inv-loop μ-loop
+same-length-8 c = c .before .loop .inv .sizes .queue
+
+returns-2 : tie.Need-returns-2 Inv-loop μ-loop
+returns-2 c = going-end (c .before .loop .inv) (c .loop-test .left)
+
+pub run-within-spec : {M : Type 1} → statement M
+run-within-spec =
+    tie.close
+    (tie.spec
+    Inv-loop
+    μ-loop
+    loop-holds
+    mul-wide
+    shared-slice-read-wide
+    wide-requires
+    step-within-requires
+    enum-known-next
+    enum-known-why
+    same-length
+    same-length-2
+    same-length-3
+    same-length-4
+    returns
+    add-taken
+    loop-less
+    loop-again
+    same-length-5
+    same-length-6
+    same-length-7
+    same-length-8
+    returns-2)

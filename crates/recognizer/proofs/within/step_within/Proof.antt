@@ -1,0 +1,118 @@
+-- `recognizer::within::step_within` meets its contract.
+use mathlib.Core.Path.{sym, subst}
+use native.Mathlib.Omega.{arith}
+use lib.Seq.{length-take-le}
+use borrow.Author.Needs.{needs}
+use Rattle.parse.specs.Words.{Words}
+use Rattle.recognizer.specs.Steps.{stepped}
+use Rattle.recognizer.specs.Answers.{outcomeOf}
+use Rattle.recognizer.specs.Steppable.{grammarFrom, wordsOf, Steppable}
+use Rattle.recognizer.proofs.Carving.{starts-there, first-within, replaced-place}
+use Rattle.recognizer.proofs.within.step_within.Statement.{statement}
+use Rattle.recognizer.proofs.within.step_within.Tie as tie
+
+item-room-requires : tie.Need-item-room-requires
+item-room-requires c κs = search needs
+
+mul-item-end : tie.Need-mul-item-end
+mul-item-end c = search needs
+
+set-room-requires : tie.Need-set-room-requires
+set-room-requires c κs = search needs
+
+add-start-end : tie.Need-add-start-end
+add-start-end c = search needs
+
+mul-row-end : tie.Need-mul-row-end
+mul-row-end c = search needs
+
+queue-room-requires : tie.Need-queue-room-requires
+queue-room-requires c κs = search needs
+
+slice-relend-prefix-step : tie.Need-slice-relend-prefix-step
+slice-relend-prefix-step c = search needs
+
+slice-aggregate-step : tie.Need-slice-aggregate-step
+slice-aggregate-step c =
+    let a = c .before .before .before .before .before .before .before .before .before .before .before .before .args in sym (length-take-le _ (a .items .now) (omega (arith, c .before .before .before .before .before .before .item-room .ensures)))
+
+slice-relend-prefix-step-2 : tie.Need-slice-relend-prefix-step-2
+slice-relend-prefix-step-2 c =
+    let a = c .before .before .before .before .before .before .before .before .before .before .before .before .args in
+    let w = wordsOf (a .items .now) (a .starts .now) (a .rows .now) (a .queue .now) in
+    omega (arith, starts-there w (c .before .before .before .before .before .before .before .before .before .before .before .before .pre .well-formed), c .before .before .before .set-room .ensures)
+
+slice-aggregate-step-2 : tie.Need-slice-aggregate-step-2
+slice-aggregate-step-2 c =
+    let a = c .before .before .before .before .before .before .before .before .before .before .before .before .before .args in
+    let w = wordsOf (a .items .now) (a .starts .now) (a .rows .now) (a .queue .now) in
+    sym (length-take-le _ (a .starts .now) (omega (arith, starts-there w (c .before .before .before .before .before .before .before .before .before .before .before .before .before .pre .well-formed), c .before .before .before .before .set-room .ensures)))
+
+slice-relend-prefix-step-3 : tie.Need-slice-relend-prefix-step-3
+slice-relend-prefix-step-3 c = search needs
+
+slice-aggregate-step-3 : tie.Need-slice-aggregate-step-3
+slice-aggregate-step-3 c =
+    let a = c .before .before .before .before .before .before .before .before .before .before .before .before .before .before .args in sym (length-take-le _ (a .rows .now) (omega (arith, c .before .before .before .before .before .set-room .ensures)))
+
+slice-relend-prefix-step-4 : tie.Need-slice-relend-prefix-step-4
+slice-relend-prefix-step-4 c = search needs
+
+slice-aggregate-step-4 : tie.Need-slice-aggregate-step-4
+slice-aggregate-step-4 c =
+    let a = c .before .before .before .before .before .before .before .before .before .before .before .before .before .before .before .args in sym (length-take-le _ (a .queue .now) (omega (arith, c .before .before .before .before .queue-room .ensures)))
+
+step-requires : tie.Need-step-requires
+step-requires c κs =
+    let a = c .before .before .before .before .before .before .before .before .before .before .before .before .before .before .before .args in
+    let w = wordsOf (a .items .now) (a .starts .now) (a .rows .now) (a .queue .now) in
+    subst (Steppable (grammarFrom (a .rules .now) (a .sizes)) (a .table .now) (a .state))
+    (first-within w (c .before .before .before .before .before .before .before .before .before .item-room .ensures) (c .before .before .before .before .before .before .set-room .ensures) (c .before .before .before .before .queue-room .ensures))
+    (c .before .before .before .before .before .before .before .before .before .before .before .before .before .before .before .pre)
+
+same-length : tie.Need-same-length
+same-length c = search needs
+
+same-length-2 : tie.Need-same-length-2
+same-length-2 c = search needs
+
+same-length-3 : tie.Need-same-length-3
+same-length-3 c = search needs
+
+same-length-4 : tie.Need-same-length-4
+same-length-4 c = search needs
+
+returns : tie.Need-returns
+returns c =
+    let a = c .before .before .before .before .before .before .before .before .before .before .before .before .before .before .before .before .before .before .before .before .before .before .before .before .args in
+    let w = wordsOf (a .items .now) (a .starts .now) (a .rows .now) (a .queue .now) in
+    let last = c .before .before .before .before .before .before .before .before .step .last .1 .1 .1 .1 in
+    replaced-place w (c .before .before .before .before .before .before .before .before .before .before .before .before .before .before .before .before .before .before .item-room .ensures) (c .before .before .before .before .before .before .before .before .before .before .before .before .before .before .before .set-room .ensures) (c .before .before .before .before .before .before .before .before .before .before .before .before .before .queue-room .ensures)
+    (λ (v : Words). stepped (grammarFrom (a .rules .now) (a .sizes)) (a .table .now) (a .state) v (a .t))
+    (outcomeOf (c .before .before .before .before .before .before .before .before .step .result) (wordsOf (last .0) (last .1 .0) (last .1 .1 .0) (last .1 .1 .1 .0)))
+    (c .before .before .before .before .before .before .before .before .step .ensures)
+
+pub step-within-spec : {M : Type 1} → statement M
+step-within-spec =
+    tie.close
+    (tie.spec
+    item-room-requires
+    mul-item-end
+    set-room-requires
+    add-start-end
+    mul-row-end
+    queue-room-requires
+    slice-relend-prefix-step
+    slice-aggregate-step
+    slice-relend-prefix-step-2
+    slice-aggregate-step-2
+    slice-relend-prefix-step-3
+    slice-aggregate-step-3
+    slice-relend-prefix-step-4
+    slice-aggregate-step-4
+    step-requires
+    same-length
+    same-length-2
+    same-length-3
+    same-length-4
+    returns)
