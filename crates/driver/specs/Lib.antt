@@ -1,2 +1,3 @@
 -- What the driver's functions on slices promise.
 pub mod Header
+pub mod Text

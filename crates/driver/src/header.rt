@@ -16,7 +16,7 @@ pub enum Header {
 }
 
 // A header: the version, the length told, and then the number of rules.
-pub fn header(bytes: &[u8]) -> Header
+pub fn told(bytes: &[u8]) -> Header
     ensures { λ r. ⌜ Says (now (bytes .entry)) r ⌝ }
 {
     if bytes.len() < HEADER {

@@ -3,16 +3,20 @@ mod header;
 mod text;
 mod tokens;
 
+ghost use mathlib.Core.Path.{_≡_};
+ghost use Prim.Native.Nat.{_≤_};
+ghost use lib.ListN.{length as lengthOf};
+ghost use Rattle.recognizer.specs.Answers.{numberOf, stateOf, saysYes};
+ghost use Rattle.driver.specs.Header.{Within};
 use grammar::file::HEADER;
 use grammar::file::RULE;
 use grammar::limits::RULES;
 use header::Header;
-use header::header;
+use header::told;
 use libc::STDIN_FILENO;
 use libc::STDOUT_FILENO;
 use parse::State;
 use recognizer::Answer;
-use recognizer::Ran;
 use recognizer::Whether;
 use recognizer::refusal_number;
 use text::ROOM;
@@ -30,34 +34,57 @@ const ROWS: usize = bits::WIDTH * parse::room::SETS;
 
 const QUEUE: usize = parse::room::QUEUED;
 
+fn wide(number: u32) -> usize
+    ensures { λ r. ⌜ r ≡ number ⌝ }
+{
+    number as usize
+}
+
 // The paper's number of an answer.
-fn number_of(answer: Answer) -> usize {
+fn number_of(answer: Answer) -> usize
+    ensures { λ r. ⌜ r ≡ numberOf answer ⌝ }
+{
     match answer {
         Answer::Done(_) => 0,
-        Answer::Refused(why, _) => refusal_number(why) as usize,
+        Answer::Refused(why, _) => wide(refusal_number(why)),
     }
 }
 
 // The state that an answer leaves.
-fn state_of(answer: Answer) -> State {
+fn state_of(answer: Answer) -> State
+    ensures { λ r. ⌜ r ≡ stateOf answer ⌝ }
+{
     match answer {
         Answer::Done(state) => state,
         Answer::Refused(_, state) => state,
     }
 }
 
-// Reads the grammar: its header, and then as many bytes as that says.
-fn read_grammar(file: &mut [u8]) -> Header {
-    let got = io::read_full(STDIN_FILENO, &mut file[..HEADER]);
-    let length = match header(&file[..got]) {
-        Header::Malformed => return Header::Malformed,
-        Header::Broken => return Header::Broken,
-        Header::Length(told) => told,
-    };
+// Reads what stands behind the header of a file of that length.
+fn read_rest(file: &mut [u8], length: usize) -> Header
+    requires { ⌜ (11 ≤ length) × (length ≤ lengthOf (now file)) ⌝ }
+    ensures { λ r. ⌜ Within (now (file .exit)) r ⌝ }
+{
     if io::read_full(STDIN_FILENO, &mut file[HEADER..length]) < length - HEADER {
         return Header::Malformed;
     }
     Header::Length(length)
+}
+
+// Reads the grammar: its header, and then as many bytes as that says.
+fn read_grammar(file: &mut [u8]) -> Header
+    requires { ⌜ 3083 ≤ lengthOf (now file) ⌝ }
+    ensures { λ r. ⌜ Within (now (file .exit)) r ⌝ }
+{
+    let mut first = [0u8; HEADER];
+    let got = io::read_full(STDIN_FILENO, &mut first);
+    let length = match told(&first[..got]) {
+        Header::Malformed => return Header::Malformed,
+        Header::Broken => return Header::Broken,
+        Header::Length(all) => all,
+    };
+    bytes::copy(&first, file);
+    read_rest(file, length)
 }
 
 // The line on a refused grammar.
@@ -84,15 +111,29 @@ fn is_finished(
 }
 
 // The lines on what a run came to.
-fn tell(ran: Ran, yes: bool) {
+fn tell(answer: Answer, taken: usize, yes: bool) {
     let mut out = [0u8; ROOM];
-    let answer = ran.answer;
     let state = state_of(answer);
-    let count = text::report(&mut out, ran.taken, number_of(answer), yes, state.set);
+    let count = text::report(&mut out, taken, number_of(answer), yes, state.set);
     io::write_all(STDOUT_FILENO, &out[..count]);
 }
 
-// Starts a parse, reads the tokens and tells what came of them.
+// Reads the tokens of a parse and tells what came of them.
+fn follow(
+    file: &[u8],
+    state: State,
+    items: &mut [u32],
+    starts: &mut [u32],
+    rows: &mut [u64],
+    queue: &mut [u32],
+) {
+    let ran = read_tokens(file, state, items, starts, rows, queue);
+    let answer = ran.answer;
+    let yes = is_finished(file, state_of(answer), items, starts, rows, queue);
+    tell(answer, ran.taken, yes);
+}
+
+// Starts a parse and follows it.
 fn recognize(
     file: &[u8],
     items: &mut [u32],
@@ -100,14 +141,11 @@ fn recognize(
     rows: &mut [u64],
     queue: &mut [u32],
 ) {
-    let state = match recognizer::start(file, State { set: 0, items: 0 }, items, starts, rows, queue) {
-        Answer::Done(fresh) => fresh,
-        Answer::Refused(why, _) => return refuse(refusal_number(why) as usize),
-    };
-    let ran = read_tokens(file, state, items, starts, rows, queue);
-    let left = state_of(ran.answer);
-    let yes = is_finished(file, left, items, starts, rows, queue);
-    tell(ran, yes);
+    let fresh = State { set: 0, items: 0 };
+    match recognizer::start(file, fresh, items, starts, rows, queue) {
+        Answer::Done(state) => follow(file, state, items, starts, rows, queue),
+        Answer::Refused(why, _) => refuse(wide(refusal_number(why))),
+    }
 }
 
 // The same with every capacity at its largest.

@@ -1,4 +1,10 @@
 // Tokens, one byte each, given to a run part by part.
+ghost use mathlib.Core.Path.{_≡_};
+ghost use Prim.Native.Nat.{_≤_};
+ghost use lib.ListN.{length, take};
+ghost use Rattle.recognizer.specs.Calls.{Runs};
+ghost use Rattle.recognizer.specs.Answers.{endedOf};
+ghost use Rattle.recognizer.specs.Steppable.{wordsOf};
 use libc::STDIN_FILENO;
 use parse::State;
 use recognizer::Answer;
@@ -9,13 +15,21 @@ const PART: usize = 4096;
 
 // Bytes as words.
 fn widen(bytes: &[u8], words: &mut [u16])
+    requires { ⌜ length (now bytes) ≤ length (now words) ⌝ }
+    ensures { λ _. ⌜ take (length (now (bytes .entry))) (now (words .exit)) ≡ now (bytes .entry) ⌝ }
 {
     for i in 0..bytes.len() {
-        words[i] = bytes[i] as u16;
+        words[i] = word(bytes[i]);
     }
 }
 
-// Runs one part.
+fn word(byte: u8) -> u16
+    ensures { λ r. ⌜ r ≡ byte ⌝ }
+{
+    byte as u16
+}
+
+// Runs one part: a token is a byte.
 fn run_part(
     file: &[u8],
     state: State,
@@ -25,6 +39,9 @@ fn run_part(
     queue: &mut [u32],
     part: &[u8],
 ) -> Ran
+    requires { ⌜ length (now part) ≤ 4096 ⌝ }
+    ensures calls { λ r. ⌜ Runs (now (file .entry)) state (wordsOf (now (items .entry)) (now (starts .entry)) (now (rows .entry)) (now (queue .entry))) (now (part .entry)) (endedOf r (wordsOf (now (items .exit)) (now (starts .exit)) (now (rows .exit)) (now (queue .exit)))) ⌝ }
+    ensures few { λ r. ⌜ r .taken ≤ 4096 ⌝ }
 {
     let mut tokens = [0u16; PART];
     widen(part, &mut tokens);
@@ -41,6 +58,7 @@ fn read_part(
     rows: &mut [u64],
     queue: &mut [u32],
 ) -> Ran
+    ensures { λ r. ⌜ r .taken ≤ 4096 ⌝ }
 {
     let mut part = io::buffer();
     let count = io::read_full(STDIN_FILENO, &mut part);
@@ -56,8 +74,7 @@ pub fn read_tokens(
     starts: &mut [u32],
     rows: &mut [u64],
     queue: &mut [u32],
-) -> Ran
-{
+) -> Ran {
     let mut now = state;
     let mut taken = 0;
     let mut parts = usize::MAX / PART;
