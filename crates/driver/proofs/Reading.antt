@@ -4,13 +4,14 @@ use mathlib.Core.List.{List}
 use Prim.Native.Nat.{ℕ, _+_, _*_, _≤_, _<_}
 use native.Mathlib.Omega.{arith}
 use lib.ListN.{length}
+use Rattle.driver.specs.Parts.{partTokens}
 
--- The tokens of a part, and of as many parts as a word counts.
-abbrev pub partTokens : ℕ
-partTokens = 4096
+-- As many parts as a word counts, and their tokens.
+abbrev pub mostParts : ℕ
+mostParts = 4503599627370495
 
 abbrev pub mostTokens : ℕ
-mostTokens = 18446744073709547520
+mostTokens = partTokens * mostParts
 
 pub record Reading (items₀ starts₀ rows₀ queue₀ items starts rows queue : List ℕ) (taken parts : ℕ) : Type 0 where
   pub few : taken + partTokens * parts ≤ mostTokens
@@ -19,7 +20,7 @@ pub record Reading (items₀ starts₀ rows₀ queue₀ items starts rows queue 
   pub rows-long : length rows ≡ length rows₀
   pub queue-long : length queue ≡ length queue₀
 
-pub reading-start : (items starts rows queue : List ℕ) → Reading items starts rows queue items starts rows queue 0 4503599627370495
+pub reading-start : (items starts rows queue : List ℕ) → Reading items starts rows queue items starts rows queue 0 mostParts
 reading-start items starts rows queue =
     record { few = omega arith; items-long = refl; starts-long = refl; rows-long = refl; queue-long = refl }
 

@@ -8,6 +8,10 @@ use Rattle.grammar.specs.File.{headerBytes, ruleBytes, versionOf, lengthOf, rul
 use Rattle.driver.specs.declared.header.Header.{Header}
 use Rattle.driver.specs.declared.header.Header.the-variants.{Malformed, Broken, Length}
 
+-- The longest file that its header lets through.
+abbrev pub longestFile : ℕ
+longestFile = headerBytes + ruleBytes * maxRules
+
 -- Fewer than 11 bytes, a wrong version or L not 11 + 6R.
 pub data Wrong (bytes : List ℕ) : Type 0 where
   short : length bytes < headerBytes → Wrong bytes

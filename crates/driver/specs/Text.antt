@@ -4,6 +4,14 @@ use mathlib.Core.List.{List, [], _∷_, _++_}
 use Prim.Native.Nat.{ℕ}
 use Rattle.io.specs.Digits.{digits, Fewest}
 
+-- Room for the longest text: the heads, and three numbers of up to twenty digits with their line ends.
+abbrev pub textRoom : ℕ
+textRoom = 128
+
+-- Room for a number behind a head: twenty digits and the line end.
+abbrev pub numberRoom : ℕ
+numberRoom = 21
+
 abbrev pub newline : List ℕ
 newline = 10 ∷ []
 

@@ -6,8 +6,9 @@ mod tokens;
 ghost use mathlib.Core.Path.{_≡_};
 ghost use Prim.Native.Nat.{_≤_};
 ghost use lib.ListN.{length as lengthOf};
-ghost use Rattle.recognizer.specs.Answers.{numberOf, stateOf, saysYes};
-ghost use Rattle.driver.specs.Header.{Within};
+ghost use Rattle.recognizer.specs.Answers.{numberOf, stateOf};
+ghost use Rattle.driver.specs.Header.{longestFile, Within};
+ghost use Rattle.grammar.specs.File.{headerBytes};
 use grammar::file::HEADER;
 use grammar::file::RULE;
 use grammar::limits::RULES;
@@ -62,7 +63,7 @@ fn state_of(answer: Answer) -> State
 
 // Reads what stands behind the header of a file of that length.
 fn read_rest(file: &mut [u8], length: usize) -> Header
-    requires { ⌜ (11 ≤ length) × (length ≤ lengthOf (now file)) ⌝ }
+    requires { ⌜ (headerBytes ≤ length) × (length ≤ lengthOf (now file)) ⌝ }
     ensures { λ r. ⌜ Within (now (file .exit)) r ⌝ }
 {
     if io::read_full(STDIN_FILENO, &mut file[HEADER..length]) < length - HEADER {
@@ -73,7 +74,7 @@ fn read_rest(file: &mut [u8], length: usize) -> Header
 
 // Reads the grammar: its header, and then as many bytes as that says.
 fn read_grammar(file: &mut [u8]) -> Header
-    requires { ⌜ 3083 ≤ lengthOf (now file) ⌝ }
+    requires { ⌜ longestFile ≤ lengthOf (now file) ⌝ }
     ensures { λ r. ⌜ Within (now (file .exit)) r ⌝ }
 {
     let mut first = [0u8; HEADER];

@@ -4,7 +4,7 @@ ghost use mathlib.Core.List.{[], _++_};
 ghost use Prim.Native.Nat.{_+_, _≤_, _<_};
 ghost use lib.ListN.{length, take};
 ghost use Rattle.io.specs.Counts.{Counts};
-ghost use Rattle.driver.specs.Text.{Line, Report, finishedLine, grammarHead};
+ghost use Rattle.driver.specs.Text.{Line, Report, finishedLine, grammarHead, textRoom, numberRoom};
 
 // The heads of the lines.
 const READ: [u8; 5] = *b"read ";
@@ -41,8 +41,8 @@ fn wide(number: usize) -> u64
 
 // A line of a head and a number, at `at`; answers the place behind it.
 fn put_line(out: &mut [u8], at: usize, head: &[u8], number: usize) -> usize
-    requires { ⌜ at + length (now head) + 21 ≤ length (now out) ⌝ }
-    ensures place { λ r. ⌜ r ≤ at + length (now (head .entry)) + 21 ⌝ }
+    requires { ⌜ at + length (now head) + numberRoom ≤ length (now out) ⌝ }
+    ensures place { λ r. ⌜ r ≤ at + length (now (head .entry)) + numberRoom ⌝ }
     ensures text { λ r. ⌜ Line (take at (now (out .entry))) (now (head .entry)) number (take r (now (out .exit))) ⌝ }
 {
     let mut digits = [0u8; 20];
@@ -66,7 +66,7 @@ fn put_finished(out: &mut [u8], at: usize, yes: bool) -> usize
 
 // The four lines on a parse; answers how long they are.
 pub fn report(out: &mut [u8], taken: usize, stopped: usize, yes: bool, set: usize) -> usize
-    requires { ⌜ 128 ≤ length (now out) ⌝ }
+    requires { ⌜ textRoom ≤ length (now out) ⌝ }
     ensures place { λ r. ⌜ Counts r (now (out .exit)) ⌝ }
     ensures text { λ r. ⌜ Report taken stopped yes set (take r (now (out .exit))) ⌝ }
 {
@@ -78,7 +78,7 @@ pub fn report(out: &mut [u8], taken: usize, stopped: usize, yes: bool, set: usiz
 
 // The line on a grammar that is refused.
 pub fn refusal(out: &mut [u8], number: usize) -> usize
-    requires { ⌜ 128 ≤ length (now out) ⌝ }
+    requires { ⌜ textRoom ≤ length (now out) ⌝ }
     ensures place { λ r. ⌜ Counts r (now (out .exit)) ⌝ }
     ensures text { λ r. ⌜ Line [] grammarHead number (take r (now (out .exit))) ⌝ }
 {

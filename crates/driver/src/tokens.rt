@@ -2,6 +2,7 @@
 ghost use mathlib.Core.Path.{_≡_};
 ghost use Prim.Native.Nat.{_≤_};
 ghost use lib.ListN.{length, take};
+ghost use Rattle.driver.specs.Parts.{partTokens};
 ghost use Rattle.recognizer.specs.Calls.{Runs};
 ghost use Rattle.recognizer.specs.Answers.{endedOf};
 ghost use Rattle.recognizer.specs.Steppable.{wordsOf};
@@ -39,9 +40,9 @@ fn run_part(
     queue: &mut [u32],
     part: &[u8],
 ) -> Ran
-    requires { ⌜ length (now part) ≤ 4096 ⌝ }
+    requires { ⌜ length (now part) ≤ partTokens ⌝ }
     ensures calls { λ r. ⌜ Runs (now (file .entry)) state (wordsOf (now (items .entry)) (now (starts .entry)) (now (rows .entry)) (now (queue .entry))) (now (part .entry)) (endedOf r (wordsOf (now (items .exit)) (now (starts .exit)) (now (rows .exit)) (now (queue .exit)))) ⌝ }
-    ensures few { λ r. ⌜ r .taken ≤ 4096 ⌝ }
+    ensures few { λ r. ⌜ r .taken ≤ partTokens ⌝ }
 {
     let mut tokens = [0u16; PART];
     widen(part, &mut tokens);
@@ -58,7 +59,7 @@ fn read_part(
     rows: &mut [u64],
     queue: &mut [u32],
 ) -> Ran
-    ensures { λ r. ⌜ r .taken ≤ 4096 ⌝ }
+    ensures { λ r. ⌜ r .taken ≤ partTokens ⌝ }
 {
     let mut part = io::buffer();
     let count = io::read_full(STDIN_FILENO, &mut part);
