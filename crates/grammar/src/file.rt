@@ -14,7 +14,7 @@ pub const HEADER: usize = 11;
 pub const RULE: usize = 6;
 
 // A byte as a number to compute with.
-fn wide(byte: u8) -> usize
+pub fn wide(byte: u8) -> usize
     ensures { λ r. ⌜ (r ≡ byte) × (r < 256) ⌝ }
 {
     byte as usize
@@ -29,7 +29,7 @@ pub fn u16_at(file: &[u8], at: usize) -> usize
 }
 
 // The big-endian number in the four bytes at `at`.
-fn u32_at(file: &[u8], at: usize) -> usize
+pub fn u32_at(file: &[u8], at: usize) -> usize
     requires { ⌜ at + 4 ≤ length (now file) ⌝ }
     ensures { λ r. ⌜ r ≡ u32At (now (file .entry)) at ⌝ }
 {

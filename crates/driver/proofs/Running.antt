@@ -1,0 +1,39 @@
+-- Runs of parts.
+use mathlib.Core.Path.{_≡_, subst}
+use mathlib.Core.Bool.{Bool, true, false}
+use mathlib.Core.List.{List, [], _∷_}
+use Prim.Native.Nat.{ℕ, suc, _≤_}
+use native.Mathlib.Omega.{arith}
+use lib.Dec.{eqb}
+use lib.ListN.{length}
+use Rattle.grammar.specs.Rules.{Grammar}
+use Rattle.parse.specs.declared.State.{State}
+use Rattle.parse.specs.Words.{Words, within}
+use Rattle.recognizer.specs.Steps.{Outcome, Ended, oneMore, stepped, ran}
+use Rattle.recognizer.specs.Calls.{Runs}
+use Rattle.recognizer.specs.Calls.Runs.{refused, done}
+
+-- One token more, or a refusal, is at most one more taken.
+more-by :
+    (went : Bool) (o : Outcome) (e : Ended) (n : ℕ) → e .taken ≤ n
+    → (elim went as (λ (b : Bool). Ended) [ true ↦ oneMore e | false ↦ record { outcome = o; taken = 0 } ]) .taken ≤ suc n
+more-by true o e n h = omega (arith, h)
+more-by false o e n h = omega arith
+
+-- A run takes no more tokens than it is given.
+ran-few : (g : Grammar) (table : List (List ℕ)) (s : State) (v : Words) (ts : List ℕ) → ran g table s v ts .taken ≤ length ts
+unfolding ran
+ran-few g table s v [] = omega arith
+ran-few g table s v (t ∷ ts) =
+    more-by (eqb (stepped g table s v t .number) 0) (stepped g table s v t)
+    (ran g table (stepped g table s v t .state) (stepped g table s v t .words) ts) (length ts)
+    (ran-few g table (stepped g table s v t .state) (stepped g table s v t .words) ts)
+
+pub runs-few : {file : List ℕ} {s : State} {w : Words} {ts : List ℕ} {e : Ended} → Runs file s w ts e → e .taken ≤ length ts
+runs-few (refused fault) = omega arith
+runs-few {s = s} {w = w} {ts = ts} (done {g} {table} ready) = ran-few g table s (within w) ts
+
+-- A run of equal tokens.
+pub runs-same :
+    {file : List ℕ} {s : State} {w : Words} {e : Ended} (ts part : List ℕ) → ts ≡ part → Runs file s w ts e → Runs file s w part e
+runs-same {file} {s} {w} {e} ts part same r = subst (λ (l : List ℕ). Runs file s w l e) same r

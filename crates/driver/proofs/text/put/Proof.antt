@@ -1,0 +1,35 @@
+-- `driver::text::put` meets its contract. What a copy to `at` leaves.
+use native.Mathlib.Omega.{arith}
+use Rattle.driver.proofs.Texts.{put-text}
+use borrow.Author.Needs.{needs}
+use Rattle.driver.proofs.text.put.Statement.{statement}
+use Rattle.driver.proofs.text.put.Tie as tie
+
+sub-copy : tie.Need-sub-copy
+sub-copy c = search needs
+
+part-copy-start : tie.Need-part-copy-start
+part-copy-start c = search needs
+
+part-copy-end : tie.Need-part-copy-end
+part-copy-end c = search needs
+
+copy-requires : tie.Need-copy-requires
+copy-requires c κs = search needs
+
+add-result : tie.Need-add-result
+add-result c = search needs
+
+same-length : tie.Need-same-length
+same-length c = search needs
+
+returns : tie.Need-returns
+returns c =
+    let at-copy = c .before .before in
+    let start = c .before .before .before .before .before .before in
+    (omega (arith, at-copy .copy .ensures .0), put-text (start .args .out .now) (start .args .bytes .now) _ _ _ (start .args .at) _ (omega arith) (at-copy .copy .ensures .1) (at-copy .copy .ensures .0))
+
+pub put-spec : {M : Type 1} → statement M
+put-spec =
+    tie.close
+    (tie.spec sub-copy part-copy-start part-copy-end copy-requires add-result same-length returns)

@@ -1,0 +1,21 @@
+-- `driver::text::refusal` meets its contract. One line from the start.
+use native.Mathlib.Omega.{arith}
+use Rattle.driver.proofs.Texts.{counts}
+use borrow.Author.Needs.{needs}
+use Rattle.driver.proofs.text.refusal.Statement.{statement}
+use Rattle.driver.proofs.text.refusal.Tie as tie
+
+slice-aggregate-put-line : tie.Need-slice-aggregate-put-line
+slice-aggregate-put-line c = search needs
+
+put-line-requires : tie.Need-put-line-requires
+put-line-requires c κs = search needs
+
+same-length : tie.Need-same-length
+same-length c = search needs
+
+returns : tie.Need-returns
+returns c = (counts _ _ (omega (arith, c .before .before .put-line .ensures .0, c .before .before .put-line .kept .0, c .before .before .before .before .before .before .pre)), c .before .before .put-line .ensures .1)
+
+pub refusal-spec : {M : Type 1} → statement M
+refusal-spec = tie.close (tie.spec slice-aggregate-put-line put-line-requires same-length returns)

@@ -1,0 +1,51 @@
+-- `driver::text::report` meets its contract. Four lines, one behind the other.
+use native.Mathlib.Omega.{arith}
+use Rattle.driver.proofs.Texts.{counts, a-report}
+use borrow.Author.Needs.{needs}
+use Rattle.driver.proofs.text.report.Statement.{statement}
+use Rattle.driver.proofs.text.report.Tie as tie
+
+slice-aggregate-put-line : tie.Need-slice-aggregate-put-line
+slice-aggregate-put-line c = search needs
+
+put-line-requires : tie.Need-put-line-requires
+put-line-requires c κs = search needs
+
+slice-aggregate-put-line-2 : tie.Need-slice-aggregate-put-line-2
+slice-aggregate-put-line-2 c = search needs
+
+put-line-requires-2 : tie.Need-put-line-requires-2
+put-line-requires-2 c κs = search needs
+
+put-finished-requires : tie.Need-put-finished-requires
+put-finished-requires c κs = search needs
+
+slice-aggregate-put-line-3 : tie.Need-slice-aggregate-put-line-3
+slice-aggregate-put-line-3 c = search needs
+
+put-line-requires-3 : tie.Need-put-line-requires-3
+put-line-requires-3 c κs = search needs
+
+same-length : tie.Need-same-length
+same-length c = search needs
+
+returns : tie.Need-returns
+returns c = (
+  counts _ _
+      (omega (arith, c .before .before .put-line3 .ensures .0, c .before .before .put-line3 .kept .0, c .before .before .before .before .before .before .before .put-finished .ensures .0, c .before .before .before .before .before .before .before .put-finished .kept .0, c .before .before .before .before .before .before .before .before .before .before .before .put-line2 .ensures .0, c .before .before .before .before .before .before .before .before .before .before .before .put-line2 .kept .0, c .before .before .before .before .before .before .before .before .before .before .before .before .before .before .before .before .put-line .ensures .0, c .before .before .before .before .before .before .before .before .before .before .before .before .before .before .before .before .put-line .kept .0, c .before .before .before .before .before .before .before .before .before .before .before .before .before .before .before .before .before .before .before .before .pre)),
+  a-report _ _ _ _ _ _ _ _ (c .before .before .before .before .before .before .before .before .before .before .before .before .before .before .before .before .put-line .ensures .1) (c .before .before .before .before .before .before .before .before .before .before .before .put-line2 .ensures .1) (c .before .before .before .before .before .before .before .put-finished .ensures .1) (c .before .before .put-line3 .ensures .1),
+)
+
+pub report-spec : {M : Type 1} → statement M
+report-spec =
+    tie.close
+    (tie.spec
+    slice-aggregate-put-line
+    put-line-requires
+    slice-aggregate-put-line-2
+    put-line-requires-2
+    put-finished-requires
+    slice-aggregate-put-line-3
+    put-line-requires-3
+    same-length
+    returns)

@@ -1,0 +1,104 @@
+// Tokens, one byte each, given to a run part by part.
+ghost use mathlib.Core.Path.{_≡_};
+ghost use Prim.Native.Nat.{_≤_};
+ghost use lib.ListN.{length, take};
+ghost use Rattle.driver.specs.Parts.{partTokens};
+ghost use Rattle.recognizer.specs.Calls.{Runs};
+ghost use Rattle.recognizer.specs.Answers.{endedOf};
+ghost use Rattle.recognizer.specs.Steppable.{wordsOf};
+use libc::STDIN_FILENO;
+use parse::State;
+use recognizer::Answer;
+use recognizer::Ran;
+
+// The tokens of a part: the bytes of `io::buffer`.
+const PART: usize = 4096;
+
+// Bytes as words.
+fn widen(bytes: &[u8], words: &mut [u16])
+    requires { ⌜ length (now bytes) ≤ length (now words) ⌝ }
+    ensures { λ _. ⌜ take (length (now (bytes .entry))) (now (words .exit)) ≡ now (bytes .entry) ⌝ }
+{
+    for i in 0..bytes.len() {
+        words[i] = word(bytes[i]);
+    }
+}
+
+fn word(byte: u8) -> u16
+    ensures { λ r. ⌜ r ≡ byte ⌝ }
+{
+    byte as u16
+}
+
+// Runs one part: a token is a byte.
+fn run_part(
+    file: &[u8],
+    state: State,
+    items: &mut [u32],
+    starts: &mut [u32],
+    rows: &mut [u64],
+    queue: &mut [u32],
+    part: &[u8],
+) -> Ran
+    requires { ⌜ length (now part) ≤ partTokens ⌝ }
+    ensures calls { λ r. ⌜ Runs (now (file .entry)) state (wordsOf (now (items .entry)) (now (starts .entry)) (now (rows .entry)) (now (queue .entry))) (now (part .entry)) (endedOf r (wordsOf (now (items .exit)) (now (starts .exit)) (now (rows .exit)) (now (queue .exit)))) ⌝ }
+    ensures few { λ r. ⌜ r .taken ≤ partTokens ⌝ }
+{
+    let mut tokens = [0u16; PART];
+    widen(part, &mut tokens);
+    let count = part.len();
+    recognizer::run(file, state, items, starts, rows, queue, &tokens[..count])
+}
+
+// Reads and runs one part. A part that is taken and is not full is the last.
+fn read_part(
+    file: &[u8],
+    state: State,
+    items: &mut [u32],
+    starts: &mut [u32],
+    rows: &mut [u64],
+    queue: &mut [u32],
+) -> Ran
+    ensures { λ r. ⌜ r .taken ≤ partTokens ⌝ }
+{
+    let mut part = io::buffer();
+    let count = io::read_full(STDIN_FILENO, &mut part);
+    run_part(file, state, items, starts, rows, queue, &part[..count])
+}
+
+// Reads and runs what is left of the input, up to the first token that is refused. The count of parts falls from a number that no
+// input uses up, so that the loop ends and the count of tokens stays a word.
+pub fn read_tokens(
+    file: &[u8],
+    state: State,
+    items: &mut [u32],
+    starts: &mut [u32],
+    rows: &mut [u64],
+    queue: &mut [u32],
+) -> Ran {
+    let mut now = state;
+    let mut taken = 0;
+    let mut parts = usize::MAX / PART;
+    while parts > 0 {
+        let ran = read_part(file, now, items, starts, rows, queue);
+        let more = ran.taken;
+        taken += more;
+        let answer = ran.answer;
+        match answer {
+            Answer::Done(next) => now = next,
+            Answer::Refused(why, kept) => return Ran {
+                answer: Answer::Refused(why, kept),
+                taken: taken,
+            },
+        }
+        if more < PART {
+            parts = 0;
+        } else {
+            parts -= 1;
+        }
+    }
+    Ran {
+        answer: Answer::Done(now),
+        taken: taken,
+    }
+}
