@@ -23,8 +23,8 @@ use Rattle.completion.specs.Complete.{completeMedial, completeMedialItems, comp
 use Rattle.completion.specs.Sums.{nextSummand, popSum, completeSum, completeAllSums}
 use Rattle.advance.specs.NewItems.{itemsFrom, insert, sortInto, binary}
 use Rattle.advance.specs.Advance.{highest, greatestOrigin, predictions}
-use Rattle.recognizer.specs.Steps.{advanced, stepped, ran}
-use Rattle.recognizer.specs.Calls.{Sound, Takes, Runs, Finishes}
+use Rattle.recognizer.specs.Steps.{Ended, advanced, stepped, ran}
+use Rattle.recognizer.specs.Calls.{Sound, asItWas, Starts, Takes, Runs, Finishes}
 use Rattle.recognizer.specs.Histories.{History}
 use Rattle.recognizer.proofs.Again.{Reading, reading-start, reading-on}
 use Rattle.recognizer.proofs.Telling.{token-tells, finished-tells}
@@ -83,10 +83,10 @@ pub sound-a : Sound file-a grammar-a (tableOf rows-a)
 unfolding rulesFrom
 sound-a = record { checked = record { whole = whole file-a (omega arith) refl refl refl; is = refl; accepted = accepted-a }; predicts = predicts-a }
 
-abbrev words-a0 : Words
+abbrev pub words-a0 : Words
 words-a0 = record { items = 0 ∷ 0 ∷ 0 ∷ 0 ∷ 0 ∷ 0 ∷ 0 ∷ 0 ∷ 0 ∷ 0 ∷ 0 ∷ 0 ∷ 0 ∷ 0 ∷ 0 ∷ 0 ∷ []; starts = 0 ∷ 0 ∷ 0 ∷ 0 ∷ 0 ∷ []; rows = 21 ∷ 0 ∷ 0 ∷ 0 ∷ 0 ∷ 0 ∷ 0 ∷ 0 ∷ []; queue = 0 ∷ 0 ∷ 0 ∷ 0 ∷ [] }
 
-abbrev words-a1 : Words
+abbrev pub words-a1 : Words
 words-a1 = record { items = 0 ∷ 1 ∷ 0 ∷ 0 ∷ 0 ∷ 0 ∷ 0 ∷ 0 ∷ 0 ∷ 0 ∷ 0 ∷ 0 ∷ 0 ∷ 0 ∷ 0 ∷ 0 ∷ []; starts = 0 ∷ 0 ∷ 2 ∷ 0 ∷ 0 ∷ []; rows = 21 ∷ 0 ∷ 42 ∷ 0 ∷ 0 ∷ 0 ∷ 0 ∷ 0 ∷ []; queue = 0 ∷ 0 ∷ 0 ∷ 0 ∷ [] }
 
 abbrev words-a2 : Words
@@ -96,18 +96,22 @@ abbrev pub words-a3 : Words
 words-a3 = record { items = 0 ∷ 1 ∷ 0 ∷ 0 ∷ 1 ∷ 3 ∷ 0 ∷ 1 ∷ 2 ∷ 1 ∷ 0 ∷ 0 ∷ 0 ∷ 0 ∷ 0 ∷ 0 ∷ []; starts = 0 ∷ 0 ∷ 2 ∷ 3 ∷ 6 ∷ []; rows = 21 ∷ 0 ∷ 42 ∷ 0 ∷ 5 ∷ 0 ∷ 42 ∷ 0 ∷ []; queue = 0 ∷ 0 ∷ 0 ∷ 0 ∷ [] }
 
 -- Words that were anything else before.
-abbrev old-a : Words
+abbrev pub old-a : Words
 old-a = record { items = replicate 16 9; starts = replicate 5 9; rows = replicate 8 9; queue = replicate 4 9 }
+
+pub began-a : Starts file-a (state 7 7) old-a (asItWas 0 (state 0 0) words-a0)
+unfolding rowsOf
+began-a = Starts.done sound-a (omega arith)
 
 -- What a parse of A may go on from.
 abbrev Reads : State → Words → List ℕ → Type 0
 Reads = Reading file-a grammar-a (tableOf rows-a)
 
-start-a : Reads (state 0 0) words-a0 []
+pub start-a : Reads (state 0 0) words-a0 []
 unfolding rowsOf
 start-a = reading-start (state 7 7) old-a sound-a (omega arith) refl
 
-one-a : Reads (state 1 2) words-a1 (0 ∷ [])
+pub one-a : Reads (state 1 2) words-a1 (0 ∷ [])
 unfolding advanced stepped ran andThen store enqueue completeMedial completeMedialItems completeUnary completeUnaryPredictions completeBinary completeBinaryPredictions complete nextSummand popSum completeSum completeAllSums over until union records.flat highest greatestOrigin predictions itemsFrom insert sortInto binary pushWords popWords pushed popped move goesUp rise siftUp takesRight child goesDown sink siftDown rowsOf
 one-a = reading-on start-a 0 refl
 
@@ -124,6 +128,18 @@ sentence-a = finished-tells (Finishes.done (record { checked = sound-a .checked;
 pub none-a : Begins (grammarOf file-a) (0 ∷ 0 ∷ []) → ⊥
 unfolding stepped
 none-a = token-tells {t = 0} (Takes.done (one-a .ready)) .sentences (0 ∷ []) (one-a .history) (omega arith) .impossible .0 refl
+
+-- The same in one run, and a run of its first token alone.
+abbrev pub ended : State → Words → ℕ → Ended
+ended s w taken = record { outcome = asItWas 0 s w; taken = taken }
+
+pub run-a : Runs file-a (state 0 0) words-a0 (0 ∷ 1 ∷ 0 ∷ []) (ended (state 3 6) words-a3 3)
+unfolding advanced stepped ran andThen store enqueue completeMedial completeMedialItems completeUnary completeUnaryPredictions completeBinary completeBinaryPredictions complete nextSummand popSum completeSum completeAllSums over until union records.flat highest greatestOrigin predictions itemsFrom insert sortInto binary pushWords popWords pushed popped move goesUp rise siftUp takesRight child goesDown sink siftDown rowsOf
+run-a = Runs.done (start-a .ready)
+
+pub run-one-a : Runs file-a (state 0 0) words-a0 (0 ∷ []) (ended (state 1 2) words-a1 1)
+unfolding advanced stepped ran andThen store enqueue completeMedial completeMedialItems completeUnary completeUnaryPredictions completeBinary completeBinaryPredictions complete nextSummand popSum completeSum completeAllSums over until union records.flat highest greatestOrigin predictions itemsFrom insert sortInto binary pushWords popWords pushed popped move goesUp rise siftUp takesRight child goesDown sink siftDown rowsOf
+run-one-a = Runs.done (start-a .ready)
 
 -- Grammar B: its file, its rules, and the words of its table.
 abbrev pub file-b : List ℕ

@@ -31,3 +31,4 @@ pub mod Cutting
 pub mod Readying
 pub mod Beginning
 pub mod Examples
+pub mod ShutOut
