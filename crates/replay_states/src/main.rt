@@ -273,17 +273,12 @@ fn replay_token(
 ) -> Replay {
     let token = numbers::read(text, r.token);
     let recorded = numbers::read(text, r.told.next);
-    let answer = recognizer::token(
-        file,
-        r.state,
-        items,
-        starts,
-        rows,
-        queue,
-        low(token.value),
-    );
+    let answer = recognizer::token(file, r.state, items, starts, rows, queue, low(token.value));
     let state = state_of(answer);
-    let told = met(at(r.told, recorded.next), differs(number_of(answer), recorded.value));
+    let told = met(
+        at(r.told, recorded.next),
+        differs(number_of(answer), recorded.value),
+    );
     if recorded.value != 0 {
         return Replay {
             state,
@@ -358,7 +353,12 @@ fn compare_state(
     let by_count = met(by_finished, differs(state.items as u64, count.value));
     let by_items = compare_words(text, items, doubled(count.value), by_count);
     let by_starts = compare_words(text, starts, wrapping_add_u64(set.value, 2), by_items);
-    let by_rows = compare_rows(text, rows, doubled(wrapping_add_u64(set.value, 1)), by_starts);
+    let by_rows = compare_rows(
+        text,
+        rows,
+        doubled(wrapping_add_u64(set.value, 1)),
+        by_starts,
+    );
     compare_words(text, queue, 0, by_rows)
 }
 

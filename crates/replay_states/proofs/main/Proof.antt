@@ -1,19 +1,22 @@
--- `main` is safe and ends.
+-- `main` is safe and ends. A lemma tells the length of a text that is too long to compute with.
+use mathlib.Core.Path.{sym}
+use Prim.Native.Nat.{ℕ}
+use lib.ListN.{length-replicate}
 use borrow.Author.Needs.{needs}
 use Rattle.replay_states.proofs.main.Statement.{statement}
 use Rattle.replay_states.proofs.main.Tie as tie
 
 slice-aggregate-read-full : tie.Need-slice-aggregate-read-full
-slice-aggregate-read-full c = search needs
+slice-aggregate-read-full c = sym (length-replicate {A = ℕ} _ 0)
 
 read-full-requires : tie.Need-read-full-requires
 read-full-requires c κs = search needs
 
 array-share-prefix-text : tie.Need-array-share-prefix-text
-array-share-prefix-text c = search needs
+array-share-prefix-text c = c .before .read-full .ensures .0
 
 slice-aggregate-replay-files : tie.Need-slice-aggregate-replay-files
-slice-aggregate-replay-files c = search needs
+slice-aggregate-replay-files c = c .before .before .read-full .ensures .1
 
 slice-aggregate-replay-files-2 : tie.Need-slice-aggregate-replay-files-2
 slice-aggregate-replay-files-2 c = search needs
