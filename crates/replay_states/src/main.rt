@@ -156,18 +156,9 @@ fn replay_parse(
 ) -> Tally {
     let begun = begin(text, file, items, starts, rows, queue, before.told);
     let tokens = numbers::read(text, begun.told.next);
-    let answers = skip(text, tokens.next, tokens.value);
+    let answers = at(begun.told, skip(text, tokens.next, tokens.value));
     let state = begun.state;
-    let first = compare_state(
-        text,
-        file,
-        state,
-        items,
-        starts,
-        rows,
-        queue,
-        at(begun.told, answers),
-    );
+    let first = compare_state(text, file, state, items, starts, rows, queue, answers);
     let start = Replay {
         state,
         token: tokens.next,
@@ -286,17 +277,8 @@ fn replay_token(
             told,
         };
     }
-    let behind = skip_sums(text, told.next);
-    let after = compare_state(
-        text,
-        file,
-        state,
-        items,
-        starts,
-        rows,
-        queue,
-        at(told, behind),
-    );
+    let behind = at(told, skip_sums(text, told.next));
+    let after = compare_state(text, file, state, items, starts, rows, queue, behind);
     Replay {
         state,
         token: token.next,
