@@ -14,7 +14,9 @@ use Rattle.recognizer.specs.declared.Whether.{Whether}
 use Rattle.recognizer.specs.Answers.{numberOf, stateOf, outcomeOf, endedOf, finishedNumber, saysYes}
 use Rattle.recognizer.specs.Calls.{Starts, Takes, Runs, Finishes}
 use Rattle.host.specs.Answers.{outcomeIn, endedIn}
-use Rattle.host.specs.Reports.{FinishesIn}
+use Rattle.recognizer.specs.Sentences.{FinishedTells}
+use Rattle.recognizer.proofs.Telling.{finished-tells}
+use Rattle.host.specs.Reports.{FinishesIn, saysIn}
 use Rattle.host.proofs.Wide.{greatest, takes-wide}
 
 -- The number and the state that an answer tells.
@@ -62,3 +64,8 @@ pub finishes-refused : {file : List ℕ} {s : State} {w : Words} {r c : Whether}
     → saysYes c ≡ false → n ≡ finishedNumber c → FinishesIn file s w n 0
 finishes-refused {file} {s} {w} {c = c} {n} f e says same =
     FinishesIn.no (subst (λ (b : Bool). Finishes file s w n b) says (subst (λ (m : ℕ). Finishes file s w m (saysYes c)) (sym same) (finishes-of f e)))
+
+-- What the host's word says tells of sentences, as the call beneath does.
+pub finishes-in-means : {file : List ℕ} {s : State} {w : Words} {n word : ℕ} → FinishesIn file s w n word → FinishesIn file s w n word × FinishedTells file s w n (saysIn word)
+finishes-in-means (FinishesIn.yes f) = (FinishesIn.yes f, finished-tells f)
+finishes-in-means (FinishesIn.no f) = (FinishesIn.no f, finished-tells f)

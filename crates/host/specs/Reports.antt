@@ -16,6 +16,10 @@ pub data FinishesIn (file : List ℕ) (s : State) (w : Words) : ℕ → ℕ → 
   yes : {n : ℕ} → Finishes file s w n true → FinishesIn file s w n 1
   no : {n : ℕ} → Finishes file s w n false → FinishesIn file s w n 0
 
+-- What the word says.
+abbrev pub saysIn : ℕ → Bool
+saysIn word = eqb word 1
+
 -- The set report: its number, the place of the latest set's first word among the item words, and the number of its words. Refused, the
 -- part is the empty one at place 0.
 pub data ReportsIn (file : List ℕ) (s : State) (w : Words) : ℕ → ℕ → ℕ → Type 0 where

@@ -3,11 +3,12 @@
 ghost use mathlib.Core.Path.{_≡_};
 ghost use Rattle.grammar.specs.Answers.{Verdict};
 ghost use Rattle.recognizer.specs.Calls.{Starts, Takes, Runs};
+ghost use Rattle.recognizer.specs.Sentences.{TokenTells, RunTells, FinishedTells};
 ghost use Rattle.recognizer.specs.Steppable.{wordsOf};
 ghost use Rattle.node.specs.Reading.{readAt};
 ghost use Rattle.node.specs.Walking.{walkAt};
 ghost use Rattle.host.specs.Answers.{stateIn, outcomeIn, endedIn};
-ghost use Rattle.host.specs.Reports.{FinishesIn, ReportsIn};
+ghost use Rattle.host.specs.Reports.{FinishesIn, ReportsIn, saysIn};
 ghost use Rattle.host.specs.Nodes.{writeIn, numberIn, positionOr, numbersOr, countOr};
 
 mod nodes;
@@ -72,6 +73,7 @@ pub extern "C" fn brinesaddle_token(
     t: u32,
 ) -> u32
     ensures calls { λ r. ⌜ Takes (now (file .entry)) (stateIn (now (set .entry)) (now (held .entry))) (wordsOf (now (items .entry)) (now (starts .entry)) (now (rows .entry)) (now (queue .entry))) t (outcomeIn r (now (set .exit)) (now (held .exit)) (wordsOf (now (items .exit)) (now (starts .exit)) (now (rows .exit)) (now (queue .exit)))) ⌝ }
+    ensures sentences { λ r. ⌜ TokenTells (now (file .entry)) (stateIn (now (set .entry)) (now (held .entry))) (wordsOf (now (items .entry)) (now (starts .entry)) (now (rows .entry)) (now (queue .entry))) t r ⌝ }
 {
     let state = State {
         set: *set,
@@ -95,6 +97,7 @@ pub extern "C" fn brinesaddle_run(
     taken: &mut usize,
 ) -> u32
     ensures calls { λ r. ⌜ Runs (now (file .entry)) (stateIn (now (set .entry)) (now (held .entry))) (wordsOf (now (items .entry)) (now (starts .entry)) (now (rows .entry)) (now (queue .entry))) (now (tokens .entry)) (endedIn r (now (set .exit)) (now (held .exit)) (wordsOf (now (items .exit)) (now (starts .exit)) (now (rows .exit)) (now (queue .exit))) (now (taken .exit))) ⌝ }
+    ensures sentences { λ r. ⌜ RunTells (now (file .entry)) (stateIn (now (set .entry)) (now (held .entry))) (wordsOf (now (items .entry)) (now (starts .entry)) (now (rows .entry)) (now (queue .entry))) (now (tokens .entry)) (endedIn r (now (set .exit)) (now (held .exit)) (wordsOf (now (items .exit)) (now (starts .exit)) (now (rows .exit)) (now (queue .exit))) (now (taken .exit))) ⌝ }
 {
     let state = State {
         set: *set,
@@ -119,6 +122,7 @@ pub extern "C" fn brinesaddle_finished(
     yes: &mut u32,
 ) -> u32
     ensures calls { λ r. ⌜ FinishesIn (now (file .entry)) (stateIn set held) (wordsOf (now (items .entry)) (now (starts .entry)) (now (rows .entry)) (now (queue .entry))) r (now (yes .exit)) ⌝ }
+    ensures sentences { λ r. ⌜ FinishedTells (now (file .entry)) (stateIn set held) (wordsOf (now (items .entry)) (now (starts .entry)) (now (rows .entry)) (now (queue .entry))) r (saysIn (now (yes .exit))) ⌝ }
 {
     let state = State { set, items: held };
     match recognizer::finished(file, state, items, starts, rows, queue) {
