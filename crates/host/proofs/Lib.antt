@@ -3,3 +3,4 @@ pub mod Telling
 pub mod Wide
 pub mod Placed
 pub mod Numbers
+pub mod Settled

@@ -52,7 +52,7 @@ module _ {file : List ℕ} where
 
   module _ {s : State} {w : Words} where
     -- and of every other call.
-    call-number : {n n′ : ℕ} → CallFault file s w n → CallFault file s w n′ → n ≡ n′
+    pub call-number : {n n′ : ℕ} → CallFault file s w n → CallFault file s w n′ → n ≡ n′
     call-number (CallFault.file-fault f) (CallFault.file-fault f′) = file-number f f′
     call-number (CallFault.file-fault f) (CallFault.ill-formed checked ill) = absurd (no-file-fault checked f)
     call-number (CallFault.ill-formed checked ill) (CallFault.file-fault f) = absurd (no-file-fault checked f)
@@ -66,7 +66,7 @@ module _ {file : List ℕ} where
     pub not-ready : {g : Grammar} {table : List (List ℕ)} {n : ℕ} → Ready file s w g table → CallFault file s w n → ⊥
     not-ready ready = no-call-fault (ready .sound .checked) (ready .well-formed)
 
-    not-formed : {g : Grammar} {n : ℕ} → Formed file s w g → CallFault file s w n → ⊥
+    pub not-formed : {g : Grammar} {n : ℕ} → Formed file s w g → CallFault file s w n → ⊥
     not-formed formed = no-call-fault (formed .checked) (formed .well-formed)
 
     -- TWO RESULTS OF A START AGREE,
