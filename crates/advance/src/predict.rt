@@ -7,11 +7,11 @@ ghost use Rattle.grammar.specs.Decoded.{rulesIn};
 ghost use Rattle.advance.specs.NewItems.{itemsFrom};
 ghost use Rattle.advance.specs.Advance.{predictions};
 ghost use Rattle.advance.specs.Ready.{Predictable};
-use crate::words::wide;
 use bits::WIDTH;
 use bits::join_at;
 use grammar::rules::Rules;
 use grammar::rules::second;
+use item::wide;
 
 // The most symbols.
 pub const SYMBOLS: usize = 128;

@@ -9,9 +9,9 @@ ghost use Rattle.advance.specs.Advance.{greatestOrigin, lastKept, ending
 ghost use Rattle.advance.specs.Ready.{Prunable};
 use crate::words::clear_rows;
 use crate::words::clear_words;
-use crate::words::wide;
 use bits::WIDTH;
 use item::ITEM_WORDS;
+use item::wide;
 
 fn larger(a: usize, b: usize) -> usize
     ensures { λ r. ⌜ r ≡ max a b ⌝ }

@@ -10,11 +10,11 @@ ghost use Rattle.advance.specs.Order.{NeverFalls, Stored};
 ghost use Rattle.advance.specs.Advance.{ending};
 use crate::sort::sort_medial_items;
 use crate::words::clear_words;
-use crate::words::wide;
 use grammar::rules::NONE;
 use grammar::rules::Rules;
 use grammar::rules::second;
 use item::ITEM_WORDS;
+use item::wide;
 
 // The place behind the last of sorted items that has a second.
 fn binary_end(rules: &Rules, count: usize, items: &[u32], from: usize, to: usize) -> usize

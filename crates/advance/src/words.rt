@@ -1,16 +1,9 @@
-// Words: widened, and those that fall free cleared.
+// Words that fall free are cleared.
 ghost use mathlib.Core.Path.{_≡_};
 ghost use Prim.Native.Nat.{_≤_};
 ghost use lib.ListN.{length, take};
 ghost use Rattle.parse.specs.Tells.{Clear};
 ghost use Rattle.advance.specs.Advance.{padded};
-
-// A word as a number of places.
-pub fn wide(word: u32) -> usize
-    ensures { λ r. ⌜ r ≡ word ⌝ }
-{
-    word as usize
-}
 
 // Clears the words from `from` up to and without `to`. Those behind are 0.
 pub fn clear_words(words: &mut [u32], from: usize, to: usize)

@@ -10,6 +10,7 @@ use crate::Progress;
 use crate::complete;
 use binary_heap::Popped;
 use grammar::rules::Rules;
+use item::wide;
 
 // Whether the queue is empty, or its greatest entry is of another origin or left side.
 fn sum_ends(
@@ -117,10 +118,4 @@ pub fn complete_all_sums_entirely(
         now = complete_sum(rules, count, items, starts, rows, queue, now);
     }
     now
-}
-
-fn wide(word: u32) -> usize
-    ensures { λ r. ⌜ r ≡ word ⌝ }
-{
-    word as usize
 }

@@ -7,6 +7,13 @@ ghost use Rattle.item.specs.Item.{HasPlace, originAt, ruleAt, keyAt, sto
 // The words that an item takes.
 pub const ITEM_WORDS: usize = 2;
 
+// A word of a parse as a number.
+pub fn wide(word: u32) -> usize
+    ensures { λ r. ⌜ r ≡ word ⌝ }
+{
+    word as usize
+}
+
 // The origin of the item at place `p`.
 pub fn origin(items: &[u32], p: usize) -> u32
     requires { ⌜ HasPlace (now items) p ⌝ }

@@ -16,7 +16,6 @@ pub mod room;
 pub mod rows;
 pub mod sets;
 pub mod spare;
-pub mod word;
 
 // A parse by value: the number of the latest set, and the number of items in all sets.
 pub struct State {

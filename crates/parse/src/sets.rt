@@ -10,10 +10,10 @@ ghost use Rattle.parse.specs.WellFormed.{Fits};
 ghost use Rattle.parse.specs.Parts.{NeverFalls, StartsFit, AllFit, Among, Rises, SetFits, SetsFit};
 use crate::State;
 use crate::order::precedes;
-use crate::word::wide;
 use grammar::rules::NONE;
 use grammar::rules::Rules;
 use grammar::rules::second;
+use item::wide;
 
 // Whether the starts never fall up to the one behind set `e`.
 fn never_falls(starts: &[u32], e: usize) -> bool

@@ -24,6 +24,7 @@ use bits::Row;
 use bits::WIDTH;
 use grammar::rules::Rules;
 use item::ITEM_WORDS;
+use item::wide;
 use parse::State;
 use parse::room::item_room;
 use parse::room::queue_room;
@@ -122,7 +123,7 @@ pub fn run_within(
             starts,
             rows,
             queue,
-            wide(tokens[taken]),
+            token_number(tokens[taken]),
         ) {
             Answer::Done(next) => now = next,
             Answer::Refused(why, kept) => return Ran {
@@ -179,7 +180,7 @@ pub fn last_wraps(state: State, items: &[u32], starts: &[u32]) -> bool
 {
     let set = state.set;
     let end = state.items;
-    if wide32(starts[set]) < end {
+    if wide(starts[set]) < end {
         return item::rule(items, end - 1) == 0;
     }
     false
@@ -191,19 +192,13 @@ pub fn latest_part<'a>(state: State, items: &'a [u32], starts: &[u32]) -> &'a [u
     ensures { λ r. ⌜ now r ≡ latestPartIn state (now (items .entry)) (now (starts .entry)) ⌝ }
 {
     let set = state.set;
-    let from = ITEM_WORDS * wide32(starts[set]);
+    let from = ITEM_WORDS * wide(starts[set]);
     let to = ITEM_WORDS * state.items;
     &items[from..to]
 }
 
-fn wide(token: u16) -> usize
+fn token_number(token: u16) -> usize
     ensures { λ r. ⌜ r ≡ token ⌝ }
 {
     token as usize
-}
-
-fn wide32(word: u32) -> usize
-    ensures { λ r. ⌜ r ≡ word ⌝ }
-{
-    word as usize
 }

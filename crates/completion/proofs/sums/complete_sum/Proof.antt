@@ -20,7 +20,7 @@ use Rattle.completion.proofs.sums.complete_sum.Reads as reads
 use Rattle.completion.proofs.sums.complete_sum.Lts as lts
 use Rattle.completion.proofs.complete.Reads as complete-reads
 use Rattle.completion.proofs.sums.pop_sum.Reads as pop-sum-reads
-use Rattle.completion.proofs.sums.wide.Reads as wide-reads
+use Rattle.item.proofs.wide.Reads as wide-reads
 use Rattle.grammar.proofs.rules.left.Reads as left-reads
 use Rattle.item.proofs.origin.Reads as origin-reads
 use Rattle.item.proofs.rule.Reads as rule-reads

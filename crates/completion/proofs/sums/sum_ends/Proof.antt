@@ -14,7 +14,7 @@ use Rattle.completion.proofs.sums.sum_ends.Statement.{statement}
 use Rattle.completion.proofs.sums.sum_ends.Tie as tie
 use Rattle.completion.proofs.sums.sum_ends.Reads as reads
 use Rattle.completion.proofs.sums.sum_ends.Lts as lts
-use Rattle.completion.proofs.sums.wide.Reads as wide-reads
+use Rattle.item.proofs.wide.Reads as wide-reads
 use Rattle.grammar.proofs.rules.left.Reads as left-reads
 use Rattle.item.proofs.origin.Reads as origin-reads
 use Rattle.item.proofs.rule.Reads as rule-reads

@@ -7,14 +7,14 @@ use Rattle.item.specs.Item.{itemWords}
 use Rattle.recognizer.proofs.within.latest_part.Statement.{statement}
 use Rattle.recognizer.proofs.within.latest_part.Tie as tie
 
-mul-wide32 : tie.Need-mul-wide32
-mul-wide32 c = search needs
+mul-wide : tie.Need-mul-wide
+mul-wide c = search needs
 
-shared-slice-read-wide32 : tie.Need-shared-slice-read-wide32
-shared-slice-read-wide32 c = search needs
+shared-slice-read-wide : tie.Need-shared-slice-read-wide
+shared-slice-read-wide c = search needs
 
-wide32-requires : tie.Need-wide32-requires
-wide32-requires c κs = search needs
+wide-requires : tie.Need-wide-requires
+wide-requires c κs = search needs
 
 mul-from : tie.Need-mul-from
 mul-from c = search needs
@@ -37,15 +37,15 @@ part-result-end c = search needs
 returns : tie.Need-returns
 returns c =
     let start = c .before .before .before .before .before .before in
-    ap (λ from. take (itemWords * start .args .state .items - itemWords * from) (drop (itemWords * from) (start .args .items .now))) (c .before .before .wide32 .ensures)
+    ap (λ from. take (itemWords * start .args .state .items - itemWords * from) (drop (itemWords * from) (start .args .items .now))) (c .before .before .wide .ensures)
 
 pub latest-part-spec : {M : Type 1} → statement M
 latest-part-spec =
     tie.close
     (tie.spec
-    mul-wide32
-    shared-slice-read-wide32
-    wide32-requires
+    mul-wide
+    shared-slice-read-wide
+    wide-requires
     mul-from
     mul-to
     mul-result
