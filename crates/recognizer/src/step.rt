@@ -105,16 +105,9 @@ pub fn step(
         give_up(items, queue, state.items);
         return Answer::Refused(full(stopped), state);
     }
-    let advanced = advance::advance(
-        rules,
-        sizes.rules,
-        table,
-        state,
-        items,
-        starts,
-        rows,
-        pass.items,
-    );
+    let count = sizes.rules;
+    let to = pass.items;
+    let advanced = advance::advance(rules, count, table, state, items, starts, rows, to);
     match advanced {
         Advanced::Refused => Answer::Refused(Refusal::SetsFull, state),
         Advanced::Done(next) => Answer::Done(next),

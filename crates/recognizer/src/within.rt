@@ -114,17 +114,8 @@ pub fn run_within(
     let mut now = state;
     let mut taken = 0;
     while taken < tokens.len() {
-        match step_within(
-            rules,
-            sizes,
-            table,
-            now,
-            items,
-            starts,
-            rows,
-            queue,
-            token_number(tokens[taken]),
-        ) {
+        let t = token_number(tokens[taken]);
+        match step_within(rules, sizes, table, now, items, starts, rows, queue, t) {
             Answer::Done(next) => now = next,
             Answer::Refused(why, kept) => return Ran {
                 answer: Answer::Refused(why, kept),

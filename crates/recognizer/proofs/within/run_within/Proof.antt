@@ -26,10 +26,10 @@ loop-holds c =
 
 mul-token-number : tie.Need-mul-token-number Inv-loop μ-loop
 mul-token-number c =
-    scaled-fits _ _ _ (c .before .before .before .before .loop-test .taken) (c .before .before .before .before .before .before .before .before .before .before .before .good .1 .1 .1 .1 .1 .1 .1 .1 .0 .1)
+    scaled-fits _ _ _ (c .loop-test .taken) (c .before .before .before .before .before .before .before .good .1 .1 .1 .1 .1 .1 .1 .1 .0 .1)
 
 shared-slice-read-token-number : tie.Need-shared-slice-read-token-number Inv-loop μ-loop
-shared-slice-read-token-number c = c .before .before .before .before .before .loop-test .taken
+shared-slice-read-token-number c = c .before .loop-test .taken
 
 token-number-requires : tie.Need-token-number-requires Inv-loop μ-loop
 token-number-requires c κs = tt
@@ -61,7 +61,7 @@ same-length-4 c =
 
 returns : tie.Need-returns Inv-loop μ-loop
 returns c =
-    going-off (c .before .before .before .before .before .before .before .before .before .before .before .before .before .before .before .before .before .before .before .loop .inv) (c .before .before .before .before .before .before .before .before .before .before .before .before .before .before .before .before .before .before .loop-test .taken) (c .before .before .before .before .before .before .before .before .before .before .before .step-within .ensures) (c .before .before .before .before .before .before .before .before .before .before .before .before .token-number .ensures) (c .before .why .given .1)
+    going-off (c .before .before .before .before .before .before .before .before .before .before .before .before .before .before .before .before .before .before .before .loop .inv) (c .before .before .before .before .before .before .before .before .before .before .before .before .before .before .before .before .before .before .loop-test .taken) (c .before .before .before .before .before .before .before .before .before .before .before .step-within .ensures) (c .before .before .before .before .before .before .before .before .before .before .before .before .before .before .before .before .token-number .ensures) (c .before .why .given .1)
 
 add-taken : tie.Need-add-taken Inv-loop μ-loop
 add-taken c =
@@ -73,7 +73,7 @@ loop-less c =
 
 loop-again : tie.Need-loop-again Inv-loop μ-loop
 loop-again c =
-    going-on (c .before .before .before .before .before .before .before .before .before .before .before .before .before .before .before .before .before .before .before .loop .inv) (c .before .before .before .before .before .before .before .before .before .before .before .before .before .before .before .before .before .before .loop-test .taken) (c .before .before .before .before .before .before .before .before .before .before .before .step-within .ensures) (c .before .before .before .before .before .before .before .before .before .before .before .before .token-number .ensures) (c .before .before .before .before .before .before .before .before .before .before .before .before .before .before .before .before .before .before .before .before .before .before .before .before .before .pre .1) (c .before .next .given .1)
+    going-on (c .before .before .before .before .before .before .before .before .before .before .before .before .before .before .before .before .before .before .before .loop .inv) (c .before .before .before .before .before .before .before .before .before .before .before .before .before .before .before .before .before .before .loop-test .taken) (c .before .before .before .before .before .before .before .before .before .before .before .step-within .ensures) (c .before .before .before .before .before .before .before .before .before .before .before .before .before .before .before .before .token-number .ensures) (c .before .before .before .before .before .before .before .before .before .before .before .before .before .before .before .before .before .before .before .before .before .before .before .before .before .pre .1) (c .before .next .given .1)
 
 same-length-5 : tie.Need-same-length-5 Inv-loop μ-loop
 same-length-5 c = c .before .loop .inv .sizes .items
