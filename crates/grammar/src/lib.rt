@@ -1,7 +1,7 @@
 // The grammar file, version 1: its header, its rules decoded into words, and its check.
 ghost use Rattle.laws.specs.Decides.{Decides};
 ghost use Rattle.grammar.specs.Accepted as asked;
-ghost use Rattle.grammar.specs.Answers.{Verdict, numberOf};
+ghost use Rattle.grammar.specs.Answers.{Verdict, Decodes, numberOf};
 ghost use Rattle.grammar.specs.Checking.{Sized};
 ghost use Rattle.grammar.specs.Decoded.{grammarIn};
 
@@ -20,6 +20,7 @@ use crate::file::malformed;
 use crate::file::rule_count;
 use crate::file::symbols;
 use crate::file::tokens;
+use crate::limits::WORDS;
 use crate::pairs::equal_pair;
 use crate::productive::all_productive;
 use crate::rules::Rules;
@@ -49,9 +50,10 @@ fn accepted(rules: &Rules, n: usize, t: usize, count: usize) -> bool
     all_productive(rules, n, t, count)
 }
 
-// The check of any bytes.
-pub fn check(file: &[u8]) -> Checked
-    ensures { λ r. ⌜ Verdict (now (file .entry)) (numberOf r) ⌝ }
+// The check of any bytes. The rules of an accepted file are left in `rules`, so that no call decodes its file again.
+pub fn read(file: &[u8], rules: &mut Rules) -> Checked
+    ensures verdict { λ r. ⌜ Verdict (now (file .entry)) (numberOf r) ⌝ }
+    ensures decoded { λ r. ⌜ Decodes (now (file .entry)) (numberOf r) (now (rules .exit)) ⌝ }
 {
     if malformed(file) {
         return Checked::Malformed;
@@ -62,9 +64,18 @@ pub fn check(file: &[u8]) -> Checked
     if !sized(n, t, count) {
         return Checked::Broken;
     }
-    let rules = decode(file);
-    if accepted(&rules, n, t, count) {
+    let found = decode(file);
+    if accepted(&found, n, t, count) {
+        *rules = found;
         return Checked::Accepted;
     }
     Checked::Broken
+}
+
+// The check alone.
+pub fn check(file: &[u8]) -> Checked
+    ensures { λ r. ⌜ Verdict (now (file .entry)) (numberOf r) ⌝ }
+{
+    let mut rules = [0; WORDS];
+    read(file, &mut rules)
 }

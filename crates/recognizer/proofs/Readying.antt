@@ -2,13 +2,12 @@
 use mathlib.Core.Path.{_≡_, sym, subst, subst⁻¹, _∙_}
 use mathlib.Core.Bool.{Bool, true, false, not}
 use mathlib.Core.List.{List, []}
-use Prim.Native.Nat.{ℕ, _+_, _*_, _≤_}
+use Prim.Native.Nat.{ℕ, _≤_}
 use native.Mathlib.Omega.{arith}
-use lib.ListN.{length}
 use borrow.Author.Tests.{not-true, not-false}
 use Rattle.grammar.specs.Accepted.{Accepted, maxRules}
-use Rattle.grammar.specs.File.{grammarOf, symbolsOf, tokensOf, ruleCountOf, headerBytes, ruleBytes}
-use Rattle.grammar.specs.Decoded.{grammarIn, rulesIn}
+use Rattle.grammar.specs.File.{grammarOf}
+use Rattle.grammar.specs.Decoded.{rulesIn}
 use Rattle.grammar.proofs.Verdicts.{accepted-readable, read-grammar}
 use Rattle.grammar.specs.Rules.{Grammar}
 use Rattle.parse.specs.declared.State.{State}
@@ -27,39 +26,34 @@ use Rattle.recognizer.specs.Steppable.{grammarFrom}
 use Rattle.recognizer.proofs.Cutting.{last-same, part-same}
 
 -- What opening a file has told.
-module _ (file : List ℕ) (r : Opened) (tells : Opens file r) where
+module _ (file words : List ℕ) (r : Opened) (tells : Opens file words r) where
   pub opened-fault : (why : Refusal) → r ≡ opened.Refused why → FileFault file (refusalNumber why)
-  opened-fault why is = subst (Opens file) is tells
+  opened-fault why is = subst (Opens file words) is tells
 
-  pub opened-sound : (sizes : Sizes) → r ≡ opened.Sound sizes → Sound file sizes
-  opened-sound sizes is = subst (Opens file) is tells
+  pub opened-sound : (sizes : Sizes) → r ≡ opened.Sound sizes → Sound file words sizes
+  opened-sound sizes is = subst (Opens file words) is tells
 
-module _ (file : List ℕ) (sizes : Sizes) (sound : Sound file sizes) where
-  -- Its rules can be decoded, ..
-  pub sound-readable : (headerBytes + ruleBytes * ruleCountOf file ≤ length file) × (ruleCountOf file ≤ maxRules)
-  sound-readable = accepted-readable file (sound .whole) (sound .accepted)
-
-  -- .. are few, ..
+module _ (file words : List ℕ) (sizes : Sizes) (sound : Sound file words sizes) where
+  -- Its rules are few, ..
   pub sound-few : sizes .rules ≤ maxRules
-  sound-few = omega (arith, sound .rules, sound-readable .1)
+  sound-few = omega (arith, sound .rules, accepted-readable file (sound .whole) (sound .accepted) .1)
 
   -- .. and are, decoded, the grammar of the file.
-  module _ (words : List ℕ) (decoded : grammarIn words (symbolsOf file) (tokensOf file) (ruleCountOf file) ≡ grammarOf file) where
-    decoded-is : grammarFrom words sizes ≡ grammarOf file
-    decoded-is =
-        read-grammar file (sizes .symbols) (sizes .tokens) (sizes .rules) words
-        (record { symbols = sound .symbols; tokens = sound .tokens; rules = sound .rules }) decoded
+  decoded-is : grammarFrom words sizes ≡ grammarOf file
+  decoded-is =
+      read-grammar file (sizes .symbols) (sizes .tokens) (sizes .rules) words
+      (record { symbols = sound .symbols; tokens = sound .tokens; rules = sound .rules }) (sound .decoded)
 
-    pub sound-checked : Checked file (grammarFrom words sizes)
-    sound-checked = record { whole = sound .whole; is = sym decoded-is; accepted = subst⁻¹ Accepted decoded-is (sound .accepted) }
+  pub sound-checked : Checked file (grammarFrom words sizes)
+  sound-checked = record { whole = sound .whole; is = sym decoded-is; accepted = subst⁻¹ Accepted decoded-is (sound .accepted) }
 
-    -- The state is well formed or not, as the test tells.
-    module _ (s : State) (w : Words) (b : Bool) (tells : Tells b (WellFormed (sizes .symbols) (rulesIn words (sizes .rules)) s (within w))) where
-      pub told-ill-formed : not b ≡ true → CallFault file s w 4
-      told-ill-formed not-so = CallFault.ill-formed sound-checked (tells .nay (not-true b not-so))
+  -- The state is well formed or not, as the test tells.
+  module _ (s : State) (w : Words) (b : Bool) (tells : Tells b (WellFormed (sizes .symbols) (rulesIn words (sizes .rules)) s (within w))) where
+    pub told-ill-formed : not b ≡ true → CallFault file s w 4
+    told-ill-formed not-so = CallFault.ill-formed sound-checked (tells .nay (not-true b not-so))
 
-      pub told-formed : not b ≡ false → Formed file s w (grammarFrom words sizes)
-      told-formed so = record { checked = sound-checked; well-formed = tells .yes (not-false b so) }
+    pub told-formed : not b ≡ false → Formed file s w (grammarFrom words sizes)
+    told-formed so = record { checked = sound-checked; well-formed = tells .yes (not-false b so) }
 
 -- The reports of a well-formed state, from the uncut words.
 module _ (file : List ℕ) (s : State) (w : Words) where

@@ -3,6 +3,7 @@ ghost use Rattle.recognizer.specs.Opening.{Opens};
 use crate::Refusal;
 use crate::Sizes;
 use grammar::Checked;
+use grammar::rules::Rules;
 
 // What a call learns of its file: why it is refused, or the numbers of an accepted grammar.
 pub enum Opened {
@@ -10,11 +11,11 @@ pub enum Opened {
     Sound(Sizes),
 }
 
-// Checks a file.
-pub fn open(file: &[u8]) -> Opened
-    ensures { λ r. ⌜ Opens (now (file .entry)) r ⌝ }
+// Checks a file, and leaves the rules of an accepted one in `rules`.
+pub fn open(file: &[u8], rules: &mut Rules) -> Opened
+    ensures { λ r. ⌜ Opens (now (file .entry)) (now (rules .exit)) r ⌝ }
 {
-    match grammar::check(file) {
+    match grammar::read(file, rules) {
         Checked::Malformed => Opened::Refused(Refusal::Malformed),
         Checked::Broken => Opened::Refused(Refusal::Broken),
         Checked::Accepted => Opened::Sound(Sizes {

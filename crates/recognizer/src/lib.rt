@@ -16,7 +16,7 @@ use crate::within::last_wraps;
 use crate::within::latest_part;
 use crate::within::step_within;
 use crate::within::well_formed;
-use grammar::rules::decode;
+use grammar::limits::WORDS;
 use parse::State;
 
 // The numbers of symbols, ordinary tokens and rules of a grammar.
@@ -69,14 +69,14 @@ pub fn start(
 ) -> Answer
     ensures calls { λ r. ⌜ Starts (now (file .entry)) state (wordsOf (now (items .entry)) (now (starts .entry)) (now (rows .entry)) (now (queue .entry))) (outcomeOf r (wordsOf (now (items .exit)) (now (starts .exit)) (now (rows .exit)) (now (queue .exit)))) ⌝ }
 {
-    let sizes = match open(file) {
+    let mut rules = [0; WORDS];
+    let sizes = match open(file, &mut rules) {
         Opened::Refused(why) => return Answer::Refused(why, state),
         Opened::Sound(found) => found,
     };
     if parse::room::set_room(starts, rows) == 0 {
         return Answer::Refused(Refusal::NoSets, state);
     }
-    let rules = decode(file);
     let table = prediction::table(&rules, sizes.symbols, sizes.rules);
     let row = table[sizes.symbols - 2];
     begin(&row, items, starts, rows, queue);
@@ -96,11 +96,11 @@ pub fn token(
     ensures calls { λ r. ⌜ Takes (now (file .entry)) state (wordsOf (now (items .entry)) (now (starts .entry)) (now (rows .entry)) (now (queue .entry))) t (outcomeOf r (wordsOf (now (items .exit)) (now (starts .exit)) (now (rows .exit)) (now (queue .exit)))) ⌝ }
     ensures sentences { λ r. ⌜ TokenTells (now (file .entry)) state (wordsOf (now (items .entry)) (now (starts .entry)) (now (rows .entry)) (now (queue .entry))) t (numberOf r) ⌝ }
 {
-    let sizes = match open(file) {
+    let mut rules = [0; WORDS];
+    let sizes = match open(file, &mut rules) {
         Opened::Refused(why) => return Answer::Refused(why, state),
         Opened::Sound(found) => found,
     };
-    let rules = decode(file);
     if !well_formed(&rules, sizes, state, items, starts, rows, queue) {
         return Answer::Refused(Refusal::IllFormed, state);
     }
@@ -131,14 +131,14 @@ pub fn run(
     ensures calls { λ r. ⌜ Runs (now (file .entry)) state (wordsOf (now (items .entry)) (now (starts .entry)) (now (rows .entry)) (now (queue .entry))) (now (tokens .entry)) (endedOf r (wordsOf (now (items .exit)) (now (starts .exit)) (now (rows .exit)) (now (queue .exit)))) ⌝ }
     ensures sentences { λ r. ⌜ RunTells (now (file .entry)) state (wordsOf (now (items .entry)) (now (starts .entry)) (now (rows .entry)) (now (queue .entry))) (now (tokens .entry)) (endedOf r (wordsOf (now (items .exit)) (now (starts .exit)) (now (rows .exit)) (now (queue .exit)))) ⌝ }
 {
-    let sizes = match open(file) {
+    let mut rules = [0; WORDS];
+    let sizes = match open(file, &mut rules) {
         Opened::Refused(why) => return Ran {
             answer: Answer::Refused(why, state),
             taken: 0,
         },
         Opened::Sound(found) => found,
     };
-    let rules = decode(file);
     if !well_formed(&rules, sizes, state, items, starts, rows, queue) {
         return Ran {
             answer: Answer::Refused(Refusal::IllFormed, state),
@@ -171,11 +171,11 @@ pub fn finished(
     ensures calls { λ r. ⌜ Finishes (now (file .entry)) state (wordsOf (now (items .entry)) (now (starts .entry)) (now (rows .entry)) (now (queue .entry))) (finishedNumber r) (saysYes r) ⌝ }
     ensures sentences { λ r. ⌜ FinishedTells (now (file .entry)) state (wordsOf (now (items .entry)) (now (starts .entry)) (now (rows .entry)) (now (queue .entry))) (finishedNumber r) (saysYes r) ⌝ }
 {
-    let sizes = match open(file) {
+    let mut rules = [0; WORDS];
+    let sizes = match open(file, &mut rules) {
         Opened::Refused(why) => return Whether::Refused(why),
         Opened::Sound(found) => found,
     };
-    let rules = decode(file);
     if !well_formed(&rules, sizes, state, items, starts, rows, queue) {
         return Whether::Refused(Refusal::IllFormed);
     }
@@ -197,14 +197,14 @@ pub fn latest_set<'a>(
 ) -> &'a [u32]
     ensures calls { λ r. ⌜ Reports (now (file .entry)) state (wordsOf (now (items .entry)) (now (starts .entry)) (now (rows .entry)) (now (queue .entry))) (now (number .exit)) (now r) ⌝ }
 {
-    let sizes = match open(file) {
+    let mut rules = [0; WORDS];
+    let sizes = match open(file, &mut rules) {
         Opened::Refused(why) => {
             *number = refusal_number(why);
             return &items[0..0];
         }
         Opened::Sound(found) => found,
     };
-    let rules = decode(file);
     if !well_formed(&rules, sizes, state, items, starts, rows, queue) {
         *number = refusal_number(Refusal::IllFormed);
         return &items[0..0];

@@ -2,7 +2,7 @@
 use borrow.Author.Needs.{needs}
 use Rattle.recognizer.specs.Calls.{CallFault, Finishes}
 use Rattle.recognizer.specs.Steppable.{wordsOf}
-use Rattle.recognizer.proofs.Readying.{opened-fault, opened-sound, sound-readable, sound-few, told-ill-formed, told-formed, finishes-with}
+use Rattle.recognizer.proofs.Readying.{opened-fault, opened-sound, sound-few, told-ill-formed, told-formed, finishes-with}
 use Rattle.recognizer.proofs.Telling.{finished-means}
 use Rattle.recognizer.proofs.Cutting.{latest-there}
 use Rattle.recognizer.proofs.finished.Statement.{statement}
@@ -16,51 +16,46 @@ enum-known-why c = search needs
 
 returns : tie.Need-returns
 returns c =
-    finished-means (Finishes.refused (CallFault.file-fault (opened-fault _ _ (c .before .before .before .«open» .ensures) _ (c .before .why .given .1))))
+    finished-means (Finishes.refused (CallFault.file-fault (opened-fault _ _ _ (c .before .before .before .«open» .ensures) _ (c .before .why .given .1))))
 
 enum-known-found : tie.Need-enum-known-found
 enum-known-found c = search needs
 
-decode-requires : tie.Need-decode-requires
-decode-requires c κs =
-    let sound = opened-sound _ _ (c .before .before .before .«open» .ensures) _ (c .before .found .given .1) in
-    sound-readable _ _ sound
-
 well-formed-requires : tie.Need-well-formed-requires
 well-formed-requires c κs =
-    let sound = opened-sound _ _ (c .before .before .before .before .before .«open» .ensures) _ (c .before .before .before .found .given .1) in
-    sound-few _ _ sound
+    let sound = opened-sound _ _ _ (c .before .before .before .before .«open» .ensures) _ (c .before .before .found .given .1) in
+    sound-few _ _ _ sound
 
 returns-2 : tie.Need-returns-2
 returns-2 c =
     let start = c .before .before .before .before .before .before .before .before .before .before .before .before .before in
     let words = wordsOf (start .args .items .now) (start .args .starts .now) (start .args .rows .now) (start .args .queue .now) in
-    let sound = opened-sound _ _ (c .before .before .before .before .before .before .before .«open» .ensures) _ (c .before .before .before .before .before .found .given .1) in
-    let fault = told-ill-formed _ _ sound _ (c .before .before .before .decode .ensures) (start .args .state) words _ (c .before .well-formed .ensures) (c .if1 .taken) in
+    let sound = opened-sound _ _ _ (c .before .before .before .before .before .before .«open» .ensures) _ (c .before .before .before .before .found .given .1) in
+    let fault = told-ill-formed _ _ _ sound (start .args .state) words _ (c .before .well-formed .ensures) (c .if1 .taken) in
     finished-means (Finishes.refused fault)
 
 last-wraps-requires : tie.Need-last-wraps-requires
 last-wraps-requires c κs =
     let start = c .before .before .before .before .before .before .before .before .before .before .before .before .before in
     let words = wordsOf (start .args .items .now) (start .args .starts .now) (start .args .rows .now) (start .args .queue .now) in
-    let sound = opened-sound _ _ (c .before .before .before .before .before .before .before .«open» .ensures) _ (c .before .before .before .before .before .found .given .1) in
-    let formed = told-formed _ _ sound _ (c .before .before .before .decode .ensures) (start .args .state) words _ (c .before .well-formed .ensures) (c .if1 .left) in
+    let sound = opened-sound _ _ _ (c .before .before .before .before .before .before .«open» .ensures) _ (c .before .before .before .before .found .given .1) in
+    let formed = told-formed _ _ _ sound (start .args .state) words _ (c .before .well-formed .ensures) (c .if1 .left) in
     latest-there _ _ (start .args .state) words (formed .well-formed)
 
 returns-3 : tie.Need-returns-3
 returns-3 c =
     let start = c .before .before .before .before .before .before .before .before .before .before .before .before .before .before .before in
     let words = wordsOf (start .args .items .now) (start .args .starts .now) (start .args .rows .now) (start .args .queue .now) in
-    let sound = opened-sound _ _ (c .before .before .before .before .before .before .before .before .before .«open» .ensures) _ (c .before .before .before .before .before .before .before .found .given .1) in
-    let formed = told-formed _ _ sound _ (c .before .before .before .before .before .decode .ensures) (start .args .state) words _ (c .before .before .before .well-formed .ensures) (c .before .before .if1 .left) in
+    let sound = opened-sound _ _ _ (c .before .before .before .before .before .before .before .before .«open» .ensures) _ (c .before .before .before .before .before .before .found .given .1) in
+    let formed = told-formed _ _ _ sound (start .args .state) words _ (c .before .before .before .well-formed .ensures) (c .before .before .if1 .left) in
     finished-means (finishes-with _ (start .args .state) words formed _ _ (c .before .last-wraps .ensures) (c .if2 .taken))
 
 returns-4 : tie.Need-returns-4
 returns-4 c =
     let start = c .before .before .before .before .before .before .before .before .before .before .before .before .before .before .before in
     let words = wordsOf (start .args .items .now) (start .args .starts .now) (start .args .rows .now) (start .args .queue .now) in
-    let sound = opened-sound _ _ (c .before .before .before .before .before .before .before .before .before .«open» .ensures) _ (c .before .before .before .before .before .before .before .found .given .1) in
-    let formed = told-formed _ _ sound _ (c .before .before .before .before .before .decode .ensures) (start .args .state) words _ (c .before .before .before .well-formed .ensures) (c .before .before .if1 .left) in
+    let sound = opened-sound _ _ _ (c .before .before .before .before .before .before .before .before .«open» .ensures) _ (c .before .before .before .before .before .before .found .given .1) in
+    let formed = told-formed _ _ _ sound (start .args .state) words _ (c .before .before .before .well-formed .ensures) (c .before .before .if1 .left) in
     finished-means (finishes-with _ (start .args .state) words formed _ _ (c .before .last-wraps .ensures) (c .if2 .left))
 
 pub finished-spec : {M : Type 1} → statement M
@@ -71,7 +66,6 @@ finished-spec =
     enum-known-why
     returns
     enum-known-found
-    decode-requires
     well-formed-requires
     returns-2
     last-wraps-requires

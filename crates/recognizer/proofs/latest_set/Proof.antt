@@ -2,7 +2,7 @@
 use borrow.Author.Needs.{needs}
 use Rattle.recognizer.specs.Calls.{CallFault}
 use Rattle.recognizer.specs.Steppable.{wordsOf}
-use Rattle.recognizer.proofs.Readying.{opened-fault, opened-sound, sound-readable, sound-few, told-ill-formed, told-formed, reports-with, reports-refused}
+use Rattle.recognizer.proofs.Readying.{opened-fault, opened-sound, sound-few, told-ill-formed, told-formed, reports-with, reports-refused}
 use Rattle.recognizer.proofs.Cutting.{latest-there}
 use Rattle.recognizer.proofs.latest_set.Statement.{statement}
 use Rattle.recognizer.proofs.latest_set.Tie as tie
@@ -27,23 +27,18 @@ part-result-end c = search needs
 
 returns : tie.Need-returns
 returns c =
-    let start = c .before .before .before .before .before .before .before .before .before .before .before in
+    let start = c .before .before .before .before .before .before .before .before .before .before .before .before in
     let words = wordsOf (start .args .items .now) (start .args .starts .now) (start .args .rows .now) (start .args .queue .now) in
-    reports-refused _ (start .args .state) words (CallFault.file-fault (opened-fault _ _ (c .before .before .before .before .before .«open» .ensures) _ (c .before .before .before .why .given .1))) _
+    reports-refused _ (start .args .state) words (CallFault.file-fault (opened-fault _ _ _ (c .before .before .before .before .before .«open» .ensures) _ (c .before .before .before .why .given .1))) _
     (c .before .refusal-number .ensures)
 
 enum-known-found : tie.Need-enum-known-found
 enum-known-found c = search needs
 
-decode-requires : tie.Need-decode-requires
-decode-requires c κs =
-    let sound = opened-sound _ _ (c .before .before .before .«open» .ensures) _ (c .before .found .given .1) in
-    sound-readable _ _ sound
-
 well-formed-requires : tie.Need-well-formed-requires
 well-formed-requires c κs =
-    let sound = opened-sound _ _ (c .before .before .before .before .before .«open» .ensures) _ (c .before .before .before .found .given .1) in
-    sound-few _ _ sound
+    let sound = opened-sound _ _ _ (c .before .before .before .before .«open» .ensures) _ (c .before .before .found .given .1) in
+    sound-few _ _ _ sound
 
 refusal-number-requires-2 : tie.Need-refusal-number-requires-2
 refusal-number-requires-2 c κs = search needs
@@ -61,24 +56,24 @@ returns-2 : tie.Need-returns-2
 returns-2 c =
     let start = c .before .before .before .before .before .before .before .before .before .before .before .before .before .before .before in
     let words = wordsOf (start .args .items .now) (start .args .starts .now) (start .args .rows .now) (start .args .queue .now) in
-    let sound = opened-sound _ _ (c .before .before .before .before .before .before .before .before .before .«open» .ensures) _ (c .before .before .before .before .before .before .before .found .given .1) in
-    let fault = told-ill-formed _ _ sound _ (c .before .before .before .before .before .decode .ensures) (start .args .state) words _ (c .before .before .before .well-formed .ensures) (c .before .before .if1 .taken) in
+    let sound = opened-sound _ _ _ (c .before .before .before .before .before .before .before .before .«open» .ensures) _ (c .before .before .before .before .before .before .found .given .1) in
+    let fault = told-ill-formed _ _ _ sound (start .args .state) words _ (c .before .before .before .well-formed .ensures) (c .before .before .if1 .taken) in
     reports-refused _ (start .args .state) words fault _ (c .before .refusal-number2 .ensures)
 
 latest-part-requires : tie.Need-latest-part-requires
 latest-part-requires c κs =
     let start = c .before .before .before .before .before .before .before .before .before .before .before .before .before in
     let words = wordsOf (start .args .items .now) (start .args .starts .now) (start .args .rows .now) (start .args .queue .now) in
-    let sound = opened-sound _ _ (c .before .before .before .before .before .before .before .«open» .ensures) _ (c .before .before .before .before .before .found .given .1) in
-    let formed = told-formed _ _ sound _ (c .before .before .before .decode .ensures) (start .args .state) words _ (c .before .well-formed .ensures) (c .if1 .left) in
+    let sound = opened-sound _ _ _ (c .before .before .before .before .before .before .«open» .ensures) _ (c .before .before .before .before .found .given .1) in
+    let formed = told-formed _ _ _ sound (start .args .state) words _ (c .before .well-formed .ensures) (c .if1 .left) in
     latest-there _ _ (start .args .state) words (formed .well-formed)
 
 returns-3 : tie.Need-returns-3
 returns-3 c =
     let start = c .before .before .before .before .before .before .before .before .before .before .before .before .before .before in
     let words = wordsOf (start .args .items .now) (start .args .starts .now) (start .args .rows .now) (start .args .queue .now) in
-    let sound = opened-sound _ _ (c .before .before .before .before .before .before .before .before .«open» .ensures) _ (c .before .before .before .before .before .before .found .given .1) in
-    let formed = told-formed _ _ sound _ (c .before .before .before .before .decode .ensures) (start .args .state) words _ (c .before .before .well-formed .ensures) (c .before .if1 .left) in
+    let sound = opened-sound _ _ _ (c .before .before .before .before .before .before .before .«open» .ensures) _ (c .before .before .before .before .before .found .given .1) in
+    let formed = told-formed _ _ _ sound (start .args .state) words _ (c .before .before .well-formed .ensures) (c .before .if1 .left) in
     reports-with _ (start .args .state) words formed _ (c .latest-part .ensures)
 
 pub latest-set-spec : {M : Type 1} → statement M
@@ -93,7 +88,6 @@ latest-set-spec =
     part-result-end
     returns
     enum-known-found
-    decode-requires
     well-formed-requires
     refusal-number-requires-2
     sub-result-2

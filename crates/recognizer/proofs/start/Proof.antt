@@ -6,7 +6,7 @@ use Rattle.prediction.proofs.Reaching.{accepted-within}
 use Rattle.recognizer.specs.Calls.{Starts, StartFault}
 use Rattle.recognizer.specs.Steppable.{wordsOf}
 use Rattle.recognizer.proofs.Beginning.{wrapper-row, starts-done}
-use Rattle.recognizer.proofs.Readying.{opened-fault, opened-sound, sound-readable, sound-few, sound-checked}
+use Rattle.recognizer.proofs.Readying.{opened-fault, opened-sound, sound-few, sound-checked}
 use Rattle.recognizer.proofs.start.Statement.{statement}
 use Rattle.recognizer.proofs.start.Tie as tie
 
@@ -18,7 +18,7 @@ enum-known-why c = search needs
 
 returns : tie.Need-returns
 returns c =
-    Starts.refused (StartFault.file-fault (opened-fault _ _ (c .before .before .before .«open» .ensures) _ (c .before .why .given .1)))
+    Starts.refused (StartFault.file-fault (opened-fault _ _ _ (c .before .before .before .«open» .ensures) _ (c .before .why .given .1)))
 
 enum-known-found : tie.Need-enum-known-found
 enum-known-found c = search needs
@@ -34,44 +34,39 @@ same-length-2 c = search needs
 
 returns-2 : tie.Need-returns-2
 returns-2 c =
-    let sound = opened-sound _ _ (c .before .before .before .before .before .before .before .«open» .ensures) _ (c .before .before .before .before .before .found .given .1) in
+    let sound = opened-sound _ _ _ (c .before .before .before .before .before .before .before .«open» .ensures) _ (c .before .before .before .before .before .found .given .1) in
     Starts.refused
     (StartFault.no-sets (record { whole = sound .whole; is = refl; accepted = sound .accepted }) (sym (c .before .set-room .ensures) ∙ c .if1 .taken))
 
-decode-requires : tie.Need-decode-requires
-decode-requires c κs =
-    let sound = opened-sound _ _ (c .before .before .before .before .before .before .before .«open» .ensures) _ (c .before .before .before .before .before .found .given .1) in
-    sound-readable _ _ sound
-
 table-requires : tie.Need-table-requires
 table-requires c κs =
-    let sound = opened-sound _ _ (c .before .before .before .before .before .before .before .before .before .«open» .ensures) _ (c .before .before .before .before .before .before .before .found .given .1) in
-    let checked = sound-checked _ _ sound _ (c .before .decode .ensures) in
-    (sound-few _ _ sound, accepted-within _ _ _ _ (checked .accepted))
+    let sound = opened-sound _ _ _ (c .before .before .before .before .before .before .before .before .«open» .ensures) _ (c .before .before .before .before .before .before .found .given .1) in
+    let checked = sound-checked _ _ _ sound in
+    (sound-few _ _ _ sound, accepted-within _ _ _ _ (checked .accepted))
 
 sub-row : tie.Need-sub-row
 sub-row c =
-    let sound = opened-sound _ _ (c .before .before .before .before .before .before .before .before .before .before .before .«open» .ensures) _ (c .before .before .before .before .before .before .before .before .before .found .given .1) in
-    let checked = sound-checked _ _ sound _ (c .before .before .before .decode .ensures) in
+    let sound = opened-sound _ _ _ (c .before .before .before .before .before .before .before .before .before .before .«open» .ensures) _ (c .before .before .before .before .before .before .before .before .found .given .1) in
+    let checked = sound-checked _ _ _ sound in
     omega (arith, checked .accepted .room)
 
 mul-row : tie.Need-mul-row
 mul-row c =
-    let sound = opened-sound _ _ (c .before .before .before .before .before .before .before .before .before .before .before .«open» .ensures) _ (c .before .before .before .before .before .before .before .before .before .found .given .1) in
-    let checked = sound-checked _ _ sound _ (c .before .before .before .decode .ensures) in
+    let sound = opened-sound _ _ _ (c .before .before .before .before .before .before .before .before .before .before .«open» .ensures) _ (c .before .before .before .before .before .before .before .before .found .given .1) in
+    let checked = sound-checked _ _ _ sound in
     omega (arith, checked .accepted .few-symbols)
 
 array-copy-out-row : tie.Need-array-copy-out-row
 array-copy-out-row c =
-    let sound = opened-sound _ _ (c .before .before .before .before .before .before .before .before .before .before .before .«open» .ensures) _ (c .before .before .before .before .before .before .before .before .before .found .given .1) in
-    let checked = sound-checked _ _ sound _ (c .before .before .before .decode .ensures) in
+    let sound = opened-sound _ _ _ (c .before .before .before .before .before .before .before .before .before .before .«open» .ensures) _ (c .before .before .before .before .before .before .before .before .found .given .1) in
+    let checked = sound-checked _ _ _ sound in
     omega (arith, checked .accepted .room, checked .accepted .few-symbols)
 
 begin-requires : tie.Need-begin-requires
 begin-requires c κs =
-    let sound = opened-sound _ _ (c .before .before .before .before .before .before .before .before .before .before .before .before .before .before .before .before .before .«open» .ensures) _ (c .before .before .before .before .before .before .before .before .before .before .before .before .before .before .before .found .given .1) in
-    let checked = sound-checked _ _ sound _ (c .before .before .before .before .before .before .before .before .before .decode .ensures) in
-    (omega (arith, c .before .before .before .before .before .before .before .before .before .before .before .set-room .ensures, c .before .before .before .before .before .before .before .before .before .before .if1 .left), wrapper-row _ _ (checked .accepted) (c .before .before .before .before .before .before .before .table .ensures _))
+    let sound = opened-sound _ _ _ (c .before .before .before .before .before .before .before .before .before .before .before .before .before .before .before .before .«open» .ensures) _ (c .before .before .before .before .before .before .before .before .before .before .before .before .before .before .found .given .1) in
+    let checked = sound-checked _ _ _ sound in
+    (omega (arith, c .before .before .before .before .before .before .before .before .before .before .set-room .ensures, c .before .before .before .before .before .before .before .before .before .if1 .left), wrapper-row _ _ (checked .accepted) (c .before .before .before .before .before .before .before .table .ensures _))
 
 same-length-3 : tie.Need-same-length-3
 same-length-3 c = c .before .before .before .before .before .before .before .before .begin .kept .1 .0
@@ -89,10 +84,10 @@ returns-3 : tie.Need-returns-3
 returns-3 c =
     let start = c .before .before .before .before .before .before .before .before .before .before .before .before .before .before .before .before .before .before .before .before .before .before .before .before .before .before .before .before .before .before .before .before in
     let words = wordsOf (start .args .items .now) (start .args .starts .now) (start .args .rows .now) (start .args .queue .now) in
-    let sound = opened-sound _ _ (c .before .before .before .before .before .before .before .before .before .before .before .before .before .before .before .before .before .before .before .before .before .before .before .before .before .before .«open» .ensures) _ (c .before .before .before .before .before .before .before .before .before .before .before .before .before .before .before .before .before .before .before .before .before .before .before .before .found .given .1) in
-    let checked = sound-checked _ _ sound _ (c .before .before .before .before .before .before .before .before .before .before .before .before .before .before .before .before .before .before .decode .ensures) in
+    let sound = opened-sound _ _ _ (c .before .before .before .before .before .before .before .before .before .before .before .before .before .before .before .before .before .before .before .before .before .before .before .before .before .«open» .ensures) _ (c .before .before .before .before .before .before .before .before .before .before .before .before .before .before .before .before .before .before .before .before .before .before .before .found .given .1) in
+    let checked = sound-checked _ _ _ sound in
     starts-done _ _ words _ _ _ (record { checked = checked; predicts = c .before .before .before .before .before .before .before .before .before .before .before .before .before .before .before .before .table .ensures _ })
-    (omega (arith, c .before .before .before .before .before .before .before .before .before .before .before .before .before .before .before .before .before .before .before .before .set-room .ensures, c .before .before .before .before .before .before .before .before .before .before .before .before .before .before .before .before .before .before .before .if1 .left)) (c .before .before .before .before .before .before .before .before .begin .ensures)
+    (omega (arith, c .before .before .before .before .before .before .before .before .before .before .before .before .before .before .before .before .before .before .before .set-room .ensures, c .before .before .before .before .before .before .before .before .before .before .before .before .before .before .before .before .before .before .if1 .left)) (c .before .before .before .before .before .before .before .before .begin .ensures)
 
 pub start-spec : {M : Type 1} → statement M
 start-spec =
@@ -106,7 +101,6 @@ start-spec =
     same-length
     same-length-2
     returns-2
-    decode-requires
     table-requires
     sub-row
     mul-row

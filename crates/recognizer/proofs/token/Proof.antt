@@ -3,7 +3,7 @@ use mathlib.Core.Path.{refl}
 use Rattle.prediction.proofs.Reaching.{accepted-within}
 use Rattle.recognizer.specs.Calls.{CallFault, Takes}
 use Rattle.recognizer.specs.Steppable.{wordsOf}
-use Rattle.recognizer.proofs.Readying.{opened-fault, opened-sound, sound-readable, sound-few, sound-checked, told-ill-formed, told-formed}
+use Rattle.recognizer.proofs.Readying.{opened-fault, opened-sound, sound-few, sound-checked, told-ill-formed, told-formed}
 use Rattle.recognizer.proofs.Given.{can-step, takes}
 use Rattle.recognizer.proofs.Telling.{token-means}
 use Rattle.recognizer.proofs.token.Statement.{statement}
@@ -17,20 +17,15 @@ enum-known-why c = c .match .keys1
 
 returns : tie.Need-returns
 returns c =
-    token-means (Takes.refused (CallFault.file-fault (opened-fault _ _ (c .before .before .before .«open» .ensures) _ (c .before .why .given .1))))
+    token-means (Takes.refused (CallFault.file-fault (opened-fault _ _ _ (c .before .before .before .«open» .ensures) _ (c .before .why .given .1))))
 
 enum-known-found : tie.Need-enum-known-found
 enum-known-found c = c .match .keys2
 
-decode-requires : tie.Need-decode-requires
-decode-requires c κs =
-    let sound = opened-sound _ _ (c .before .before .before .«open» .ensures) _ (c .before .found .given .1) in
-    sound-readable _ _ sound
-
 well-formed-requires : tie.Need-well-formed-requires
 well-formed-requires c κs =
-    let sound = opened-sound _ _ (c .before .before .before .before .before .before .before .before .before .«open» .ensures) _ (c .before .before .before .before .before .before .before .found .given .1) in
-    sound-few _ _ sound
+    let sound = opened-sound _ _ _ (c .before .before .before .before .before .before .before .before .«open» .ensures) _ (c .before .before .before .before .before .before .found .given .1) in
+    sound-few _ _ _ sound
 
 same-length : tie.Need-same-length
 same-length c = refl
@@ -48,21 +43,21 @@ returns-2 : tie.Need-returns-2
 returns-2 c =
     let a = c .before .before .before .before .before .before .before .before .before .before .before .before .before .before .before .before .before .args in
     let w = wordsOf (a .items .now) (a .starts .now) (a .rows .now) (a .queue .now) in
-    let sound = opened-sound _ _ (c .before .before .before .before .before .before .before .before .before .before .before .«open» .ensures) _ (c .before .before .before .before .before .before .before .before .before .found .given .1) in
-    token-means (Takes.refused (told-ill-formed _ _ sound _ (c .before .before .before .before .before .before .before .decode .ensures) (a .state) w _ (c .before .well-formed .ensures) (c .if1 .taken)))
+    let sound = opened-sound _ _ _ (c .before .before .before .before .before .before .before .before .before .before .«open» .ensures) _ (c .before .before .before .before .before .before .before .before .found .given .1) in
+    token-means (Takes.refused (told-ill-formed _ _ _ sound (a .state) w _ (c .before .well-formed .ensures) (c .if1 .taken)))
 
 table-requires : tie.Need-table-requires
 table-requires c κs =
-    let sound = opened-sound _ _ (c .before .before .before .before .before .before .before .before .before .before .before .before .«open» .ensures) _ (c .before .before .before .before .before .before .before .before .before .before .found .given .1) in
-    (sound-few _ _ sound, accepted-within _ _ _ _ (sound-checked _ _ sound _ (c .before .before .before .before .before .before .before .before .decode .ensures) .accepted))
+    let sound = opened-sound _ _ _ (c .before .before .before .before .before .before .before .before .before .before .before .«open» .ensures) _ (c .before .before .before .before .before .before .before .before .before .found .given .1) in
+    (sound-few _ _ _ sound, accepted-within _ _ _ _ (sound-checked _ _ _ sound .accepted))
 
 step-within-requires : tie.Need-step-within-requires
 step-within-requires c κs =
     let a = c .before .before .before .before .before .before .before .before .before .before .before .before .before .before .before .before .before .before .before .before .before .before .before .before .before .args in
     let w = wordsOf (a .items .now) (a .starts .now) (a .rows .now) (a .queue .now) in
-    let sound = opened-sound _ _ (c .before .before .before .before .before .before .before .before .before .before .before .before .before .before .before .before .before .before .before .«open» .ensures) _ (c .before .before .before .before .before .before .before .before .before .before .before .before .before .before .before .before .before .found .given .1) in
-    let formed = told-formed _ _ sound _ (c .before .before .before .before .before .before .before .before .before .before .before .before .before .before .before .decode .ensures) (a .state) w _ (c .before .before .before .before .before .before .before .before .before .well-formed .ensures) (c .before .before .before .before .before .before .before .before .if1 .left) in
-    can-step formed (c .before .before .before .before .before .before .table .ensures (c .before .before .before .before .before .before .before .before .before .before .before .before .before .before .before .before .before .found .given .0 .0 .tokens))
+    let sound = opened-sound _ _ _ (c .before .before .before .before .before .before .before .before .before .before .before .before .before .before .before .before .before .before .«open» .ensures) _ (c .before .before .before .before .before .before .before .before .before .before .before .before .before .before .before .before .found .given .1) in
+    let formed = told-formed _ _ _ sound (a .state) w _ (c .before .before .before .before .before .before .before .before .before .well-formed .ensures) (c .before .before .before .before .before .before .before .before .if1 .left) in
+    can-step formed (c .before .before .before .before .before .before .table .ensures (c .before .before .before .before .before .before .before .before .before .before .before .before .before .before .before .before .found .given .0 .0 .tokens))
 
 same-length-5 : tie.Need-same-length-5
 same-length-5 c = c .before .before .before .before .before .before .before .before .step-within .kept .1 .1 .1 .1 .0
@@ -83,9 +78,9 @@ returns-3 : tie.Need-returns-3
 returns-3 c =
     let a = c .before .before .before .before .before .before .before .before .before .before .before .before .before .before .before .before .before .before .before .before .before .before .before .before .before .before .before .before .before .before .before .before .before .before .args in
     let w = wordsOf (a .items .now) (a .starts .now) (a .rows .now) (a .queue .now) in
-    let sound = opened-sound _ _ (c .before .before .before .before .before .before .before .before .before .before .before .before .before .before .before .before .before .before .before .before .before .before .before .before .before .before .before .before .«open» .ensures) _ (c .before .before .before .before .before .before .before .before .before .before .before .before .before .before .before .before .before .before .before .before .before .before .before .before .before .before .found .given .1) in
-    let formed = told-formed _ _ sound _ (c .before .before .before .before .before .before .before .before .before .before .before .before .before .before .before .before .before .before .before .before .before .before .before .before .decode .ensures) (a .state) w _ (c .before .before .before .before .before .before .before .before .before .before .before .before .before .before .before .before .before .before .well-formed .ensures) (c .before .before .before .before .before .before .before .before .before .before .before .before .before .before .before .before .before .if1 .left) in
-    token-means (takes formed (c .before .before .before .before .before .before .before .before .before .before .before .before .before .before .before .table .ensures (c .before .before .before .before .before .before .before .before .before .before .before .before .before .before .before .before .before .before .before .before .before .before .before .before .before .before .found .given .0 .0 .tokens)) (a .t) (c .before .before .before .before .before .before .before .before .step-within .ensures))
+    let sound = opened-sound _ _ _ (c .before .before .before .before .before .before .before .before .before .before .before .before .before .before .before .before .before .before .before .before .before .before .before .before .before .before .before .«open» .ensures) _ (c .before .before .before .before .before .before .before .before .before .before .before .before .before .before .before .before .before .before .before .before .before .before .before .before .before .found .given .1) in
+    let formed = told-formed _ _ _ sound (a .state) w _ (c .before .before .before .before .before .before .before .before .before .before .before .before .before .before .before .before .before .before .well-formed .ensures) (c .before .before .before .before .before .before .before .before .before .before .before .before .before .before .before .before .before .if1 .left) in
+    token-means (takes formed (c .before .before .before .before .before .before .before .before .before .before .before .before .before .before .before .table .ensures (c .before .before .before .before .before .before .before .before .before .before .before .before .before .before .before .before .before .before .before .before .before .before .before .before .before .found .given .0 .0 .tokens)) (a .t) (c .before .before .before .before .before .before .before .before .step-within .ensures))
 
 pub token-spec : {M : Type 1} → statement M
 token-spec =
@@ -95,7 +90,6 @@ token-spec =
     enum-known-why
     returns
     enum-known-found
-    decode-requires
     well-formed-requires
     same-length
     same-length-2

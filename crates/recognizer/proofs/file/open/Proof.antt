@@ -8,8 +8,8 @@ use Rattle.recognizer.specs.Calls.{FileFault}
 use Rattle.recognizer.proofs.file.open.Statement.{statement}
 use Rattle.recognizer.proofs.file.open.Tie as tie
 
-check-requires : tie.Need-check-requires
-check-requires c κs = search needs
+read-requires : tie.Need-read-requires
+read-requires c κs = search needs
 
 enum-told : tie.Need-enum-told
 enum-told c = search needs
@@ -22,41 +22,42 @@ enum-told-3 c = search needs
 
 symbols-requires : tie.Need-symbols-requires
 symbols-requires c κs =
-    accepted-file _ _ (c .before .before .check .ensures) (c .enum-told3 .given .1) .header
+    accepted-file _ _ (c .before .before .read .ensures .0) (c .enum-told3 .given .1) .header
 
 tokens-requires : tie.Need-tokens-requires
 tokens-requires c κs =
-    accepted-file _ _ (c .before .before .before .check .ensures) (c .before .enum-told3 .given .1) .header
+    accepted-file _ _ (c .before .before .before .read .ensures .0) (c .before .enum-told3 .given .1) .header
 
 rule-count-requires : tie.Need-rule-count-requires
 rule-count-requires c κs =
-    accepted-file _ _ (c .before .before .before .before .check .ensures) (c .before .before .enum-told3 .given .1) .header
+    accepted-file _ _ (c .before .before .before .before .read .ensures .0) (c .before .before .enum-told3 .given .1) .header
 
 returns : tie.Need-returns
 returns c =
-    FileFault.malformed (c .before .before .check .ensures .one (ap numberOf (c .enum-told .given .1)))
+    FileFault.malformed (c .before .before .read .ensures .0 .one (ap numberOf (c .enum-told .given .1)))
 
 returns-2 : tie.Need-returns-2
 returns-2 c =
     let number = ap numberOf (c .enum-told2 .given .1) in
-    FileFault.broken (λ m. omega (arith, number, c .before .before .check .ensures .always-one m)) (c .before .before .check .ensures .two number)
+    FileFault.broken (λ m. omega (arith, number, c .before .before .read .ensures .0 .always-one m)) (c .before .before .read .ensures .0 .two number)
 
 returns-3 : tie.Need-returns-3
 returns-3 c =
-    let a : AcceptedFile (c .before .before .before .before .before .before .before .args .file .now) = accepted-file _ _ (c .before .before .before .before .before .check .ensures) (c .before .before .before .enum-told3 .given .1) in
+    let a : AcceptedFile (c .before .before .before .before .before .before .before .before .args .file .now) = accepted-file _ _ (c .before .before .before .before .before .read .ensures .0) (c .before .before .before .enum-told3 .given .1) in
     record {
       whole = a .formed;
       accepted = a .accepted;
       symbols = c .before .before .symbols .ensures .0;
       tokens = c .before .tokens .ensures .0;
       rules = c .rule-count .ensures .0;
+      decoded = c .before .before .before .before .before .read .ensures .1 .holds (ap numberOf (c .before .before .before .enum-told3 .given .1));
     }
 
 pub open-spec : {M : Type 1} → statement M
 open-spec =
     tie.close
     (tie.spec
-    check-requires
+    read-requires
     enum-told
     enum-told-2
     enum-told-3

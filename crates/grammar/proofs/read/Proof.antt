@@ -1,4 +1,4 @@
--- `grammar::check` meets its contract. One verdict a return.
+-- `grammar::read` meets its contract. One verdict a return.
 use borrow.Author.Tests.{not-true, not-false}
 use Rattle.grammar.proofs.Judging.{formed}
 use Rattle.grammar.specs.Accepted.{Accepted}
@@ -6,14 +6,14 @@ use Rattle.grammar.proofs.Verdicts.{verdict-one, verdict-two, verdict-z
 use mathlib.Core.Path.{subst, subst⁻¹}
 use native.Mathlib.Omega.{arith}
 use borrow.Author.Needs.{needs}
-use Rattle.grammar.proofs.check.Statement.{statement}
-use Rattle.grammar.proofs.check.Tie as tie
+use Rattle.grammar.proofs.read.Statement.{statement}
+use Rattle.grammar.proofs.read.Tie as tie
 
 malformed-requires : tie.Need-malformed-requires
 malformed-requires c κs = search needs
 
 returns : tie.Need-returns
-returns c = verdict-one _ (c .before .malformed .ensures .if-yes (c .if1 .taken))
+returns c = (verdict-one _ (c .before .malformed .ensures .if-yes (c .if1 .taken)), record { holds = λ zero. absurd (omega arith) })
 
 symbols-requires : tie.Need-symbols-requires
 symbols-requires c κs = formed _ (c .before .malformed .ensures .if-no (c .if1 .left)) .header
@@ -33,9 +33,11 @@ returns-2 c =
     let at-tokens = c .before .before .before in
     let at-symbols = c .before .before .before .before in
     let at-if1 = c .before .before .before .before .before in
-    let at-malformed = c .before .before .before .before .before .before in
-    verdict-two _ (at-malformed .malformed .ensures .if-no (at-if1 .if1 .left))
-    (not-sized _ _ _ _ (record { symbols = at-symbols .symbols .ensures .0; tokens = at-tokens .tokens .ensures .0; rules = at-rule-count .rule-count .ensures .0 }) (c .before .sized .ensures .if-no (not-true _ (c .if2 .taken))))
+    let at-malformed = c .before .before .before .before .before .before in (
+      verdict-two _ (at-malformed .malformed .ensures .if-no (at-if1 .if1 .left))
+          (not-sized _ _ _ _ (record { symbols = at-symbols .symbols .ensures .0; tokens = at-tokens .tokens .ensures .0; rules = at-rule-count .rule-count .ensures .0 }) (c .before .sized .ensures .if-no (not-true _ (c .if2 .taken)))),
+      record { holds = λ zero. absurd (omega arith) },
+    )
 
 decode-requires : tie.Need-decode-requires
 decode-requires c κs =
@@ -55,9 +57,11 @@ returns-3 c =
     let at-tokens = c .before .before .before .before .before .before .before in
     let at-symbols = c .before .before .before .before .before .before .before .before in
     let at-if1 = c .before .before .before .before .before .before .before .before .before in
-    let at-malformed = c .before .before .before .before .before .before .before .before .before .before in
-    verdict-zero _ (at-malformed .malformed .ensures .if-no (at-if1 .if1 .left))
-    (subst Accepted (read-grammar _ _ _ _ _ (record { symbols = at-symbols .symbols .ensures .0; tokens = at-tokens .tokens .ensures .0; rules = at-rule-count .rule-count .ensures .0 }) (at-decode .decode .ensures)) (c .before .accepted .ensures .if-yes (c .if3 .taken)))
+    let at-malformed = c .before .before .before .before .before .before .before .before .before .before in (
+      verdict-zero _ (at-malformed .malformed .ensures .if-no (at-if1 .if1 .left))
+          (subst Accepted (read-grammar _ _ _ _ _ (record { symbols = at-symbols .symbols .ensures .0; tokens = at-tokens .tokens .ensures .0; rules = at-rule-count .rule-count .ensures .0 }) (at-decode .decode .ensures)) (c .before .accepted .ensures .if-yes (c .if3 .taken))),
+      record { holds = λ zero. at-decode .decode .ensures },
+    )
 
 returns-4 : tie.Need-returns-4
 returns-4 c =
@@ -66,12 +70,14 @@ returns-4 c =
     let at-tokens = c .before .before .before .before .before .before .before in
     let at-symbols = c .before .before .before .before .before .before .before .before in
     let at-if1 = c .before .before .before .before .before .before .before .before .before in
-    let at-malformed = c .before .before .before .before .before .before .before .before .before .before in
-    verdict-two _ (at-malformed .malformed .ensures .if-no (at-if1 .if1 .left))
-    (λ h. c .before .accepted .ensures .if-no (c .if3 .left) (subst⁻¹ Accepted (read-grammar _ _ _ _ _ (record { symbols = at-symbols .symbols .ensures .0; tokens = at-tokens .tokens .ensures .0; rules = at-rule-count .rule-count .ensures .0 }) (at-decode .decode .ensures)) h))
+    let at-malformed = c .before .before .before .before .before .before .before .before .before .before in (
+      verdict-two _ (at-malformed .malformed .ensures .if-no (at-if1 .if1 .left))
+          (λ h. c .before .accepted .ensures .if-no (c .if3 .left) (subst⁻¹ Accepted (read-grammar _ _ _ _ _ (record { symbols = at-symbols .symbols .ensures .0; tokens = at-tokens .tokens .ensures .0; rules = at-rule-count .rule-count .ensures .0 }) (at-decode .decode .ensures)) h)),
+      record { holds = λ zero. absurd (omega arith) },
+    )
 
-pub check-spec : {M : Type 1} → statement M
-check-spec =
+pub read-spec : {M : Type 1} → statement M
+read-spec =
     tie.close
     (tie.spec
     malformed-requires
