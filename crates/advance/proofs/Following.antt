@@ -24,7 +24,8 @@ use Rattle.advance.specs.Advance.{lastKept, keptRows, predictions, padde
 use Rattle.advance.specs.Ready.{Shape, Predictable, Followable}
 use Rattle.advance.proofs.Placed.{noItem, items-count, items-at, items-are, item-eq, behind-words}
 use Rattle.advance.proofs.Placing.{second-in}
-use Rattle.advance.proofs.Padded.{zeros-word, padded-length, padded-word, padded-set}
+use Rattle.laws.proofs.Lists.{zeros-word}
+use Rattle.advance.proofs.Padded.{padded-length, padded-word, padded-set}
 use Rattle.advance.proofs.Pruning.{kept-pruned, kept-all, rows-pruned, rows-all, start-below}
 use Rattle.advance.proofs.Sorting.{items-all}
 

@@ -19,7 +19,8 @@ use Rattle.advance.specs.Order.{All}
 use Rattle.advance.specs.Advance.{highest, greatestOrigin, lastKept, keptRows, nextState, nextWords, withoutNew}
 use Rattle.advance.proofs.Placed.{noItem, item-eq}
 use Rattle.advance.proofs.Ordering.{Rises, all-at, all-map, rises-at}
-use Rattle.advance.proofs.Padded.{zeros-word, padded-length, padded-word, front-word}
+use Rattle.laws.proofs.Lists.{zeros-word}
+use Rattle.advance.proofs.Padded.{padded-length, padded-word, front-word}
 use Rattle.advance.proofs.Pruning.{kept-pruned, kept-all, rows-pruned, rows-all, last-greatest}
 use Rattle.advance.proofs.Following.{ending-length, ending-at, ending-before, ending-behind, kept-low, kept-rows-length}
 use Rattle.advance.proofs.Advancing.{greatest-below}

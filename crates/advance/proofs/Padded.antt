@@ -4,18 +4,15 @@ use mathlib.Core.List.{List, [], _∷_, _++_, append-assoc}
 use Prim.Native.Nat.{ℕ, zero, _+_, _-_, _*_, _≤_, _<_}
 use native.Mathlib.Decide.{decLt, ℕ-discrete}
 use native.Mathlib.Omega.{arith}
-use lib.ListN.{length, getD, set, take, drop, replicate, length-append, length-take, length-replicate, length-set, getD-replicate, List·getD-append, List·getD-eq-default}
+use lib.ListN.{length, getD, set, take, drop, replicate, length-append, length-take, length-replicate, length-set, List·getD-append, List·getD-eq-default}
 use lib.Seq.{ext-getD, length-take-le, getD-take, getD-append-add, getD-set-same, getD-set-other, take-at}
+use Rattle.laws.proofs.Lists.{zeros-word}
 use Rattle.item.specs.Item.{itemWords, flat}
 use Rattle.item.proofs.Words.{flat-length}
 use Rattle.parse.specs.Tells.{Clear}
 use Rattle.advance.specs.NewItems.{itemsFrom}
 use Rattle.advance.specs.Advance.{padded}
 use Rattle.advance.proofs.Placed.{items-count, placed-self}
-
--- A word of 0s is 0, there or not.
-pub zeros-word : (n i : ℕ) → _≡_ {A = ℕ} (getD (replicate n 0) i 0) 0
-zeros-word n i = elim (decLt i n) [ yes l ↦ getD-replicate n i 0 0 l | no m ↦ List·getD-eq-default (replicate n 0) 0 {n = i} (omega (arith, length-replicate {A = ℕ} n 0)) ]
 
 -- They have the size asked for.
 pub padded-length : (size : ℕ) (words : List ℕ) → length words ≤ size → length (padded size words) ≡ size

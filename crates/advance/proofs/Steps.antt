@@ -28,7 +28,8 @@ use Rattle.advance.specs.Advance.{predictions, padded, nextState, nextWo
 use Rattle.advance.specs.Ready.{Shape, Ready}
 use Rattle.advance.proofs.Placing.{second-in}
 use Rattle.advance.proofs.Ordering.{Rises, Differ, all-both, sorted-rises, differ-apart}
-use Rattle.advance.proofs.Padded.{zeros-word, clear-padded}
+use Rattle.laws.proofs.Lists.{zeros-word}
+use Rattle.advance.proofs.Padded.{clear-padded}
 use Rattle.advance.proofs.Sorting.{items-all}
 use Rattle.advance.proofs.Pruning.{kept-pruned, kept-all}
 use Rattle.advance.proofs.Following.{predictions-wide}

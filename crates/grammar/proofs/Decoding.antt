@@ -3,13 +3,14 @@ use mathlib.Core.Path.{_≡_, refl, sym, ap, subst, _∙_}
 use mathlib.Core.List.{List}
 use Prim.Native.Nat.{ℕ, zero, suc, _+_, _*_, _≤_, _<_}
 use native.Mathlib.Omega.{arith}
-use native.Mathlib.Decide.{ℕ-discrete}
+use native.Mathlib.Decide.{ℕ-discrete, decLt}
 use lib.ListN.{length, getD, set, replicate, length-set, length-replicate}
 use lib.Seq.{ext-getD, getD-set-same, getD-set-other}
-use Rattle.grammar.specs.Rules.{Rule, Says, ruleCount, ruleAt}
+use Rattle.laws.proofs.Lists.{zeros-word}
+use Rattle.grammar.specs.Rules.{Rule, Grammar, Says, ruleCount, ruleAt}
 use Rattle.grammar.specs.Accepted.{maxRules}
 use Rattle.grammar.specs.File.{u16At, headerBytes, ruleBytes, ruleCountOf, symbolsOf, tokensOf, ruleIn, rulesFrom, grammarOf}
-use Rattle.grammar.specs.Decoded.{ruleWords, leftIn, firstIn, secondIn, rulesBehind, rulesIn, grammarIn}
+use Rattle.grammar.specs.Decoded.{ruleWords, leftIn, firstIn, secondIn, rulesBehind, rulesIn, grammarIn, HoldsRules}
 
 -- What stands for a rule past the last one.
 abbrev noRule : Rule
@@ -101,6 +102,7 @@ pub record Decoding (file words : List ℕ) (i : ℕ) : Type 0 where
   pub few : i ≤ ruleCountOf file
   pub long : length words ≡ ruleWords * maxRules
   pub same : (r : ℕ) → r < i → SameRule file words r
+  pub rest : (k : ℕ) → ruleWords * i ≤ k → getD words k 0 ≡ 0
 
 -- One more rule, a word after the other.
 module _ (file words : List ℕ) (i a b c : ℕ) where
@@ -121,6 +123,7 @@ module _ (file words : List ℕ) (i a b c : ℕ) where
     few = omega arith;
     long = long-stored;
     same = λ r lr. elim (ℕ-discrete r i) [ yes e ↦ subst (λ (q : ℕ). SameRule file stored q) (sym e) new | no n ↦ old r (lower r lr n) ];
+    rest = λ k behind. stored-other k (omega arith) (omega arith) (omega arith) ∙ h .rest k (omega arith);
   }
     where
       long-stored : length stored ≡ ruleWords * maxRules
@@ -146,11 +149,49 @@ module _ (file words : List ℕ) (i a b c : ℕ) where
         second = getD-set-same (set (set words (ruleWords * i) a) (ruleWords * i + 1) b) (ruleWords * i + 2) c 0 (simp length-set (omega (arith, h .long))) ∙ ec;
       }
 
--- With all rules decoded the words give the file's grammar.
-pub all-decoded : (file words : List ℕ) (i : ℕ) → Decoding file words i → ruleCountOf file ≤ i
-    → grammarIn words (symbolsOf file) (tokensOf file) (ruleCountOf file) ≡ grammarOf file
-all-decoded file words i h l = same-grammar file words (λ r lr. h .same r (omega arith))
+-- With all rules decoded the words hold the file's rules.
+pub all-decoded : (file words : List ℕ) (i : ℕ) → Decoding file words i → ruleCountOf file ≤ i → HoldsRules file words
+all-decoded file words i h l = record {
+  long = h .long;
+  rules = same-grammar file words (λ r lr. h .same r (omega arith));
+  rest = λ k behind. h .rest k (omega (arith, h .few));
+}
 
 -- Before the first rule all words are 0.
 pub none-decoded : (file : List ℕ) → Decoding file (replicate (ruleWords * maxRules) 0) 0
-none-decoded file = record { few = omega arith; long = length-replicate {A = ℕ} (ruleWords * maxRules) 0; same = λ r l. absurd (omega arith) }
+none-decoded file = record {
+  few = omega arith;
+  long = length-replicate {A = ℕ} (ruleWords * maxRules) 0;
+  same = λ r l. absurd (omega arith);
+  rest = λ k behind. zeros-word (ruleWords * maxRules) k;
+}
+
+-- Words that hold the rules of one file are the same words.
+module _ (file a b : List ℕ) (ha : HoldsRules file a) (hb : HoldsRules file b) where
+  same-rule : (r : ℕ) → r < ruleCountOf file → rule (leftIn a r) (firstIn a r) (secondIn a r) ≡ rule (leftIn b r) (firstIn b r) (secondIn b r)
+  same-rule r l =
+      sym (in-rule a (symbolsOf file) (tokensOf file) (ruleCountOf file) r l)
+      ∙ ap (λ (g : Grammar). ruleAt g r) (ha .rules ∙ sym (hb .rules))
+      ∙ in-rule b (symbolsOf file) (tokensOf file) (ruleCountOf file) r l
+
+  same-front : (n : ℕ) → n ≤ ruleCountOf file → (i : ℕ) → i < ruleWords * n → getD a i 0 ≡ getD b i 0
+  same-front zero few i l = absurd (omega arith)
+  same-front (suc n) few i l =
+      elim (ℕ-discrete i (ruleWords * n)) [
+        | yes e ↦ subst (λ (k : ℕ). getD a k 0 ≡ getD b k 0) (sym e) (ap (λ (q : Rule). q .left) (same-rule n (omega arith)))
+        | no x ↦ elim (ℕ-discrete i (ruleWords * n + 1)) [
+          | yes e ↦ subst (λ (k : ℕ). getD a k 0 ≡ getD b k 0) (sym e) (ap (λ (q : Rule). q .first) (same-rule n (omega arith)))
+          | no y ↦ elim (ℕ-discrete i (ruleWords * n + 2)) [
+            | yes e ↦ subst (λ (k : ℕ). getD a k 0 ≡ getD b k 0) (sym e) (ap (λ (q : Rule). q .second) (same-rule n (omega arith)))
+            | no z ↦ same-front n (omega arith) i (omega arith)
+          ]
+        ]
+      ]
+
+  pub holds-agree : a ≡ b
+  holds-agree =
+      ext-getD 0 a b (ha .long ∙ sym (hb .long))
+      (λ i l. elim (decLt i (ruleWords * ruleCountOf file)) [
+        | yes inside ↦ same-front (ruleCountOf file) (omega arith) i inside
+        | no behind ↦ ha .rest i (omega arith) ∙ sym (hb .rest i (omega arith))
+      ])

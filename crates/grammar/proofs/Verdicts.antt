@@ -1,17 +1,18 @@
 -- The verdict on a file, case by case.
-use mathlib.Core.Path.{_≡_, refl, ap, subst, subst⁻¹, _∙_}
+use mathlib.Core.Path.{_≡_, refl, sym, ap, subst, subst⁻¹, _∙_}
 use mathlib.Core.List.{List}
 use Prim.Native.Nat.{ℕ, _+_, _*_, _≤_}
 use native.Mathlib.Omega.{arith}
+use native.Mathlib.Decide.{ℕ-discrete}
 use lib.ListN.{length}
 use Rattle.grammar.specs.Accepted.{Accepted, maxRules}
 use Rattle.grammar.specs.Decoded.{grammarIn}
 use Rattle.grammar.specs.File.{Malformed, grammarOf, symbolsOf, tokensOf, ruleCountOf, headerBytes, ruleBytes}
 use Rattle.grammar.specs.Checking.{Sized}
-use Rattle.grammar.specs.Answers.{Verdict, numberOf}
+use Rattle.grammar.specs.Answers.{Verdict, Decodes, numberOf}
 use Rattle.grammar.specs.declared.Checked.{Checked}
 use Rattle.grammar.specs.declared.Checked.the-variants as answer
-use Rattle.grammar.proofs.Decoding.{of-count}
+use Rattle.grammar.proofs.Decoding.{of-count, holds-agree}
 use Rattle.grammar.proofs.Judging.{Formed, formed, accepted-sized}
 
 module _ (file : List ℕ) where
@@ -96,6 +97,14 @@ verdict-unique file answer.Malformed answer.Accepted v w = absurd (omega (arith,
 verdict-unique file answer.Malformed answer.Broken v w = absurd (omega (arith, w .always-one (v .one refl)))
 verdict-unique file answer.Broken answer.Accepted v w = absurd (v .two refl (w .zero refl))
 verdict-unique file answer.Broken answer.Malformed v w = absurd (omega (arith, v .always-one (w .one refl)))
+
+-- and two lots of words that a check leaves.
+pub decodes-agree : (file : List ℕ) (number : ℕ) (before a b : List ℕ) → Decodes file number before a → Decodes file number before b → a ≡ b
+decodes-agree file number before a b da db =
+    elim (ℕ-discrete number 0) [
+      | yes zero ↦ holds-agree file a b (da .accepted zero) (db .accepted zero)
+      | no other ↦ da .refused other ∙ sym (db .refused other)
+    ]
 
 -- What a caller knows of a file that the check has accepted: enough to read its numbers and to decode its rules.
 pub record AcceptedFile (file : List ℕ) : Type 0 where

@@ -1,9 +1,11 @@
 -- Rules in words: three words a rule, left side, first and second.
 use mathlib.Core.Path.{_≡_}
 use mathlib.Core.List.{List, [], _∷_}
-use Prim.Native.Nat.{ℕ, zero, suc, _+_, _*_}
-use lib.ListN.{getD}
+use Prim.Native.Nat.{ℕ, zero, suc, _+_, _*_, _≤_}
+use lib.ListN.{length, getD}
 use Rattle.grammar.specs.Rules.{Rule, Grammar}
+use Rattle.grammar.specs.Accepted.{maxRules}
+use Rattle.grammar.specs.File.{symbolsOf, tokensOf, ruleCountOf, grammarOf}
 
 -- The words of a rule.
 abbrev pub ruleWords : ℕ
@@ -31,3 +33,9 @@ rulesIn words count = rulesBehind words 0 count
 -- The grammar with these numbers of symbols and tokens and the first `count` rules.
 abbrev pub grammarIn : List ℕ → ℕ → ℕ → ℕ → Grammar
 grammarIn words symbols tokens count = record { symbols = symbols; tokens = tokens; rules = rulesIn words count }
+
+-- Words hold the rules of a file, and 0 behind them.
+pub record HoldsRules (bytes words : List ℕ) : Type 0 where
+  pub long : length words ≡ ruleWords * maxRules
+  pub rules : grammarIn words (symbolsOf bytes) (tokensOf bytes) (ruleCountOf bytes) ≡ grammarOf bytes
+  pub rest : (i : ℕ) → ruleWords * ruleCountOf bytes ≤ i → getD words i 0 ≡ 0

@@ -53,7 +53,7 @@ fn accepted(rules: &Rules, n: usize, t: usize, count: usize) -> bool
 // The check of any bytes. The rules of an accepted file are left in `rules`, so that no call decodes its file again.
 pub fn read(file: &[u8], rules: &mut Rules) -> Checked
     ensures verdict { λ r. ⌜ Verdict (now (file .entry)) (numberOf r) ⌝ }
-    ensures decoded { λ r. ⌜ Decodes (now (file .entry)) (numberOf r) (now (rules .exit)) ⌝ }
+    ensures decoded { λ r. ⌜ Decodes (now (file .entry)) (numberOf r) (now (rules .entry)) (now (rules .exit)) ⌝ }
 {
     if malformed(file) {
         return Checked::Malformed;

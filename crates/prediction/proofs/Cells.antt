@@ -8,6 +8,7 @@ use native.Mathlib.Omega.{arith}
 use lib.ListN.{length, getD, set, replicate, length-set, length-replicate, getD-replicate, List·getD-eq-default}
 use lib.Seq.{getD-set-same, getD-set-other}
 use lib.Pow.{pow-pos}
+use Rattle.laws.proofs.Lists.{zeros-word}
 use Rattle.laws.specs.Bits.{wordBits, Holds, Row, adding}
 use Rattle.laws.proofs.Bits.{adding-new, adding-kept, adding-one, adding-row, zeros-hold}
 use Rattle.grammar.specs.Accepted.{maxSymbols}
@@ -70,15 +71,6 @@ module _ (width : ℕ) (table : List (List ℕ)) (x y : ℕ) (h : Shape width ta
   ]
 
 -- The empty table.
-zero-words : (n i : ℕ) → getD {A = ℕ} (replicate n 0) i 0 ≡ 0
-zero-words n i = elim (decLt i n) [
-  | yes l ↦ getD-replicate n i 0 0 l
-  | no g ↦ List·getD-eq-default (replicate n 0) 0 {n = i} (past g)
-]
-  where
-    past : (i < n → ⊥) → length {A = ℕ} (replicate n 0) ≤ i
-    past g = omega (arith, length-replicate {A = ℕ} n 0)
-
 module _ (width : ℕ) where
   abbrev empty : List (List ℕ)
   empty = replicate maxSymbols (replicate width 0)
@@ -91,13 +83,13 @@ module _ (width : ℕ) where
     rows = length-replicate {A = List ℕ} maxSymbols (replicate width 0);
     row = λ x l. subst (Row width) (sym (empty-row x l)) (record {
       width-is = length-replicate {A = ℕ} width 0;
-      fits = λ i. subst (λ (w : ℕ). w < 2 ^ wordBits) (sym (zero-words width i)) (pow-pos wordBits);
+      fits = λ i. subst (λ (w : ℕ). w < 2 ^ wordBits) (sym (zeros-word width i)) (pow-pos wordBits);
     });
   }
 
   empty-holds : (x y : ℕ) → Bit empty x y → ⊥
   empty-holds x y b = elim (decLt x maxSymbols) [
-    | yes l ↦ zeros-hold (replicate width 0) y (zero-words width) (subst (λ (r : List ℕ). Holds r y) (empty-row x l) b)
+    | yes l ↦ zeros-hold (replicate width 0) y (zeros-word width) (subst (λ (r : List ℕ). Holds r y) (empty-row x l) b)
     | no g ↦ zeros-hold [] y (λ i. refl) (subst (λ (r : List ℕ). Holds r y) (List·getD-eq-default empty [] {n = x} (past g)) b)
   ]
     where

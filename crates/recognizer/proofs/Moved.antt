@@ -16,7 +16,8 @@ use Rattle.parse.specs.Words.{Words, startOf}
 use Rattle.parse.proofs.Capacities.{SameSizes}
 use Rattle.advance.specs.Advance.{lastKept, keptRows, nextWords}
 use Rattle.advance.proofs.Placed.{noItem, item-eq}
-use Rattle.advance.proofs.Padded.{zeros-word, padded-length, padded-word, front-word}
+use Rattle.laws.proofs.Lists.{zeros-word}
+use Rattle.advance.proofs.Padded.{padded-length, padded-word, front-word}
 use Rattle.advance.proofs.Pruning.{kept-pruned, rows-pruned, rows-all}
 use Rattle.advance.proofs.Following.{ending-length, ending-at, ending-before, kept-low, kept-rows-length}
 

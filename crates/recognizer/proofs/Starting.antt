@@ -13,7 +13,8 @@ use Rattle.grammar.specs.Prediction.{Predicts, rowAt}
 use Rattle.parse.specs.Words.{Words}
 use Rattle.parse.specs.WellFormed.{WellFormed}
 use Rattle.parse.proofs.Capacities.{SameSizes}
-use Rattle.advance.proofs.Padded.{zeros-word, padded-length, padded-word}
+use Rattle.laws.proofs.Lists.{zeros-word}
+use Rattle.advance.proofs.Padded.{padded-length, padded-word}
 use Rattle.earley.proofs.Charts.{Fresh}
 use Rattle.recognizer.specs.Steps.{Outcome, started}
 use Rattle.recognizer.proofs.Chart.{chartOf}

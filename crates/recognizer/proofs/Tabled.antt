@@ -21,7 +21,8 @@ use Rattle.grammar.specs.Prediction.{Reaches, Predicts, rowAt}
 use Rattle.grammar.specs.Prediction.Reaches.{here, by-first}
 use Rattle.grammar.proofs.Facts.{wrapper-first}
 use Rattle.advance.specs.Advance.{padded}
-use Rattle.advance.proofs.Padded.{zeros-word, padded-word, padded-length}
+use Rattle.laws.proofs.Lists.{zeros-word}
+use Rattle.advance.proofs.Padded.{padded-word, padded-length}
 use Rattle.recognizer.proofs.Computed.{every, some, every-at, found, guarded, one-true, implies, implied}
 
 -- A row for each word, and rows of 0 for the symbols behind.

@@ -18,7 +18,7 @@ use Rattle.parse.specs.WellFormed.{secondOf}
 use Rattle.advance.specs.Advance.{predictions}
 use Rattle.advance.specs.Ready.{Shape}
 use Rattle.advance.proofs.Ordering.{Among}
-use Rattle.advance.proofs.Padded.{zeros-word}
+use Rattle.laws.proofs.Lists.{zeros-word}
 
 -- Rows of the same words hold the same symbols.
 pub holds-same : (a b : List ℕ) (s : ℕ) → ((i : ℕ) → getD a i 0 ≡ getD b i 0) → Holds b s → Holds a s

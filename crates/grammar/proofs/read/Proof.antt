@@ -3,7 +3,7 @@ use borrow.Author.Tests.{not-true, not-false}
 use Rattle.grammar.proofs.Judging.{formed}
 use Rattle.grammar.specs.Accepted.{Accepted}
 use Rattle.grammar.proofs.Verdicts.{verdict-one, verdict-two, verdict-zero, readable, not-sized, read-grammar}
-use mathlib.Core.Path.{subst, subst⁻¹}
+use mathlib.Core.Path.{refl, subst, subst⁻¹}
 use native.Mathlib.Omega.{arith}
 use borrow.Author.Needs.{needs}
 use Rattle.grammar.proofs.read.Statement.{statement}
@@ -13,7 +13,7 @@ malformed-requires : tie.Need-malformed-requires
 malformed-requires c κs = search needs
 
 returns : tie.Need-returns
-returns c = (verdict-one _ (c .before .malformed .ensures .if-yes (c .if1 .taken)), record { holds = λ zero. absurd (omega arith) })
+returns c = (verdict-one _ (c .before .malformed .ensures .if-yes (c .if1 .taken)), record { accepted = λ zero. absurd (omega arith); refused = λ other. refl })
 
 symbols-requires : tie.Need-symbols-requires
 symbols-requires c κs = formed _ (c .before .malformed .ensures .if-no (c .if1 .left)) .header
@@ -36,7 +36,7 @@ returns-2 c =
     let at-malformed = c .before .before .before .before .before .before in (
       verdict-two _ (at-malformed .malformed .ensures .if-no (at-if1 .if1 .left))
           (not-sized _ _ _ _ (record { symbols = at-symbols .symbols .ensures .0; tokens = at-tokens .tokens .ensures .0; rules = at-rule-count .rule-count .ensures .0 }) (c .before .sized .ensures .if-no (not-true _ (c .if2 .taken)))),
-      record { holds = λ zero. absurd (omega arith) },
+      record { accepted = λ zero. absurd (omega arith); refused = λ other. refl },
     )
 
 decode-requires : tie.Need-decode-requires
@@ -59,8 +59,8 @@ returns-3 c =
     let at-if1 = c .before .before .before .before .before .before .before .before .before in
     let at-malformed = c .before .before .before .before .before .before .before .before .before .before in (
       verdict-zero _ (at-malformed .malformed .ensures .if-no (at-if1 .if1 .left))
-          (subst Accepted (read-grammar _ _ _ _ _ (record { symbols = at-symbols .symbols .ensures .0; tokens = at-tokens .tokens .ensures .0; rules = at-rule-count .rule-count .ensures .0 }) (at-decode .decode .ensures)) (c .before .accepted .ensures .if-yes (c .if3 .taken))),
-      record { holds = λ zero. at-decode .decode .ensures },
+          (subst Accepted (read-grammar _ _ _ _ _ (record { symbols = at-symbols .symbols .ensures .0; tokens = at-tokens .tokens .ensures .0; rules = at-rule-count .rule-count .ensures .0 }) (at-decode .decode .ensures .rules)) (c .before .accepted .ensures .if-yes (c .if3 .taken))),
+      record { accepted = λ zero. at-decode .decode .ensures; refused = λ other. absurd (other refl) },
     )
 
 returns-4 : tie.Need-returns-4
@@ -72,8 +72,8 @@ returns-4 c =
     let at-if1 = c .before .before .before .before .before .before .before .before .before in
     let at-malformed = c .before .before .before .before .before .before .before .before .before .before in (
       verdict-two _ (at-malformed .malformed .ensures .if-no (at-if1 .if1 .left))
-          (λ h. c .before .accepted .ensures .if-no (c .if3 .left) (subst⁻¹ Accepted (read-grammar _ _ _ _ _ (record { symbols = at-symbols .symbols .ensures .0; tokens = at-tokens .tokens .ensures .0; rules = at-rule-count .rule-count .ensures .0 }) (at-decode .decode .ensures)) h)),
-      record { holds = λ zero. absurd (omega arith) },
+          (λ h. c .before .accepted .ensures .if-no (c .if3 .left) (subst⁻¹ Accepted (read-grammar _ _ _ _ _ (record { symbols = at-symbols .symbols .ensures .0; tokens = at-tokens .tokens .ensures .0; rules = at-rule-count .rule-count .ensures .0 }) (at-decode .decode .ensures .rules)) h)),
+      record { accepted = λ zero. absurd (omega arith); refused = λ other. refl },
     )
 
 pub read-spec : {M : Type 1} → statement M

@@ -39,7 +39,7 @@ table-requires c κs =
     let start = c .before .before .before .before .before .before .before .before in (
       omega (arith, accepted-file _ _ (at-check .check .ensures) (at-enum-told .enum-told .given .1) .few-rules, at-rule-count .rule-count .ensures),
       accepted-within _ _ _ _
-          (accepted-words (start .args .file .now) _ _ _ _ (accepted-file _ _ (at-check .check .ensures) (at-enum-told .enum-told .given .1)) (at-symbols .symbols .ensures .0) refl (at-rule-count .rule-count .ensures .0) (c .before .decode .ensures)),
+          (accepted-words (start .args .file .now) _ _ _ _ (accepted-file _ _ (at-check .check .ensures) (at-enum-told .enum-told .given .1)) (at-symbols .symbols .ensures .0) refl (at-rule-count .rule-count .ensures .0) (c .before .decode .ensures .rules)),
     )
 
 print-rows-requires : tie.Need-print-rows-requires

@@ -50,7 +50,7 @@ returns-3 c =
       symbols = c .before .before .symbols .ensures .0;
       tokens = c .before .tokens .ensures .0;
       rules = c .rule-count .ensures .0;
-      decoded = c .before .before .before .before .before .read .ensures .1 .holds (ap numberOf (c .before .before .before .enum-told3 .given .1));
+      decoded = c .before .before .before .before .before .read .ensures .1 .accepted (ap numberOf (c .before .before .before .enum-told3 .given .1)) .rules;
     }
 
 pub open-spec : {M : Type 1} → statement M
