@@ -1,15 +1,16 @@
 -- A run equals one call a token up to the first refusal. With `runs-agree` this leaves a run nothing else to answer.
 use mathlib.Core.Path.{_≡_, sym, ap, ap₂, _∙_, subst}
-use mathlib.Core.List.{List, [], _∷_}
-use Prim.Native.Nat.{ℕ, _≤_}
+use mathlib.Core.List.{List, [], _∷_, _++_}
+use Prim.Native.Nat.{ℕ, _+_, _≤_}
+use native.Mathlib.Decide.{ℕ-discrete}
 use native.Mathlib.Omega.{arith}
 use Rattle.grammar.specs.Rules.{Grammar}
 use Rattle.parse.specs.declared.State.{State}
 use Rattle.parse.specs.Words.{Words, setRoom, within, beyond, behind}
 use Rattle.parse.proofs.Capacities.{SameSizes, sets-room, split-whole, within-new, beyond-new}
 use Rattle.recognizer.specs.Steps.{Outcome, Ended, oneMore, stepped, ran}
-use Rattle.recognizer.specs.Calls.{Ready, FileFault, CallFault, asItWas, inPlaceEnded, Takes, Runs}
-use Rattle.recognizer.proofs.Agree.{sound-same, not-ready}
+use Rattle.recognizer.specs.Calls.{Ready, FileFault, CallFault, asItWas, inPlace, inPlaceEnded, Takes, Runs}
+use Rattle.recognizer.proofs.Agree.{sound-same, not-ready, runs-agree}
 use Rattle.recognizer.proofs.Cut.{within-cut}
 use Rattle.recognizer.proofs.Refusing.{step-sizes}
 use Rattle.recognizer.proofs.Running.{ran-on, ran-off}
@@ -69,3 +70,58 @@ module _ {file : List ℕ} {s : State} {w : Words} where
   run-goes-on (Takes.refused f) zero runs = absurd (call-some f zero)
   run-goes-on {t} (Takes.done ready) zero (Runs.refused f) = absurd (not-ready (stepped-ready s w t ready) f)
   run-goes-on {t} {ts} (Takes.done ready) zero (Runs.done ready′) = subst (Runs file s w (t ∷ ts)) (goes-on ready t ts zero ready′) (Runs.done ready)
+
+-- What a run came to, with so many tokens taken before it.
+abbrev pub further : ℕ → Ended → Ended
+further before e = record { outcome = e .outcome; taken = before + e .taken }
+
+module _ (file us : List ℕ) (e′ : Ended) where
+  -- The run `us` behind what a run came to.
+  abbrev Behind : Ended → Type 0
+  Behind e = Runs file (e .outcome .state) (e .outcome .words) us e′
+
+  counted : {s : State} {w : Words} (ts : List ℕ) (n k : ℕ) → n ≡ k → Runs file s w ts (record { outcome = e′ .outcome; taken = n })
+      → Runs file s w ts (record { outcome = e′ .outcome; taken = k })
+  counted {s} {w} ts n k same runs = subst (λ (m : ℕ). Runs file s w ts (record { outcome = e′ .outcome; taken = m })) same runs
+
+  join-none : {s : State} {w : Words} {g : Grammar} {table : List (List ℕ)} {e : Ended} → Ready file s w g table → Runs file s w [] e → Behind e
+      → Runs file s w us (further (e .taken) e′)
+  join-none {e = e} ready runs next =
+      let same = runs-agree runs (run-none ready) in
+      let none : e .taken ≡ 0 = ap (λ (d : Ended). d .taken) same in
+      counted us (e′ .taken) (e .taken + e′ .taken) (omega (arith, none)) (subst Behind same next)
+
+  module _ {s : State} {w : Words} {g : Grammar} {table : List (List ℕ)} (ready : Ready file s w g table) (t : ℕ) (ts : List ℕ) where
+    abbrev first : Outcome
+    first = inPlace w (stepped g table s (within w) t)
+
+    abbrev others : Ended
+    others = inPlaceEnded (first .words) (ran g table (first .state) (within (first .words)) ts)
+
+    join-more : {e : Ended} → Runs file s w (t ∷ ts) e → e .outcome .number ≡ 0 → Behind e
+        → (others .outcome .number ≡ 0 → Behind others → Runs file (first .state) (first .words) (ts ++ us) (further (others .taken) e′))
+        → Runs file s w (t ∷ (ts ++ us)) (further (e .taken) e′)
+    join-more {e} runs zero next more =
+        elim (ℕ-discrete (first .number) 0) [
+          | yes on ↦
+              let same = runs-agree runs (run-goes-on (Takes.done ready) on (Runs.done (stepped-ready s w t ready))) in
+              let taken : e .taken ≡ others .taken + 1 = ap (λ (d : Ended). d .taken) same in
+              counted (t ∷ (ts ++ us)) (others .taken + e′ .taken + 1) (e .taken + e′ .taken) (omega (arith, taken))
+              (run-goes-on (Takes.done ready) on (more (sym (ap (λ (d : Ended). d .outcome .number) same) ∙ zero) (subst Behind same next)))
+          | no off ↦
+              let same = runs-agree runs (run-ends (Takes.done ready) off) in
+              absurd (off (sym (ap (λ (d : Ended). d .outcome .number) same) ∙ zero))
+        ]
+
+  join : (ts : List ℕ) {s : State} {w : Words} {g : Grammar} {table : List (List ℕ)} (ready : Ready file s w g table) {e : Ended}
+      → Runs file s w ts e → e .outcome .number ≡ 0 → Behind e → Runs file s w (ts ++ us) (further (e .taken) e′)
+  join [] ready runs zero next = join-none ready runs next
+  join (t ∷ ts) {s} {w} ready runs zero next =
+      let ready′ = stepped-ready s w t ready in
+      join-more ready t ts runs zero next (join ts ready′ (Runs.done ready′))
+
+  -- A RUN THAT TOOK ALL ITS TOKENS AND ONE BEHIND IT ARE ONE RUN over the tokens of both.
+  pub runs-join : {s : State} {w : Words} (ts : List ℕ) {e : Ended} → Runs file s w ts e → e .outcome .number ≡ 0 → Behind e
+      → Runs file s w (ts ++ us) (further (e .taken) e′)
+  runs-join ts (Runs.refused f) zero next = absurd (call-some f zero)
+  runs-join ts (Runs.done ready) zero next = join ts ready (Runs.done ready) zero next
