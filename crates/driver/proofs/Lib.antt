@@ -1,6 +1,8 @@
--- Laws on headers, on texts, and on runs of parts.
+-- Laws on headers, on texts, on runs of parts, and on what is written.
 pub mod Headers
 pub mod Texts
 pub mod Widening
 pub mod Running
 pub mod Reading
+pub mod Writing
+pub mod Sentences

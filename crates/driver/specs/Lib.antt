@@ -2,3 +2,4 @@
 pub mod Header
 pub mod Text
 pub mod Parts
+pub mod Writes

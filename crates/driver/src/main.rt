@@ -5,9 +5,13 @@ mod tokens;
 
 ghost use mathlib.Core.Path.{_≡_};
 ghost use Prim.Native.Nat.{_≤_};
-ghost use lib.ListN.{length as lengthOf};
+ghost use lib.ListN.{length as lengthOf, take};
+ghost use Rattle.io.specs.Counts.{Counts};
 ghost use Rattle.recognizer.specs.Answers.{numberOf, stateOf};
+ghost use Rattle.recognizer.specs.Steppable.{wordsOf};
 ghost use Rattle.driver.specs.Header.{longestFile, Within};
+ghost use Rattle.driver.specs.Text.{textRoom};
+ghost use Rattle.driver.specs.Writes.{SaysFinished, Followed, Recognized, Answered, Written};
 ghost use Rattle.grammar.specs.File.{headerBytes};
 use grammar::file::HEADER;
 use grammar::file::RULE;
@@ -88,13 +92,6 @@ fn read_grammar(file: &mut [u8]) -> Header
     read_rest(file, length)
 }
 
-// The line on a refused grammar.
-fn refuse(number: usize) {
-    let mut out = [0u8; ROOM];
-    let count = text::refusal(&mut out, number);
-    io::write_all(STDOUT_FILENO, &out[..count]);
-}
-
 // Whether a parse is finished. A refused report says no.
 fn is_finished(
     file: &[u8],
@@ -103,7 +100,9 @@ fn is_finished(
     starts: &[u32],
     rows: &[u64],
     queue: &[u32],
-) -> bool {
+) -> bool
+    ensures { λ r. ⌜ SaysFinished (now (file .entry)) state (wordsOf (now (items .entry)) (now (starts .entry)) (now (rows .entry)) (now (queue .entry))) r ⌝ }
+{
     match recognizer::finished(file, state, items, starts, rows, queue) {
         Whether::Yes => true,
         Whether::No => false,
@@ -111,15 +110,7 @@ fn is_finished(
     }
 }
 
-// The lines on what a run came to.
-fn tell(answer: Answer, taken: usize, yes: bool) {
-    let mut out = [0u8; ROOM];
-    let state = state_of(answer);
-    let count = text::report(&mut out, taken, number_of(answer), yes, state.set);
-    io::write_all(STDOUT_FILENO, &out[..count]);
-}
-
-// Reads the tokens of a parse and tells what came of them.
+// Reads the tokens of a parse and writes the lines on what came of them; answers how long they are.
 fn follow(
     file: &[u8],
     state: State,
@@ -127,42 +118,68 @@ fn follow(
     starts: &mut [u32],
     rows: &mut [u64],
     queue: &mut [u32],
-) {
+    out: &mut [u8],
+) -> usize
+    requires { ⌜ textRoom ≤ lengthOf (now out) ⌝ }
+    ensures place { λ r. ⌜ Counts r (now (out .exit)) ⌝ }
+    ensures text { λ r. ⌜ Followed (now (file .entry)) state (wordsOf (now (items .entry)) (now (starts .entry)) (now (rows .entry)) (now (queue .entry))) (take r (now (out .exit))) ⌝ }
+{
     let ran = read_tokens(file, state, items, starts, rows, queue);
     let answer = ran.answer;
-    let yes = is_finished(file, state_of(answer), items, starts, rows, queue);
-    tell(answer, ran.taken, yes);
+    let end = state_of(answer);
+    let yes = is_finished(file, end, items, starts, rows, queue);
+    text::report(out, ran.taken, number_of(answer), yes, end.set)
 }
 
-// Starts a parse and follows it.
+// Starts a parse and follows it; answers how long the lines are.
 fn recognize(
     file: &[u8],
     items: &mut [u32],
     starts: &mut [u32],
     rows: &mut [u64],
     queue: &mut [u32],
-) {
+    out: &mut [u8],
+) -> usize
+    requires { ⌜ textRoom ≤ lengthOf (now out) ⌝ }
+    ensures place { λ r. ⌜ Counts r (now (out .exit)) ⌝ }
+    ensures text { λ r. ⌜ Recognized (now (file .entry)) (wordsOf (now (items .entry)) (now (starts .entry)) (now (rows .entry)) (now (queue .entry))) (take r (now (out .exit))) ⌝ }
+{
     let fresh = State { set: 0, items: 0 };
     match recognizer::start(file, fresh, items, starts, rows, queue) {
-        Answer::Done(state) => follow(file, state, items, starts, rows, queue),
-        Answer::Refused(why, _) => refuse(wide(refusal_number(why))),
+        Answer::Done(state) => follow(file, state, items, starts, rows, queue, out),
+        Answer::Refused(why, _) => text::refusal(out, wide(refusal_number(why))),
     }
 }
 
 // The same with every capacity at its largest.
-fn recognize_whole(file: &[u8]) {
+fn recognize_whole(file: &[u8], out: &mut [u8]) -> usize
+    requires { ⌜ textRoom ≤ lengthOf (now out) ⌝ }
+    ensures place { λ r. ⌜ Counts r (now (out .exit)) ⌝ }
+    ensures text { λ r. ⌜ Answered (now (file .entry)) (take r (now (out .exit))) ⌝ }
+{
     let mut items = [0u32; ITEMS];
     let mut starts = [0u32; STARTS];
     let mut rows = [0u64; ROWS];
     let mut queue = [0u32; QUEUE];
-    recognize(file, &mut items, &mut starts, &mut rows, &mut queue);
+    recognize(file, &mut items, &mut starts, &mut rows, &mut queue, out)
+}
+
+// Reads a grammar and the tokens behind it, and writes what came of them; answers how long that is.
+fn answer(out: &mut [u8]) -> usize
+    requires { ⌜ textRoom ≤ lengthOf (now out) ⌝ }
+    ensures place { λ r. ⌜ Counts r (now (out .exit)) ⌝ }
+    ensures text { λ r. ⌜ Written (take r (now (out .exit))) ⌝ }
+{
+    let mut file = [0u8; LONGEST];
+    match read_grammar(&mut file) {
+        Header::Malformed => text::refusal(out, 1),
+        Header::Broken => text::refusal(out, 2),
+        Header::Length(length) => recognize_whole(&file[..length], out),
+    }
 }
 
 fn main() {
-    let mut file = [0u8; LONGEST];
-    match read_grammar(&mut file) {
-        Header::Malformed => refuse(1),
-        Header::Broken => refuse(2),
-        Header::Length(length) => recognize_whole(&file[..length]),
-    }
+    let mut out = [0u8; ROOM];
+    let count = answer(&mut out);
+    io::write_all(STDOUT_FILENO, &out[..count]);
 }

@@ -3,6 +3,7 @@ ghost use mathlib.Core.Path.{_≡_};
 ghost use Prim.Native.Nat.{_≤_};
 ghost use lib.ListN.{length, take};
 ghost use Rattle.driver.specs.Parts.{partTokens};
+ghost use Rattle.driver.specs.Writes.{RunsOver};
 ghost use Rattle.recognizer.specs.Calls.{Runs};
 ghost use Rattle.recognizer.specs.Answers.{endedOf};
 ghost use Rattle.recognizer.specs.Steppable.{wordsOf};
@@ -59,7 +60,8 @@ fn read_part(
     rows: &mut [u64],
     queue: &mut [u32],
 ) -> Ran
-    ensures { λ r. ⌜ r .taken ≤ partTokens ⌝ }
+    ensures read { λ r. ⌜ RunsOver (now (file .entry)) state (wordsOf (now (items .entry)) (now (starts .entry)) (now (rows .entry)) (now (queue .entry))) (endedOf r (wordsOf (now (items .exit)) (now (starts .exit)) (now (rows .exit)) (now (queue .exit)))) ⌝ }
+    ensures few { λ r. ⌜ r .taken ≤ partTokens ⌝ }
 {
     let mut part = io::buffer();
     let count = io::read_full(STDIN_FILENO, &mut part);
@@ -75,7 +77,9 @@ pub fn read_tokens(
     starts: &mut [u32],
     rows: &mut [u64],
     queue: &mut [u32],
-) -> Ran {
+) -> Ran
+    ensures { λ r. ⌜ RunsOver (now (file .entry)) state (wordsOf (now (items .entry)) (now (starts .entry)) (now (rows .entry)) (now (queue .entry))) (endedOf r (wordsOf (now (items .exit)) (now (starts .exit)) (now (rows .exit)) (now (queue .exit)))) ⌝ }
+{
     let mut now = state;
     let mut taken = 0;
     let mut parts = usize::MAX / PART;

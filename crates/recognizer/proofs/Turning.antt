@@ -26,7 +26,7 @@ use Rattle.recognizer.proofs.Refusing.{step-sizes, step-well}
 use Rattle.recognizer.proofs.Running.{ran-on, ran-off}
 
 -- A refusal's number is not 0.
-number-some : (why : Refusal) → refusalNumber why ≡ 0 → ⊥
+pub number-some : (why : Refusal) → refusalNumber why ≡ 0 → ⊥
 number-some Malformed e = omega arith
 number-some Broken e = omega arith
 number-some NoSets e = omega arith

@@ -2,26 +2,26 @@
 use mathlib.Core.Path.{_∙_}
 use native.Mathlib.Omega.{arith}
 use borrow.Author.Needs.{needs}
-use Rattle.driver.proofs.Reading.{Reading, reading-start, reading-next}
+use Rattle.driver.proofs.Reading.{Reading, reading-start, reading-next, ended-by, all-read}
 use Rattle.driver.proofs.tokens.read_tokens.Statement.{statement}
 use Rattle.driver.proofs.tokens.read_tokens.Tie as tie
 
 abbrev Inv-loop : tie.InvT-loop
 Inv-loop file items₀ starts₀ rows₀ queue₀ now₀ taken₀ parts₀ items starts rows queue now taken parts =
-    Reading items₀ starts₀ rows₀ queue₀ items starts rows queue taken parts
+    Reading file now₀ items₀ starts₀ rows₀ queue₀ now items starts rows queue taken parts
 
 abbrev μ-loop : tie.MeasureT-loop
 μ-loop file items₀ starts₀ rows₀ queue₀ now₀ taken₀ parts₀ items starts rows queue now taken parts =
     parts
 
 loop-holds : tie.Need-loop-holds Inv-loop μ-loop
-loop-holds c = reading-start _ _ _ _
+loop-holds c = reading-start _ _ _ _ _ _
 
 read-part-requires : tie.Need-read-part-requires Inv-loop μ-loop
 read-part-requires c κs = search needs
 
 add-taken : tie.Need-add-taken Inv-loop μ-loop
-add-taken c = omega (arith, c .before .before .before .before .before .before .before .before .before .before .before .before .before .before .loop .inv .few, c .before .before .before .before .before .before .before .before .read-part .ensures, c .before .before .before .before .before .before .before .before .before .before .before .before .before .loop-test .taken)
+add-taken c = omega (arith, c .before .before .before .before .before .before .before .before .before .before .before .before .before .before .loop .inv .few, c .before .before .before .before .before .before .before .before .read-part .ensures .1, c .before .before .before .before .before .before .before .before .before .before .before .before .before .loop-test .taken)
 
 enum-known-answer : tie.Need-enum-known-answer Inv-loop μ-loop
 enum-known-answer c = search needs
@@ -42,15 +42,16 @@ same-length-4 : tie.Need-same-length-4 Inv-loop μ-loop
 same-length-4 c = c .before .before .before .before .before .before .before .before .before .before .before .read-part .kept .1 .1 .1 .1 .1 .0 ∙ c .before .before .before .before .before .before .before .before .before .before .before .before .before .before .before .before .before .loop .inv .queue-long
 
 returns : tie.Need-returns Inv-loop μ-loop
-returns c = search needs
+returns c = ended-by (c .before .before .before .before .before .before .before .before .before .before .before .read-part .result) _ (c .before .before .before .before .before .before .before .before .before .before .before .before .before .before .before .before .before .loop .inv .so-far) (c .before .before .before .before .before .before .before .before .before .before .before .read-part .ensures .0) (c .before .answer2 .given .1)
 
 loop-less : tie.Need-loop-less Inv-loop μ-loop
 loop-less c = search needs
 
 loop-again : tie.Need-loop-again Inv-loop μ-loop
 loop-again c =
-    reading-next _ _ _ _ _ _ _ _ _ _ _ _ _ _ _ _ (c .before .before .before .before .before .before .before .before .before .before .before .before .before .before .before .before .before .before .loop .inv) (c .before .before .before .before .before .before .before .before .before .before .before .before .read-part .ensures) (omega (arith, c .before .before .before .before .before .before .before .before .before .before .before .before .before .before .before .before .before .loop-test .taken))
-    (c .before .before .before .before .before .before .before .before .before .before .before .before .read-part .kept .1 .1 .0) (c .before .before .before .before .before .before .before .before .before .before .before .before .read-part .kept .1 .1 .1 .0) (c .before .before .before .before .before .before .before .before .before .before .before .before .read-part .kept .1 .1 .1 .1 .0) (c .before .before .before .before .before .before .before .before .before .before .before .before .read-part .kept .1 .1 .1 .1 .1 .0)
+    let part = c .before .before .before .before .before .before .before .before .before .before .before .before .read-part in
+    reading-next _ _ _ _ (part .result) _ _ (c .before .before .before .before .before .before .before .before .before .before .before .before .before .before .before .before .before .before .loop .inv) (part .ensures .0) (c .before .before .answer .given .1) (part .ensures .1) (omega (arith, c .before .before .before .before .before .before .before .before .before .before .before .before .before .before .before .before .before .loop-test .taken))
+    (part .kept .1 .1 .0) (part .kept .1 .1 .1 .0) (part .kept .1 .1 .1 .1 .0) (part .kept .1 .1 .1 .1 .1 .0)
 
 sub-parts : tie.Need-sub-parts Inv-loop μ-loop
 sub-parts c = search needs
@@ -60,8 +61,9 @@ loop-less-2 c = search needs
 
 loop-again-2 : tie.Need-loop-again-2 Inv-loop μ-loop
 loop-again-2 c =
-    reading-next _ _ _ _ _ _ _ _ _ _ _ _ _ _ _ _ (c .before .before .before .before .before .before .before .before .before .before .before .before .before .before .before .before .before .before .loop .inv) (c .before .before .before .before .before .before .before .before .before .before .before .before .read-part .ensures) (omega (arith, c .before .before .before .before .before .before .before .before .before .before .before .before .before .before .before .before .before .loop-test .taken))
-    (c .before .before .before .before .before .before .before .before .before .before .before .before .read-part .kept .1 .1 .0) (c .before .before .before .before .before .before .before .before .before .before .before .before .read-part .kept .1 .1 .1 .0) (c .before .before .before .before .before .before .before .before .before .before .before .before .read-part .kept .1 .1 .1 .1 .0) (c .before .before .before .before .before .before .before .before .before .before .before .before .read-part .kept .1 .1 .1 .1 .1 .0)
+    let part = c .before .before .before .before .before .before .before .before .before .before .before .before .read-part in
+    reading-next _ _ _ _ (part .result) _ _ (c .before .before .before .before .before .before .before .before .before .before .before .before .before .before .before .before .before .before .loop .inv) (part .ensures .0) (c .before .before .answer .given .1) (part .ensures .1) (omega (arith, c .before .before .before .before .before .before .before .before .before .before .before .before .before .before .before .before .before .loop-test .taken))
+    (part .kept .1 .1 .0) (part .kept .1 .1 .1 .0) (part .kept .1 .1 .1 .1 .0) (part .kept .1 .1 .1 .1 .1 .0)
 
 same-length-5 : tie.Need-same-length-5 Inv-loop μ-loop
 same-length-5 c = c .before .loop .inv .items-long
@@ -76,7 +78,7 @@ same-length-8 : tie.Need-same-length-8 Inv-loop μ-loop
 same-length-8 c = c .before .loop .inv .queue-long
 
 returns-2 : tie.Need-returns-2 Inv-loop μ-loop
-returns-2 c = search needs
+returns-2 c = all-read (c .before .loop .inv .so-far) (c .loop-test .left)
 
 pub read-tokens-spec : {M : Type 1} → statement M
 read-tokens-spec =

@@ -1,0 +1,47 @@
+-- What the driver writes of a grammar that it has read. What it reads behind that is whatever the system gave it: some list of tokens.
+use mathlib.Core.Path.{_≡_}
+use mathlib.Core.Bool.{Bool}
+use mathlib.Core.List.{List, []}
+use Prim.Native.Nat.{ℕ}
+use Rattle.parse.specs.declared.State.{State}
+use Rattle.parse.specs.Words.{Words, maxItems, maxSets, maxQueued, itemRoom, setRoom, queueRoom}
+use Rattle.recognizer.specs.Steps.{Outcome, Ended}
+use Rattle.recognizer.specs.Calls.{Starts, Runs, Finishes}
+use Rattle.driver.specs.Text.{grammarHead, Line, Report}
+
+-- A run over the tokens that were read.
+pub record RunsOver (file : List ℕ) (s : State) (w : Words) (e : Ended) : Type 0 where
+  pub tokens : List ℕ
+  pub runs : Runs file s w tokens e
+
+-- Whether a parse is finished, whatever the report's number.
+pub record SaysFinished (file : List ℕ) (s : State) (w : Words) (yes : Bool) : Type 0 where
+  pub number : ℕ
+  pub finishes : Finishes file s w number yes
+
+-- The four lines on a parse: tokens taken, the first refusal's number or 0, whether it is finished, the set.
+pub record Followed (file : List ℕ) (s : State) (w : Words) (text : List ℕ) : Type 0 where
+  pub ended : Ended
+  pub read : RunsOver file s w ended
+  pub yes : Bool
+  pub says : SaysFinished file (ended .outcome .state) (ended .outcome .words) yes
+  pub lines : Report (ended .taken) (ended .outcome .number) yes (ended .outcome .state .set) text
+
+-- The line on a grammar that a start refuses, or the lines on the parse that it began.
+pub data Recognized (file : List ℕ) (w : Words) (text : List ℕ) : Type 0 where
+  refused : {s : State} {o : Outcome} → Starts file s w o → (o .number ≡ 0 → ⊥) → Line [] grammarHead (o .number) text → Recognized file w text
+  followed : {s : State} {o : Outcome} → Starts file s w o → o .number ≡ 0 → Followed file (o .state) (o .words) text → Recognized file w text
+
+-- The same with every capacity at its largest.
+pub record Answered (file text : List ℕ) : Type 0 where
+  pub words : Words
+  pub most-items : itemRoom words ≡ maxItems
+  pub most-sets : setRoom words ≡ maxSets
+  pub most-queued : queueRoom words ≡ maxQueued
+  pub recognized : Recognized file words text
+
+-- All that is ever written: the line on a header that is refused, or what is answered for the grammar that was read.
+pub data Written (text : List ℕ) : Type 0 where
+  malformed : Line [] grammarHead 1 text → Written text
+  broken : Line [] grammarHead 2 text → Written text
+  answered : {file : List ℕ} → Answered file text → Written text
