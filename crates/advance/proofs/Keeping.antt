@@ -1,14 +1,13 @@
 -- A well formed state is well formed after steps 5 and 6.
-use mathlib.Core.Path.{_≡_, sym, ap, ap₂, _∙_, subst}
-use mathlib.Core.List.{List, [], _∷_, _++_}
+use mathlib.Core.Path.{_≡_, sym, ap, _∙_, subst}
+use mathlib.Core.List.{List, [], _∷_}
 use Prim.Native.Nat.{ℕ, suc, _+_, _-_, _*_, _/_, _%_, _≤_, _<_, max}
 use native.Mathlib.Decide.{decLt}
 use native.Mathlib.Omega.{arith}
-use lib.ListN.{length, getD, take, drop, replicate, length-append, length-take, List·getD-append, List·getD-eq-default}
-use lib.Seq.{length-take-le, getD-take, getD-append-add, getD-at}
+use lib.ListN.{length, getD}
 use Rattle.laws.specs.Bits.{wordBits, bit, Below, rowOf}
 use Rattle.laws.proofs.Bits.{zeros-hold}
-use Rattle.laws.proofs.Rows.{row-word}
+use Rattle.laws.proofs.Lists.{zeros-word}
 use Rattle.bits.specs.Width.{rowWords}
 use Rattle.item.specs.Item.{Item, itemWords, itemAt}
 use Rattle.grammar.specs.Rules.{Rule, none}
@@ -16,14 +15,13 @@ use Rattle.parse.specs.declared.State.{State}
 use Rattle.parse.specs.Words.{Words, startOf}
 use Rattle.parse.specs.WellFormed.{secondOf, placing, Fits, InSet, WellFormed}
 use Rattle.advance.specs.Order.{All}
-use Rattle.advance.specs.Advance.{highest, greatestOrigin, lastKept, keptRows, nextState, nextWords, withoutNew}
+use Rattle.advance.specs.Advance.{highest, greatestOrigin, lastKept, nextState, nextWords, withoutNew}
 use Rattle.advance.proofs.Placed.{noItem, item-eq}
 use Rattle.advance.proofs.Ordering.{Rises, all-at, all-map, rises-at}
-use Rattle.laws.proofs.Lists.{zeros-word}
-use Rattle.advance.proofs.Padded.{padded-length, padded-word, front-word}
-use Rattle.advance.proofs.Pruning.{kept-pruned, kept-all, rows-pruned, rows-all, last-greatest}
-use Rattle.advance.proofs.Following.{ending-length, ending-at, ending-before, ending-behind, kept-low, kept-rows-length}
+use Rattle.advance.proofs.Pruning.{kept-pruned, kept-all, last-greatest}
+use Rattle.advance.proofs.Following.{ending-before, ending-behind, kept-low}
 use Rattle.advance.proofs.Advancing.{greatest-below}
+use Rattle.advance.proofs.Moved.{Movable, start-kept, start-last, start-spare, item-kept, item-new, row-kept, row-latest, row-cleared, row-new, row-spare, moved-sizes}
 
 -- Rows of the same words hold the same symbols.
 below-same : (n : ℕ) (a b : List ℕ) → ((i : ℕ) → getD a i 0 ≡ getD b i 0) → Below n b → Below n a
@@ -35,14 +33,6 @@ below-same n a b h l = record {
 pub below-zeros : (n : ℕ) (a : List ℕ) → ((i : ℕ) → getD a i 0 ≡ 0) → Below n a
 below-zeros n a h = record { none-above = λ s m held. zeros-hold a s h held }
 
--- A word of a row stands behind the rows before it, and past the row there is none.
-row-words : (w : ℕ) (words : List ℕ) (k : ℕ) (row : List ℕ) → length row ≤ w → ((i : ℕ) → i < w → getD words (w * k + i) 0 ≡ getD row i 0)
-    → (i : ℕ) → getD (rowOf w words k) i 0 ≡ getD row i 0
-row-words w words k row l h i = elim (decLt i w) [
-  | yes m ↦ row-word w words k i m ∙ h i m
-  | no m ↦ front-word w _ i (omega arith) ∙ sym (List·getD-eq-default row 0 {n = i} (omega arith))
-]
-
 -- No origin is above the greatest.
 highest-above : (is : List Item) → All (λ (i : Item). i .origin ≤ highest is) is
 unfolding highest
@@ -51,7 +41,7 @@ highest-above (i ∷ is) =
     let first : i .origin ≤ max (i .origin) (highest is) = omega arith in
     All.also first (all-map (λ (j : Item) (l : j .origin ≤ highest is). let m : j .origin ≤ max (i .origin) (highest is) = omega arith in m) (highest-above is))
 
-greatest-above : (e : ℕ) (is : List Item) → All (λ (i : Item). i .origin ≤ greatestOrigin e is) is
+pub greatest-above : (e : ℕ) (is : List Item) → All (λ (i : Item). i .origin ≤ greatestOrigin e is) is
 unfolding greatestOrigin
 greatest-above e [] = All.empty
 greatest-above e (i ∷ is) = highest-above (i ∷ is)
@@ -95,118 +85,70 @@ module _ (n : ℕ) (rs : List Rule) (s : State) (v : Words) (new : List Item) (r
   m-low : m ≤ e
   m-low = greatest-below e (all-map (λ (i : Item) (f : Newcomer rs e i). f .origin-low) (h .new-fit))
 
-  kept-below : kept ≤ e
-  kept-below = kept-low e m m-low
-
   m-below : m ≤ kept
   m-below = elim (decLt 1 (e - m)) [ yes a ↦ omega (arith, kept-pruned e m a) | no a ↦ omega (arith, kept-all e m (omega arith), m-low) ]
 
-  sets-fit : e < length (v .rows) / rowWords
-  sets-fit = h .sets .set-fits
-
   base-low : base ≤ s .items
-  base-low = omega (arith, last-greatest (v .starts) e (h .sets .never-falls) (kept + 1) (omega (arith, kept-below)), h .sets .last-start)
+  base-low = omega (arith, last-greatest (v .starts) e (h .sets .never-falls) (kept + 1) (omega (arith, kept-low e m m-low)), h .sets .last-start)
 
   room : itemWords * (base + length new) ≤ length (v .items)
   room = omega (arith, base-low, h .items-fit)
 
-  -- The starts: those of the sets that are kept, then the end of the new items, then 0.
-  starts-front : length (take (kept + 2) (v .starts)) ≡ kept + 2
-  starts-front = length-take-le (kept + 2) (v .starts) (omega (arith, h .starts-fit, h .set-fits))
+  movable : Movable s v m new row
+  movable = record {
+    starts-fit = h .starts-fit;
+    latest-fits = h .sets .set-fits;
+    set-fits = h .set-fits;
+    reaches = m-low;
+    items-fit = room;
+    row-wide = h .row-wide;
+  }
 
-  start-kept : (k : ℕ) → k ≤ kept + 1 → startOf u k ≡ startOf v k
-  start-kept k l =
-      padded-word (length (v .starts)) (take (kept + 2) (v .starts) ++ (t .items ∷ [])) k
-      ∙ List·getD-append (take (kept + 2) (v .starts)) (t .items ∷ []) 0 k (omega (arith, starts-front))
-      ∙ getD-take (kept + 2) (v .starts) k 0 (omega arith)
-
-  start-last : (k : ℕ) → k ≡ kept + 2 → startOf u k ≡ t .items
-  start-last k l =
-      padded-word (length (v .starts)) (take (kept + 2) (v .starts) ++ (t .items ∷ [])) k
-      ∙ getD-at (take (kept + 2) (v .starts)) (t .items) [] 0 k (omega (arith, starts-front))
-
-  -- The items: those of the sets that are kept, then the new ones, then 0.
-  item-kept : (p : ℕ) → p < base → itemAt (u .items) p ≡ itemAt (withoutNew s v .items) p
-  item-kept p l =
-      item-eq (u .items) (withoutNew s v .items) p p (word (itemWords * p) (omega arith)) (word (itemWords * p + 1) (omega arith))
+  -- An item of a kept set is the one that stood there.
+  item-before : (p : ℕ) → p < base → itemAt (u .items) p ≡ itemAt (withoutNew s v .items) p
+  item-before p l =
+      item-kept movable p l
+      ∙ sym (item-eq (withoutNew s v .items) (v .items) p p (word (itemWords * p) (omega arith)) (word (itemWords * p + 1) (omega arith)))
     where
-      word : (i : ℕ) → i < itemWords * base → getD (u .items) i 0 ≡ getD (withoutNew s v .items) i 0
-      word i b =
-          ending-before (v .items) base new room i b
-          ∙ sym (ending-before (v .items) (s .items) [] (omega (arith, h .items-fit)) i (omega (arith, base-low)))
+      word : (i : ℕ) → i < itemWords * base → getD (withoutNew s v .items) i 0 ≡ getD (v .items) i 0
+      word i b = ending-before (v .items) (s .items) [] (omega (arith, h .items-fit)) i (omega (arith, base-low))
 
-  -- The rows: those of the sets that are kept, one of them cleared, then the new one, then 0.
-  rows-front : length (keptRows e m (v .rows)) ≡ rowWords * (kept + 1)
-  rows-front = kept-rows-length e m (v .rows) m-low (omega (arith, sets-fit))
-
-  row-at : (i : ℕ) → getD (u .rows) i 0 ≡ getD (keptRows e m (v .rows) ++ row) i 0
-  row-at i = padded-word (length (v .rows)) (keptRows e m (v .rows) ++ row) i
-
-  rows-used : length (keptRows e m (v .rows) ++ row) ≡ rowWords * (kept + 2)
-  rows-used = omega (arith, length-append (keptRows e m (v .rows)) row, rows-front, h .row-wide)
-
-  rows-long : length (u .rows) ≡ length (v .rows)
-  rows-long = padded-length (length (v .rows)) (keptRows e m (v .rows) ++ row) (omega (arith, rows-used, h .set-fits))
-
-  row-kept : (k i : ℕ) → k ≤ kept → i < rowWords → getD (u .rows) (rowWords * k + i) 0 ≡ getD (keptRows e m (v .rows)) (rowWords * k + i) 0
-  row-kept k i l b = row-at (rowWords * k + i) ∙ List·getD-append (keptRows e m (v .rows)) row 0 (rowWords * k + i) (omega (arith, rows-front))
-
-  front-long : length (take (rowWords * (m + 1)) (v .rows)) ≡ rowWords * (m + 1)
-  front-long = length-take-le (rowWords * (m + 1)) (v .rows) (omega (arith, m-low, sets-fit))
-
+  -- No row of a kept set has a bit too high, nor has the new one.
   row-old : (k : ℕ) → k ≤ kept → Below n (rowOf rowWords (u .rows) k)
-  row-old k l = elim (decLt 1 (e - m)) [
+  row-old k l = elim (decLt k kept) [
+    | yes a ↦ below-same n (rowOf rowWords (u .rows) k) (rowOf rowWords (v .rows) k) (row-kept movable k a) (h .sets .symbols k (omega (arith, kept-low e m m-low)))
     | no a ↦
-        same (λ i b. ap (λ (x : List ℕ). getD x (rowWords * k + i) 0) (rows-all e m (v .rows) (omega arith))
-        ∙ getD-take (rowWords * (e + 1)) (v .rows) (rowWords * k + i) 0 (omega (arith, kept-below)))
-    | yes a ↦ elim (decLt k (m + 1)) [
-      | yes b ↦
-          same (λ i c. ap (λ (x : List ℕ). getD x (rowWords * k + i) 0) (rows-pruned e m (v .rows) a)
-          ∙ List·getD-append (take (rowWords * (m + 1)) (v .rows)) (replicate rowWords 0) 0 (rowWords * k + i) (omega (arith, front-long))
-          ∙ getD-take (rowWords * (m + 1)) (v .rows) (rowWords * k + i) 0 (omega arith))
-      | no b ↦ below-zeros n (rowOf rowWords (u .rows) k) (row-words rowWords (u .rows) k [] (omega arith) (λ i c. row-kept k i l c ∙ cleared a (rowWords * k + i) (omega arith)))
-    ]
+        let here : kept ≡ k = omega arith in
+        subst (λ (j : ℕ). Below n (rowOf rowWords (u .rows) j)) here last
   ]
     where
-      same : ((i : ℕ) → i < rowWords → getD (keptRows e m (v .rows)) (rowWords * k + i) 0 ≡ getD (v .rows) (rowWords * k + i) 0) → Below n (rowOf rowWords (u .rows) k)
-      same f =
-          below-same n (rowOf rowWords (u .rows) k) (rowOf rowWords (v .rows) k)
-          (row-words rowWords (u .rows) k (rowOf rowWords (v .rows) k) (omega (arith, length-take rowWords (drop (rowWords * k) (v .rows)))) (λ i b. row-kept k i l b ∙ f i b ∙ sym (row-word rowWords (v .rows) k i b)))
-          (h .sets .symbols k (omega (arith, kept-below)))
+      last : Below n (rowOf rowWords (u .rows) kept)
+      last = elim (decLt 1 (e - m)) [
+        | yes a ↦ record { none-above = λ x b held. row-cleared movable a x held }
+        | no a ↦
+            below-same n (rowOf rowWords (u .rows) kept) (rowOf rowWords (v .rows) kept) (row-latest movable (omega arith)) (h .sets .symbols kept (kept-low e m m-low))
+      ]
 
-      cleared : 1 < e - m → (j : ℕ) → rowWords * (m + 1) ≤ j → getD (keptRows e m (v .rows)) j 0 ≡ 0
-      cleared a j b =
-          let at : j ≡ length (take (rowWords * (m + 1)) (v .rows)) + (j - rowWords * (m + 1)) = omega (arith, front-long) in
-          ap₂ (λ (x : List ℕ) (i : ℕ). getD x i 0) (rows-pruned e m (v .rows) a) at
-          ∙ getD-append-add (take (rowWords * (m + 1)) (v .rows)) (replicate rowWords 0) (j - rowWords * (m + 1)) 0
-          ∙ zeros-word rowWords (j - rowWords * (m + 1))
-
-  row-new : (k : ℕ) → k ≡ kept + 1 → Below n (rowOf rowWords (u .rows) k)
-  row-new k l =
-      below-same n (rowOf rowWords (u .rows) k) row
-      (row-words rowWords (u .rows) k row (omega (arith, h .row-wide))
-      (λ i b.
-      let at : rowWords * k + i ≡ length (keptRows e m (v .rows)) + i = omega (arith, rows-front) in
-      row-at (rowWords * k + i) ∙ ap (λ (j : ℕ). getD (keptRows e m (v .rows) ++ row) j 0) at ∙ getD-append-add (keptRows e m (v .rows)) row i 0))
-      (h .row-below)
+  row-last : (k : ℕ) → k ≡ kept + 1 → Below n (rowOf rowWords (u .rows) k)
+  row-last k l = below-same n (rowOf rowWords (u .rows) k) row (row-new movable k l) (h .row-below)
 
   -- The new items stand behind the sets that are kept.
   new-at : (p : ℕ) → base ≤ p → p < base + length new → itemAt (u .items) p ≡ getD new (p - base) noItem
   new-at p a b =
       let at : p ≡ base + (p - base) = omega arith in
-      ap (itemAt (u .items)) at ∙ ending-at (v .items) base new room (p - base) (omega arith)
+      ap (itemAt (u .items)) at ∙ item-new movable (p - base) (omega arith)
 
   -- A place of a kept set, and of the new one.
   in-kept : (k p : ℕ) → k ≤ kept → InSet u k p → InSet (withoutNew s v) k p
-  in-kept k p l i = record { from = omega (arith, i .from, start-kept k (omega arith)); up-to = omega (arith, i .up-to, start-kept (k + 1) (omega arith)) }
+  in-kept k p l i = record { from = omega (arith, i .from, start-kept movable k (omega arith)); up-to = omega (arith, i .up-to, start-kept movable (k + 1) (omega arith)) }
 
   below-base : (k p : ℕ) → k ≤ kept → InSet u k p → p < base
   below-base k p l i =
-      omega (arith, i .up-to, start-kept (k + 1) (omega arith), last-greatest (v .starts) kept (λ j b. h .sets .never-falls j (omega (arith, kept-below))) (k + 1) (omega arith))
+      omega (arith, i .up-to, start-kept movable (k + 1) (omega arith), last-greatest (v .starts) kept (λ j b. h .sets .never-falls j (omega (arith, kept-low e m m-low))) (k + 1) (omega arith))
 
   in-new : (k p : ℕ) → k ≡ kept + 1 → InSet u k p → (base ≤ p) × (p < base + length new)
   in-new k p l i =
-      (omega (arith, i .from, start-kept k (omega arith), ap (startOf v) l), omega (arith, i .up-to, start-last (k + 1) (omega arith)))
+      (omega (arith, i .from, start-kept movable k (omega arith), ap (startOf v) l), omega (arith, i .up-to, start-last movable (k + 1) (omega arith)))
 
   fit-new : (k p : ℕ) → k ≡ kept + 1 → InSet u k p → Fits rs k (itemAt (u .items) p)
   fit-new k p l i =
@@ -239,36 +181,34 @@ module _ (n : ℕ) (rs : List Rule) (s : State) (v : Words) (new : List Item) (r
   -- The state is well formed again.
   pub well-formed-again : WellFormed n rs t u
   well-formed-again = record {
-    set-fits = omega (arith, h .set-fits, rows-long);
-    items-fit = omega (arith, room, ending-length (v .items) base new room);
-    first-start = start-kept 0 (omega arith) ∙ h .sets .first-start;
-    second-start = start-kept 1 (omega arith) ∙ h .sets .second-start;
+    set-fits = omega (arith, h .set-fits, moved-sizes movable .rows);
+    items-fit = omega (arith, room, moved-sizes movable .items);
+    first-start = start-kept movable 0 (omega arith) ∙ h .sets .first-start;
+    second-start = start-kept movable 1 (omega arith) ∙ h .sets .second-start;
     never-falls = λ k l. elim (decLt k (kept + 1)) [
-      | yes a ↦ omega (arith, start-kept k (omega arith), start-kept (k + 1) (omega arith), h .sets .never-falls k (omega (arith, kept-below)))
+      | yes a ↦ omega (arith, start-kept movable k (omega arith), start-kept movable (k + 1) (omega arith), h .sets .never-falls k (omega (arith, kept-low e m m-low)))
       | no a ↦
           let here : k ≡ kept + 1 = omega arith in
-          omega (arith, start-kept k (omega arith), ap (startOf v) here, start-last (k + 1) (omega arith))
+          omega (arith, start-kept movable k (omega arith), ap (startOf v) here, start-last movable (k + 1) (omega arith))
     ];
-    last-start = start-last (t .set + 1) (omega arith);
+    last-start = start-last movable (t .set + 1) (omega arith);
     fit = λ k p l i. elim (decLt k (kept + 1)) [
-      | yes a ↦ subst (Fits rs k) (sym (item-kept p (below-base k p (omega arith) i))) (h .sets .fit k p (omega (arith, kept-below)) (in-kept k p (omega arith) i))
+      | yes a ↦ subst (Fits rs k) (sym (item-before p (below-base k p (omega arith) i))) (h .sets .fit k p (omega (arith, kept-low e m m-low)) (in-kept k p (omega arith) i))
       | no a ↦ fit-new k p (omega arith) i
     ];
     rise = λ k p l i j. elim (decLt k (kept + 1)) [
       | yes a ↦
           omega (
             arith,
-            ap (placing rs) (item-kept p (below-base k p (omega arith) i)),
-            ap (placing rs) (item-kept (p + 1) (below-base k (p + 1) (omega arith) j)),
-            h .sets .rise k p (omega (arith, kept-below)) (in-kept k p (omega arith) i) (in-kept k (p + 1) (omega arith) j),
+            ap (placing rs) (item-before p (below-base k p (omega arith) i)),
+            ap (placing rs) (item-before (p + 1) (below-base k (p + 1) (omega arith) j)),
+            h .sets .rise k p (omega (arith, kept-low e m m-low)) (in-kept k p (omega arith) i) (in-kept k (p + 1) (omega arith) j),
           )
       | no a ↦ rise-new k p (omega arith) i j
     ];
-    symbols = λ k l. elim (decLt k (kept + 1)) [ yes a ↦ row-old k (omega arith) | no a ↦ row-new k (omega arith) ];
+    symbols = λ k l. elim (decLt k (kept + 1)) [ yes a ↦ row-old k (omega arith) | no a ↦ row-last k (omega arith) ];
     spare-items = λ i l. ending-behind (v .items) base new room i l;
-    spare-starts = λ i l.
-        padded-word (length (v .starts)) (take (kept + 2) (v .starts) ++ (t .items ∷ [])) i
-        ∙ List·getD-eq-default (take (kept + 2) (v .starts) ++ (t .items ∷ [])) 0 {n = i} (omega (arith, length-append (take (kept + 2) (v .starts)) (t .items ∷ []), starts-front));
-    spare-rows = λ i l. row-at i ∙ List·getD-eq-default (keptRows e m (v .rows) ++ row) 0 {n = i} (omega (arith, rows-used));
+    spare-starts = λ i l. start-spare movable i (omega arith);
+    spare-rows = λ i l. row-spare movable i (omega arith);
     spare-queue = λ i. zeros-word (length (v .queue)) i;
   }

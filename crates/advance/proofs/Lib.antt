@@ -10,5 +10,6 @@ pub mod Pruning
 pub mod Predicting
 pub mod Following
 pub mod Advancing
+pub mod Moved
 pub mod Keeping
 pub mod Steps

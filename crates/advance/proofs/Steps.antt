@@ -132,7 +132,7 @@ full-keeps-all rules count table s v to h e = elim (decLt 1 (s .set - m)) [
     m = reachOf (rulesIn rules count) s v to
 
 -- Those with a second rise where all do.
-binary-rises : (rs : List Rule) {is : List Item} → Rises rs is → Rises rs (binary rs is)
+pub binary-rises : (rs : List Rule) {is : List Item} → Rises rs is → Rises rs (binary rs is)
 unfolding binary
 binary-rises rs Rises.empty = Rises.empty
 binary-rises rs (Rises.also {i} {is} a r) = binary-cases rs (Rises rs) i is (λ e. binary-rises rs r) (λ n. Rises.also (binary-all rs a) (binary-rises rs r))

@@ -6,7 +6,7 @@ use Prim.Native.Nat.{ℕ, suc, _+_, _-_, _*_, _^_, _≤_, _<_}
 use native.Mathlib.Nat.{mul-le-mul-left, mul-suc}
 use native.Mathlib.Decide.{decLt}
 use native.Mathlib.Omega.{arith}
-use lib.ListN.{length, getD, take, length-append, length-take, length-drop, List·getD-append, List·getD-eq-default}
+use lib.ListN.{length, getD, take, drop, length-append, length-take, length-drop, List·getD-append, List·getD-eq-default}
 use lib.Seq.{ext-getD, length-take-le, getD-take, getD-drop, getD-append-add}
 use lib.Pow.{pow-pos}
 use Rattle.laws.specs.Bits.{wordBits, Row, rowOf, withRow}
@@ -18,6 +18,16 @@ row-wide w words k fits = simp (length-take, length-drop) (omega arith)
 -- A word of row `k` stands behind the rows before it.
 pub row-word : (w : ℕ) (words : List ℕ) (k i : ℕ) → i < w → getD (rowOf w words k) i 0 ≡ getD words (w * k + i) 0
 row-word w words k i l = getD-take w _ i 0 l ∙ getD-drop (w * k) words i 0
+
+-- Row `k` has the words of `row` where the words behind the rows before it are those.
+pub row-words : (w : ℕ) (words : List ℕ) (k : ℕ) (row : List ℕ) → length row ≤ w → ((i : ℕ) → i < w → getD words (w * k + i) 0 ≡ getD row i 0)
+    → (i : ℕ) → getD (rowOf w words k) i 0 ≡ getD row i 0
+row-words w words k row l h i = elim (decLt i w) [
+  | yes m ↦ row-word w words k i m ∙ h i m
+  | no m ↦
+      List·getD-eq-default (rowOf w words k) 0 {n = i} (omega (arith, length-take w (drop (w * k) words)))
+      ∙ sym (List·getD-eq-default row 0 {n = i} (omega arith))
+]
 
 -- Rows of words are rows.
 pub words-row : (w : ℕ) (words : List ℕ) (k : ℕ) → w * k + w ≤ length words → ((i : ℕ) → getD words i 0 < 2 ^ wordBits) → Row w (rowOf w words k)

@@ -9,7 +9,6 @@ pub mod Tables
 pub mod Starting
 pub mod Ways
 pub mod Members
-pub mod Moved
 pub mod NextSet
 pub mod Refusing
 pub mod Holding

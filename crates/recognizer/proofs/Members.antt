@@ -1,7 +1,7 @@
 -- The new items of a step are the items with a second symbol that the pass has stored, in rising order.
 use mathlib.Core.Path.{_≡_, refl, sym, ap, _∙_}
 use mathlib.Core.List.{List, [], _∷_}
-use Prim.Native.Nat.{ℕ, zero, suc, _+_, _-_, _≤_, _<_, max}
+use Prim.Native.Nat.{ℕ, zero, suc, _+_, _-_, _≤_, _<_}
 use native.Mathlib.Omega.{arith}
 use native.Mathlib.Decide.{ℕ-discrete}
 use lib.ListN.{length, getD}
@@ -10,11 +10,13 @@ use Rattle.grammar.specs.Rules.{Rule, none}
 use Rattle.parse.specs.WellFormed.{secondOf, placing}
 use Rattle.advance.specs.NewItems.{itemsFrom, sorted, binary, newItems}
 use Rattle.advance.specs.Order.{All}
-use Rattle.advance.specs.Advance.{highest, greatestOrigin}
+use Rattle.advance.specs.Advance.{greatestOrigin}
 use Rattle.advance.proofs.Placed.{noItem}
-use Rattle.advance.proofs.Ordering.{Among, Rises, Apart, all-map, all-among, sorted-there, sorted-rises}
+use Rattle.advance.proofs.Ordering.{Among, Rises, Apart, all-among, sorted-there, sorted-rises}
 use Rattle.advance.proofs.Sorting.{items-all}
-use Rattle.advance.proofs.Advancing.{binary-cases, binary-all, binary-second, new-all}
+use Rattle.advance.proofs.Advancing.{binary-cases, binary-second, new-all}
+use Rattle.advance.proofs.Keeping.{greatest-above}
+use Rattle.advance.proofs.Steps.{binary-rises}
 
 -- An item of a list stands at one of its places.
 pub record PlaceIn (is : List Item) (i : Item) : Type 0 where
@@ -67,12 +69,6 @@ module _ (rs : List Rule) where
     pub new-there : (p : ℕ) → from ≤ p → p < to → (secondOf rs (itemAt words p) ≡ none → ⊥) → Among (itemAt words p) (newItems rs words from to)
     new-there p a b two = binary-there two (sorted-there rs (items-among words from (to - from) p a (omega arith)))
 
-  -- Those with a second rise where all do.
-  binary-rises : {is : List Item} → Rises rs is → Rises rs (binary rs is)
-  unfolding binary
-  binary-rises Rises.empty = Rises.empty
-  binary-rises (Rises.also {i} {is} a r) = binary-cases rs (Rises rs) i is (λ e. binary-rises r) (λ n. Rises.also (binary-all rs a) (binary-rises r))
-
   -- Items at different places are apart where no two have one place in the order,
   items-apart : (w : List ℕ) (from n : ℕ)
       → ((p q : ℕ) → from ≤ p → p < q → q < from + n → placing rs (itemAt w p) ≡ placing rs (itemAt w q) → ⊥) → Apart rs (itemsFrom w from n)
@@ -87,20 +83,8 @@ module _ (rs : List Rule) where
   pub new-rises : (w : List ℕ) (from to : ℕ) → ((p q : ℕ) → from ≤ p → p < q → q < to → placing rs (itemAt w p) ≡ placing rs (itemAt w q) → ⊥)
       → Rises rs (newItems rs w from to)
   new-rises w from to apart =
-      binary-rises (sorted-rises rs (itemsFrom w from (to - from)) (items-apart w from (to - from) (λ p q a b c. apart p q a b (omega arith))))
+      binary-rises rs (sorted-rises rs (itemsFrom w from (to - from)) (items-apart w from (to - from) (λ p q a b c. apart p q a b (omega arith))))
 
 -- No origin is above the greatest.
-highest-above : (is : List Item) → All (λ (i : Item). i .origin ≤ highest is) is
-unfolding highest
-highest-above [] = All.empty
-highest-above (i ∷ is) =
-    let first : i .origin ≤ max (i .origin) (highest is) = omega arith in
-    All.also first (all-map (λ (j : Item) (l : j .origin ≤ highest is). let m : j .origin ≤ max (i .origin) (highest is) = omega arith in m) (highest-above is))
-
-pub greatest-above : (rs : List Rule) (e : ℕ) (is : List Item) {i : Item} → Among i is → i .origin ≤ greatestOrigin e is
-unfolding greatestOrigin
-greatest-above rs e is m = all-among rs (each is) m
-  where
-    each : (is : List Item) → All (λ (i : Item). i .origin ≤ greatestOrigin e is) is
-    each [] = All.empty
-    each (i ∷ is) = highest-above (i ∷ is)
+pub greatest-among : (rs : List Rule) (e : ℕ) (is : List Item) {i : Item} → Among i is → i .origin ≤ greatestOrigin e is
+greatest-among rs e is m = all-among rs (greatest-above e is) m

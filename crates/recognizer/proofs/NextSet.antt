@@ -36,8 +36,8 @@ use Rattle.recognizer.proofs.Chart.{Has, New, chartOf, Completed}
 use Rattle.recognizer.proofs.Cut.{Cut}
 use Rattle.recognizer.proofs.Tables.{holds-same, table-shape, predictions-below, Leads, predictions-lead, lead-predictions}
 use Rattle.recognizer.proofs.Ways.{newOf, reachOf, keptOf, following}
-use Rattle.recognizer.proofs.Members.{PlaceIn, Standing, among-place, place-among, new-standing, new-second, new-there, new-rises, greatest-above}
-use Rattle.recognizer.proofs.Moved.{Movable, kept-below, start-kept, start-last, item-kept, item-new, row-kept, row-latest, row-cleared, row-new, moved-sizes}
+use Rattle.recognizer.proofs.Members.{PlaceIn, Standing, among-place, place-among, new-standing, new-second, new-there, new-rises, greatest-among}
+use Rattle.advance.proofs.Moved.{Movable, kept-below, start-kept, start-last, item-kept, item-new, row-kept, row-latest, row-cleared, row-new, moved-sizes}
 
 module _ {g : Grammar} {table : List (List ℕ)} {s : State} {v : Words} (accepted : Accepted g) (predicts : Predicts g rowWords table)
     (well : WellFormed (g .symbols) (g .rules) s v) (cut : Cut v) (t : ℕ) (room : keptOf g s v t + 1 < length (v .rows) / rowWords) where
@@ -253,7 +253,7 @@ module _ {g : Grammar} {table : List (List ℕ)} {s : State} {v : Words} (accept
     pruning = elim (decLt 1 (s .set - m)) [
       | yes a ↦ inr (record {
         fewer = omega (arith, kept-pruned (s .set) m a);
-        origins = λ {o} {r} stored. omega (arith, kept-pruned (s .set) m a, greatest-above (g .rules) (s .set) new (stored-new o r stored));
+        origins = λ {o} {r} stored. omega (arith, kept-pruned (s .set) m a, greatest-among (g .rules) (s .set) new (stored-new o r stored));
         row = λ {x} held. row-cleared movable a x held;
       })
       | no a ↦

@@ -8,26 +8,18 @@ use lib.ListN.{length, getD, take, drop, replicate, length-append, length-take, 
 use lib.Seq.{length-take-le, getD-take, getD-append-add, getD-at}
 use Rattle.laws.specs.Bits.{Holds, rowOf}
 use Rattle.laws.proofs.Bits.{zeros-hold}
-use Rattle.laws.proofs.Rows.{row-word}
+use Rattle.laws.proofs.Rows.{row-word, row-words}
 use Rattle.bits.specs.Width.{rowWords}
 use Rattle.item.specs.Item.{Item, itemWords, itemAt}
 use Rattle.parse.specs.declared.State.{State}
 use Rattle.parse.specs.Words.{Words, startOf}
 use Rattle.parse.proofs.Capacities.{SameSizes}
 use Rattle.advance.specs.Advance.{lastKept, keptRows, nextWords}
 use Rattle.advance.proofs.Placed.{noItem, item-eq}
 use Rattle.laws.proofs.Lists.{zeros-word}
-use Rattle.advance.proofs.Padded.{padded-length, padded-word, front-word}
+use Rattle.advance.proofs.Padded.{padded-length, padded-word}
 use Rattle.advance.proofs.Pruning.{kept-pruned, rows-pruned, rows-all}
 use Rattle.advance.proofs.Following.{ending-length, ending-at, ending-before, kept-low, kept-rows-length}
-
--- A word of a row stands behind the rows before it, and past the row there is none.
-row-words : (w : ℕ) (words : List ℕ) (k : ℕ) (row : List ℕ) → length row ≤ w → ((i : ℕ) → i < w → getD words (w * k + i) 0 ≡ getD row i 0)
-    → (i : ℕ) → getD (rowOf w words k) i 0 ≡ getD row i 0
-row-words w words k row l h i = elim (decLt i w) [
-  | yes m ↦ row-word w words k i m ∙ h i m
-  | no m ↦ front-word w _ i (omega arith) ∙ sym (List·getD-eq-default row 0 {n = i} (omega arith))
-]
 
 -- New items and a row fit behind the sets that are kept.
 pub record Movable (s : State) (v : Words) (m : ℕ) (new : List Item) (row : List ℕ) : Type 0 where
@@ -135,6 +127,19 @@ module _ {s : State} {v : Words} {m : ℕ} {new : List Item} {row : List ℕ} (h
       let at : rowWords * k + i ≡ length (keptRows e m (v .rows)) + i = omega (arith, rows-front) in
       row-at (rowWords * k + i) ∙ ap (λ (j : ℕ). getD (keptRows e m (v .rows) ++ row) j 0) at ∙ getD-append-add (keptRows e m (v .rows)) row i 0)
 
+  -- Behind them all is 0.
+  pub start-spare : (i : ℕ) → kept + 3 ≤ i → getD (u .starts) i 0 ≡ 0
+  start-spare i l =
+      padded-word (length (v .starts)) (take (kept + 2) (v .starts) ++ ((base + length new) ∷ [])) i
+      ∙ List·getD-eq-default (take (kept + 2) (v .starts) ++ ((base + length new) ∷ [])) 0 {n = i}
+      (omega (arith, length-append (take (kept + 2) (v .starts)) ((base + length new) ∷ []), starts-front))
+
+  rows-used : length (keptRows e m (v .rows) ++ row) ≡ rowWords * (kept + 2)
+  rows-used = omega (arith, length-append (keptRows e m (v .rows)) row, rows-front, h .row-wide)
+
+  pub row-spare : (i : ℕ) → rowWords * (kept + 2) ≤ i → getD (u .rows) i 0 ≡ 0
+  row-spare i l = row-at i ∙ List·getD-eq-default (keptRows e m (v .rows) ++ row) 0 {n = i} (omega (arith, rows-used))
+
   -- There are as many words as there were.
   pub moved-sizes : SameSizes u v
   moved-sizes = record {
@@ -144,6 +149,6 @@ module _ {s : State} {v : Words} {m : ℕ} {new : List Item} {row : List ℕ} (h
         (omega (arith, length-append (take (kept + 2) (v .starts)) ((base + length new) ∷ []), starts-front, h .starts-fit, h .set-fits));
     rows =
         padded-length (length (v .rows)) (keptRows e m (v .rows) ++ row)
-        (omega (arith, length-append (keptRows e m (v .rows)) row, rows-front, h .row-wide, h .set-fits));
+        (omega (arith, rows-used, h .set-fits));
     queue = length-replicate (length (v .queue)) 0;
   }
