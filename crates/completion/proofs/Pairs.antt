@@ -1,21 +1,19 @@
 -- Completing a pair of a set and a symbol.
-use mathlib.Core.Path.{_≡_, refl, sym, ap, _∙_, subst}
+use mathlib.Core.Path.{_≡_, refl, _∙_}
 use mathlib.Core.Bool.{Bool, true, false}
 use mathlib.Core.List.{List}
-use Prim.Native.Nat.{ℕ, _+_, _-_, _≤_, _<_}
+use Prim.Native.Nat.{ℕ, _+_, _-_, _<_}
 use native.Mathlib.Omega.{arith}
-use lib.ListN.{length, getD}
+use lib.ListN.{getD}
 use lib.Dec.{eqb}
-use Rattle.laws.specs.Turns.{over}
 use Rattle.laws.proofs.Turns.{over-keeps}
 use Rattle.item.specs.Item.{itemAt}
 use Rattle.grammar.specs.Rules.{Rule}
 use Rattle.parse.specs.WellFormed.{secondOf}
-use Rattle.completion.specs.Pass.{Pass, andThen, enqueue}
+use Rattle.completion.specs.Pass.{Pass, enqueue}
 use Rattle.completion.specs.Complete.{predicted, completeMedial, completeMedialItems, completeUnaryPredictions, completeBinaryPredictions, complete}
 use Rattle.completion.specs.Ready.{IsSet, HasRow, Rowed, Sound, Charted}
 use Rattle.completion.proofs.Soundness.{then-sound, enqueue-sound}
-use Rattle.completion.proofs.Waiting.{unaries-sound}
 use Rattle.completion.proofs.Searching.{then-next-count, enqueue-count}
 
 -- Where the symbol is not predicted nothing is done.

@@ -4,13 +4,12 @@ use mathlib.Core.Bool.{Bool, true, false}
 use mathlib.Core.List.{List}
 use Prim.Native.Nat.{ℕ, _+_, _/_, _≤_, _<_}
 use lib.ListN.{length}
-use lib.Dec.{eqb, ltb}
+use lib.Dec.{ltb}
 use native.Mathlib.Omega.{arith}
 use borrow.Author.Tests.{lt-ltb, le-ltb, eq-eqb, ne-eqb, ltb-true, ltb-false}
 use Rattle.item.specs.Item.{itemWords, keyAt, stored}
 use Rattle.binary_heap.specs.declared.Pushed.the-variants.{Full, Count}
 use Rattle.binary_heap.specs.Words.{pushAnswer, pushWords}
-use Rattle.completion.specs.declared.Progress.{Progress}
 use Rattle.completion.specs.Pass.{Pass, passOf, refused, andThen, store, enqueue, itemsFull, queueFull}
 
 module _ (s : Pass) where

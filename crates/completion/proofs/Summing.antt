@@ -1,19 +1,18 @@
 -- Taking the entries of one origin and left side off the queue, case by case.
-use mathlib.Core.Path.{_≡_, refl, sym, ap, ap₂, _∙_, subst}
+use mathlib.Core.Path.{_≡_, sym, ap, ap₂, _∙_}
 use mathlib.Core.Bool.{Bool, true, false, _&&_, _||_, not}
 use mathlib.Core.List.{List}
-use Prim.Native.Nat.{ℕ, suc, _+_, _-_, _≤_, _<_}
+use Prim.Native.Nat.{ℕ, suc, _-_, _<_}
 use native.Mathlib.Omega.{arith}
-use lib.ListN.{length, getD}
 use lib.Dec.{eqb}
 use borrow.Author.Tests.{eq-eqb, ne-eqb}
 use Rattle.laws.specs.Turns.{until}
-use Rattle.laws.proofs.Turns.{until-turns, until-rests}
-use Rattle.item.specs.Item.{Item, itemAt, originAt, ruleAt, keyAt}
+use Rattle.laws.proofs.Turns.{until-turns}
+use Rattle.item.specs.Item.{keyAt}
 use Rattle.binary_heap.specs.Words.{popWords, popAnswer}
 use Rattle.binary_heap.specs.declared.Popped.the-variants as pops
-use Rattle.binary_heap.proofs.Answers.{pop-empty-tells, pop-entry-tells}
-use Rattle.grammar.specs.Rules.{Rule, noRule}
+use Rattle.binary_heap.proofs.Answers.{pop-entry-tells}
+use Rattle.grammar.specs.Rules.{Rule}
 use Rattle.parse.specs.WellFormed.{leftOf}
 use Rattle.completion.specs.Pass.{Pass, passOf}
 use Rattle.completion.specs.Ready.{Sound, RulesRead}

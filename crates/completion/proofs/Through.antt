@@ -2,27 +2,19 @@
 use mathlib.Core.Path.{_≡_}
 use mathlib.Core.Bool.{true, false, _&&_, not}
 use mathlib.Core.List.{List}
-use Prim.Native.Nat.{ℕ, zero, suc, _+_, _-_, _≤_, _<_}
+use Prim.Native.Nat.{ℕ, suc, _+_, _-_, _≤_, _<_}
 use native.Mathlib.Omega.{arith}
 use lib.ListN.{length, getD}
 use lib.Dec.{eqb}
 use borrow.Author.Tests.{eqb-true, eqb-false, not-true}
-use Rattle.laws.specs.Turns.{over}
 use Rattle.laws.proofs.Tests.{either-way, both-true}
-use Rattle.laws.proofs.Turns.{over-keeps}
+use Rattle.laws.proofs.Turns.{over-keeps, over-goes}
 use Rattle.item.specs.Item.{itemAt}
 use Rattle.grammar.specs.Rules.{Rule, none, noRule}
 use Rattle.parse.specs.WellFormed.{secondOf}
 use Rattle.completion.specs.Pass.{Pass, andThen, store, enqueue}
 use Rattle.completion.specs.Complete.{predicted, waits, completeMedial, completeMedialItems, completeUnary, completeUnaryPredictions, completeBinary, completeBinaryPredictions, complete}
 use Rattle.completion.proofs.Entries.{then-cases}
-
--- What turn `i` takes from `P i` to `P (i + 1)` all turns take from `P 0` to `P n`.
-pub over-goes : {S : Type 0} (P : ℕ → S → Type 0) (n : ℕ) (turn : ℕ → S → S) → ((i : ℕ) (s : S) → i < n → P i s → P (suc i) (turn i s)) → (s : S) → P 0 s
-    → P n (over n turn s)
-unfolding over
-over-goes P zero turn goes s p = p
-over-goes P (suc n) turn goes s p = goes n (over n turn s) (omega arith) (over-goes P n turn (λ i s h. goes i s (omega arith)) s p)
 
 -- Rule `r` begins with `x`, and its left side is predicted at set `k`; it has a second symbol, or none.
 pub record Begins (rs : List Rule) (rows : List ℕ) (k x r : ℕ) : Type 0 where

@@ -1,17 +1,15 @@
 -- What completing the rules that begin with a symbol comes to, case by case.
-use mathlib.Core.Path.{_≡_, refl, sym, ap, ap₂, _∙_, subst}
+use mathlib.Core.Path.{_≡_, refl, sym, ap, _∙_, subst}
 use mathlib.Core.Bool.{Bool, true, false, _&&_, not}
 use mathlib.Core.List.{List}
-use Prim.Native.Nat.{ℕ, _/_, _≤_, _<_}
+use Prim.Native.Nat.{ℕ, _/_, _<_}
 use native.Mathlib.Decide.{decLt}
 use native.Mathlib.Omega.{arith}
 use lib.ListN.{length, getD}
 use lib.Dec.{eqb}
 use borrow.Author.Tests.{eq-eqb, ne-eqb}
-use Rattle.laws.specs.Bits.{holds, rowOf}
 use Rattle.laws.specs.Turns.{over}
 use Rattle.laws.proofs.Turns.{over-keeps}
-use Rattle.bits.specs.Width.{rowWords}
 use Rattle.item.specs.Item.{itemWords}
 use Rattle.grammar.specs.Rules.{Rule, none, noRule}
 use Rattle.grammar.specs.Decoded.{leftIn, firstIn, secondIn, rulesIn}

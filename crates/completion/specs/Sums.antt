@@ -1,7 +1,7 @@
 -- Step 3: pop greatest first; all entries of one origin and left side form one sum; then complete that pair; repeat until empty.
-use mathlib.Core.Bool.{Bool, true, false, _&&_, not, _||_}
+use mathlib.Core.Bool.{Bool, _&&_, not, _||_}
 use mathlib.Core.List.{List}
-use Prim.Native.Nat.{ℕ, _+_, _-_, _*_}
+use Prim.Native.Nat.{ℕ, _-_, _*_}
 use lib.ListN.{length, getD}
 use lib.Dec.{eqb}
 use Rattle.laws.specs.Turns.{until}

@@ -9,7 +9,7 @@ use lib.Seq.{length-take-le}
 use Rattle.grammar.specs.Accepted.{maxRules}
 use Rattle.grammar.specs.File.{headerBytes, ruleBytes, versionOf, lengthOf, ruleCountOf}
 use Rattle.driver.specs.declared.header.Header.{Header}
-use Rattle.driver.specs.declared.header.Header.the-variants.{Malformed, Broken, Length}
+use Rattle.driver.specs.declared.header.Header.the-variants.{Length}
 use Rattle.driver.specs.Header.{longestFile, Wrong, Says, Within}
 use Rattle.driver.specs.Header.Wrong.{short, version, told-length}
 use Rattle.driver.specs.Header.Says.{malformed, broken, whole}

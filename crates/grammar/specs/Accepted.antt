@@ -3,7 +3,7 @@ use mathlib.Core.Path.{_≡_}
 use mathlib.Core.List.{List}
 use mathlib.Core.Logic.{_⊎_}
 use Prim.Native.Nat.{ℕ, _+_, _≤_, _<_}
-use Rattle.grammar.specs.Rules.{Rule, Grammar, Says, none, ruleCount, ruleAt, wrapper, endMark, start}
+use Rattle.grammar.specs.Rules.{Grammar, Says, none, ruleCount, ruleAt, wrapper, endMark, start}
 use Rattle.grammar.specs.Sentences.{Derives}
 
 -- The most symbols, and the most rules.

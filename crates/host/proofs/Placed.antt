@@ -1,15 +1,14 @@
 -- The part that the set report tells, by the place of its first word and the number of its words.
-use mathlib.Core.Path.{_≡_, refl, sym, ap, subst, _∙_}
-use mathlib.Core.List.{List, []}
-use Prim.Native.Nat.{ℕ, _+_, _-_, _*_, _/_, _≤_, _<_, min}
+use mathlib.Core.Path.{_≡_, refl, sym, subst, _∙_}
+use mathlib.Core.List.{List}
+use Prim.Native.Nat.{ℕ, _-_, _*_, _≤_}
 use native.Mathlib.Omega.{arith}
-use lib.Dec.{eqb}
 use borrow.Author.Tests.{ne-eqb}
-use lib.ListN.{length, take, drop, length-take, length-drop}
+use lib.ListN.{length, drop, length-take, length-drop}
 use Rattle.item.specs.Item.{itemWords}
 use Rattle.grammar.specs.Rules.{Grammar}
 use Rattle.parse.specs.declared.State.{State}
-use Rattle.parse.specs.Words.{Words, within, startOf, maxItems, itemRoom}
+use Rattle.parse.specs.Words.{Words, within, startOf, itemRoom}
 use Rattle.recognizer.specs.Steps.{latestPart}
 use Rattle.recognizer.specs.Calls.{FileFault, CallFault, Formed, Reports}
 use Rattle.host.specs.Reports.{ReportsIn, PartFits, firstWord}

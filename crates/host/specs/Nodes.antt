@@ -8,7 +8,7 @@ use Rattle.node.specs.declared.Right.{Right}
 use Rattle.node.specs.declared.Right.the-variants.{At, Nothing}
 use Rattle.node.specs.declared.Node.{Node}
 use Rattle.node.specs.declared.Node.the-variants.{Sum, Product, NullingLeaf, Evaluated}
-use Rattle.node.specs.Answers.{Values, Answer, answer, valueUnfit, nothing, position, node, end, nodes}
+use Rattle.node.specs.Answers.{Answer, answer, valueUnfit, nothing, position, node, end, nodes}
 use Rattle.node.specs.Writing.{Outcome, writeAt}
 use Rattle.host.specs.declared.nodes.Told.{Told}
 use Rattle.host.specs.declared.nodes.Told.the-variants as told

@@ -7,7 +7,7 @@ use Prim.Native.Nat.{ℕ, zero, suc, _+_, _-_, _*_, _/_, _%_, _^_, _≤_, _<_, m
 use native.Mathlib.Nat.{div-self, div-eq-of-lt, mul-div-cancel, div-div-eq-div-mul, pow-suc, mod-lt, zero-div, mul-comm, mul-mod-left, div-lt-iff-lt-mul, one-mul}
 use native.Mathlib.Decide.{ℕ-discrete, decLt}
 use native.Mathlib.Omega.{arith}
-use lib.ListN.{length, getD, set, length-set, List·getD-eq-default}
+use lib.ListN.{length, getD, length-set, List·getD-eq-default}
 use lib.Seq.{getD-set-same, getD-set-other, ext-getD}
 use lib.Bits.{bitOr, or-shr, or-step, or-zero-l, or-zero-r, or-lt}
 use lib.Pow.{shl-exact, pow-pos, pow-lt, pow-add}

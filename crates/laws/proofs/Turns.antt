@@ -113,3 +113,10 @@ module _ {S : Type 0} where
             → until (suc n) rests turn s ≡ until (suc m) rests turn s
         by-rest true r same = until-rests (suc n) s r ∙ sym (until-rests (suc m) s r)
         by-rest false r same = until-turns n s r ∙ same r ∙ sym (until-turns m s r)
+
+-- What turn `i` takes from `P i` to `P (i + 1)` all turns take from `P 0` to `P n`.
+pub over-goes : {S : Type 0} (P : ℕ → S → Type 0) (n : ℕ) (turn : ℕ → S → S) → ((i : ℕ) (s : S) → i < n → P i s → P (suc i) (turn i s)) → (s : S) → P 0 s
+    → P n (over n turn s)
+unfolding over
+over-goes P zero turn goes s p = p
+over-goes P (suc n) turn goes s p = goes n (over n turn s) (omega arith) (over-goes P n turn (λ i s h. goes i s (omega arith)) s p)

@@ -9,7 +9,7 @@ use lib.Dec.{ltb}
 use borrow.Author.Tests.{ltb-false, lt-ltb, le-ltb, ltb-true}
 use Rattle.node.specs.Choice.{pick}
 use Rattle.node.specs.Rows.{unitsAt, unitsOf, listOf}
-use Rattle.node.specs.Answers.{Answer, answer, done, noNode, node, end, nothing, position}
+use Rattle.node.specs.Answers.{Answer, answer, done, noNode, node, end, nothing}
 use Rattle.node.specs.Reading.{headFrom, stand, standAll, spelt, takeNode, readHere, readUnits, Exactly}
 use Rattle.node.specs.declared.Node.{Node}
 use Rattle.node.specs.declared.Units.{Units}

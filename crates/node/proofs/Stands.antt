@@ -8,7 +8,7 @@ use native.Mathlib.Omega.{arith}
 use lib.ListN.{length, getD}
 use lib.Dec.{ltb, eqb}
 use borrow.Author.Tests.{ltb-true, eqb-true, lt-ltb, eq-eqb}
-use Rattle.node.specs.Reading.{holds, standAll, stand, valueAt}
+use Rattle.node.specs.Reading.{holds, standAll, valueAt}
 use Rattle.node.proofs.Choices.{Both, both-true}
 
 -- A position that holds a unit is within the store, and the unit is there.

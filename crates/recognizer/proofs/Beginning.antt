@@ -12,7 +12,7 @@ use Rattle.grammar.specs.Rules.{Grammar, wrapper}
 use Rattle.grammar.specs.Accepted.{Accepted}
 use Rattle.grammar.specs.Prediction.{Predicts}
 use Rattle.parse.specs.declared.State.{State}
-use Rattle.parse.specs.Words.{Words, itemRoom, setRoom, queueRoom, beyond, behind}
+use Rattle.parse.specs.Words.{Words, itemRoom, setRoom, queueRoom, beyond}
 use Rattle.parse.proofs.Capacities.{items-within, starts-within, rows-within, queue-within}
 use Rattle.advance.specs.Advance.{padded}
 use Rattle.recognizer.specs.Calls.{Sound, Starts}

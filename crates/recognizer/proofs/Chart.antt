@@ -1,6 +1,5 @@
 -- The words of a parse as a chart: sets of items and rows of symbols.
 use mathlib.Core.Path.{_≡_}
-use mathlib.Core.List.{List}
 use Prim.Native.Nat.{ℕ, _≤_, _<_}
 use Rattle.laws.specs.Bits.{Holds, rowOf}
 use Rattle.bits.specs.Width.{rowWords}

@@ -18,6 +18,7 @@ use Rattle.parse.specs.Tells.{Tells}
 use Rattle.parse.proofs.Capacities.{items-within, rows-within}
 use Rattle.recognizer.specs.Steps.{lastWraps, latestPart}
 use Rattle.recognizer.specs.Cuts.{LatestThere, lastWrapsIn, latestPartIn}
+use Rattle.recognizer.proofs.Carving.{first, first-within}
 
 -- One word more cleared at the front.
 cleared-suc : (l : List ℕ) (i : ℕ) → i < length l → set (replicate i 0 ++ drop i l) i 0 ≡ replicate (suc i) 0 ++ drop (suc i) l
@@ -96,12 +97,8 @@ module _ (n : ℕ) (rs : List Rule) (s : State) (w : Words) where
 
   -- What is told of words cut at the capacities is told of the words within them.
   pub tells-within : (answer : Bool) (i e q : ℕ) → i ≡ itemRoom w → e ≡ setRoom w → q ≡ queueRoom w
-      → Tells answer (WellFormed n rs s (record { items = take (itemWords * i) (w .items); starts = take (e + 1) (w .starts); rows = take (rowWords * e) (w .rows); queue = take q (w .queue) }))
-      → Tells answer (WellFormed n rs s (within w))
-  tells-within answer i e q is es qs tells =
-      subst (λ (q : ℕ). Tells answer (WellFormed n rs s (record { items = within w .items; starts = within w .starts; rows = within w .rows; queue = take q (w .queue) }))) qs
-      (subst (λ (e : ℕ). Tells answer (WellFormed n rs s (record { items = within w .items; starts = take (e + 1) (w .starts); rows = take (rowWords * e) (w .rows); queue = take q (w .queue) }))) es
-      (subst (λ (i : ℕ). Tells answer (WellFormed n rs s (record { items = take (itemWords * i) (w .items); starts = take (e + 1) (w .starts); rows = take (rowWords * e) (w .rows); queue = take q (w .queue) }))) is tells))
+      → Tells answer (WellFormed n rs s (first w i e q)) → Tells answer (WellFormed n rs s (within w))
+  tells-within answer i e q is es qs tells = subst (λ (u : Words). Tells answer (WellFormed n rs s u)) (sym (first-within w is es qs)) tells
 
   module _ (well : WellFormed n rs s (within w)) where
     -- The latest set is one of the sets that there is room for.

@@ -237,10 +237,9 @@ module _ (g : Grammar) (st : State) (v : Words) (t : ℕ) (charted : Charted (g 
 
 -- The pass of a token on a well-formed state of an accepted grammar, unless it is refused.
 pub completed-exactly : (g : Grammar) → Accepted g → (s : State) (v : Words) → WellFormed (g .symbols) (g .rules) s v
-    → length (v .items) ≤ itemWords * maxItems → Rowed (v .starts) (v .rows) → (t : ℕ) → t < g .tokens → predicted (v .rows) (s .set) t ≡ true
-    → completed g s v t .at .stopped ≡ 0 → Completed g s v t
+    → length (v .items) ≤ itemWords * maxItems → Rowed (v .starts) (v .rows) → (t : ℕ) → completed g s v t .at .stopped ≡ 0 → Completed g s v t
 unfolding completeAllSums
-completed-exactly g accepted s v well few-items rowed t token there on =
+completed-exactly g accepted s v well few-items rowed t on =
     record {
       done = so-far .done;
       pass = exact-pass g s v t (pending .charted) (completed g s v t) so-far on none-left;

@@ -5,8 +5,6 @@ use mathlib.Core.List.{List, [], _∷_, _++_}
 use Prim.Native.Nat.{ℕ, _+_, _/_, _≤_, _<_}
 use native.Mathlib.Omega.{arith}
 use lib.ListN.{length}
-use Rattle.laws.specs.Bits.{rowOf}
-use Rattle.laws.proofs.Bits.{true-holds}
 use Rattle.bits.specs.Width.{rowWords}
 use Rattle.grammar.specs.Rules.{Grammar}
 use Rattle.grammar.specs.Sentences.{Begins}
@@ -78,7 +76,7 @@ module _ {g : Grammar} {table : List (List ℕ)} (accepted : Accepted g) (predic
     goes : t < g .tokens → Predicted s v t → completed g s v t .at .stopped ≡ 0 → keptOf g s v t + 1 < length (v .rows) / rowWords
         → Accepts g a v t (following g table s v t)
     goes small there going room =
-        let exact : Completed g s v t = completed-exactly g accepted s v (h .well) (h .cut .few-items) (h .cut .rowed) t small (true-holds (rowOf rowWords (v .rows) (s .set)) t there) going in
+        let exact : Completed g s v t = completed-exactly g accepted s v (h .well) (h .cut .few-items) (h .cut .rowed) t going in
         record {
           zero = refl;
           small = small;

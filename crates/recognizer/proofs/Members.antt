@@ -9,7 +9,6 @@ use Rattle.item.specs.Item.{Item, itemAt}
 use Rattle.grammar.specs.Rules.{Rule, none}
 use Rattle.parse.specs.WellFormed.{secondOf, placing}
 use Rattle.advance.specs.NewItems.{itemsFrom, sorted, binary, newItems}
-use Rattle.advance.specs.Order.{All}
 use Rattle.advance.specs.Advance.{greatestOrigin}
 use Rattle.advance.proofs.Placed.{noItem}
 use Rattle.advance.proofs.Ordering.{Among, Rises, Apart, all-among, sorted-there, sorted-rises}

@@ -1,29 +1,25 @@
 -- What one token's steps leave in the words, as the code goes about them.
 use mathlib.Core.Path.{_≡_, refl, sym, ap, ap₂, _∙_, subst}
 use mathlib.Core.Bool.{Bool, true, false}
-use mathlib.Core.Logic.{_⊎_, inl, inr}
-use mathlib.Core.List.{List, [], _∷_, _++_}
+use mathlib.Core.Logic.{inl, inr}
+use mathlib.Core.List.{List, _++_}
 use Prim.Native.Nat.{ℕ, _+_, _-_, _*_, _/_, _≤_, _<_}
 use native.Mathlib.Decide.{decLt}
 use native.Mathlib.Omega.{arith}
 use lib.ListN.{length, getD, take, replicate, length-take, List·getD-eq-default}
-use lib.Seq.{ext-getD, length-take-le, getD-take}
-use lib.Dec.{ltb}
-use borrow.Author.Tests.{lt-ltb, le-ltb, ltb-true, ltb-false}
+use lib.Seq.{ext-getD, getD-take}
+use borrow.Author.Tests.{ltb-true, ltb-false}
 use Rattle.bits.specs.Width.{rowWords}
-use Rattle.item.specs.Item.{Item, itemWords, itemAt, originAt, ruleAt, flat}
+use Rattle.item.specs.Item.{Item, itemWords, flat}
 use Rattle.grammar.specs.Rules.{Grammar, Rule, none}
-use Rattle.grammar.specs.Accepted.{Accepted, maxSymbols}
-use Rattle.grammar.specs.Decoded.{secondIn, rulesIn, grammarIn}
+use Rattle.grammar.specs.Decoded.{rulesIn}
 use Rattle.grammar.proofs.Decoding.{in-count}
 use Rattle.grammar.proofs.Facts.{second-low}
 use Rattle.parse.specs.declared.State.{State}
-use Rattle.parse.specs.Tells.{Clear}
-use Rattle.parse.specs.Words.{Words, maxItems, startOf}
+use Rattle.parse.specs.Words.{Words, startOf}
 use Rattle.parse.specs.WellFormed.{WellFormed}
-use Rattle.completion.specs.Pass.{Pass, passOf}
+use Rattle.completion.specs.Pass.{Pass}
 use Rattle.completion.specs.Complete.{complete}
-use Rattle.completion.specs.Sums.{completeAllSums}
 use Rattle.completion.specs.Ready.{RulesFit, IsSet, Rowed, Sound, Charted}
 use Rattle.completion.specs.Pending.{Grounds, Pending}
 use Rattle.completion.proofs.Waiting.{rule-second}
@@ -32,19 +28,17 @@ use Rattle.completion.proofs.Pending.{first-pending}
 use Rattle.completion.proofs.Refusals.{Ends}
 use Rattle.completion.proofs.Beginning.{beginning, start-fits, is-set, begins-pending, begins-spare, accepted-grounds, accepted-rules-fit}
 use Rattle.completion.proofs.Passed.{Passed, token-passed, passed-queue, passed-spare}
-use Rattle.advance.specs.Order.{Stored}
 use Rattle.advance.specs.Advance.{padded, lent, Advances, withoutNew, hasRoom, advanceAnswer, advanceWords, nextState, nextWords, lastKept, predictions}
 use Rattle.advance.specs.declared.Advanced.{Advanced}
 use Rattle.advance.specs.declared.Advanced.the-variants as answers
-use Rattle.advance.specs.Ready.{Shape, Ready}
+use Rattle.advance.specs.Ready.{Ready}
 use Rattle.advance.proofs.Padded.{padded-ext, padded-length, padded-word}
-use Rattle.advance.proofs.Pruning.{last-greatest}
 use Rattle.advance.proofs.Advancing.{answer-done, answer-refused, words-done, words-refused}
 use Rattle.advance.proofs.Steps.{without-new, ready, ready-lent, advances-whole}
 use Rattle.recognizer.specs.declared.Sizes.{Sizes}
 use Rattle.recognizer.specs.Steps.{Outcome, completed, stepped}
 use Rattle.recognizer.specs.Steppable.{grammarFrom, Steppable, FullAt}
-use Rattle.recognizer.proofs.Ways.{keptOf, newOf, reachOf, following, kept, is-full, is-no-room, is-done, Predicted}
+use Rattle.recognizer.proofs.Ways.{keptOf, newOf, reachOf, kept, is-full, is-no-room, is-done, Predicted}
 
 module _ (rules : List ℕ) (sizes : Sizes) (table : List (List ℕ)) (s : State) (v : Words) (can : Steppable (grammarFrom rules sizes) table s v) (t : ℕ) where
   abbrev g : Grammar

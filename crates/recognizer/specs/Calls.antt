@@ -1,9 +1,8 @@
 -- What each call answers and leaves, of any bytes, states and words.
 use mathlib.Core.Path.{_≡_}
-use mathlib.Core.Bool.{Bool, true, false, _&&_}
+use mathlib.Core.Bool.{Bool, false}
 use mathlib.Core.List.{List, []}
 use Prim.Native.Nat.{ℕ, _<_}
-use lib.Dec.{eqb}
 use Rattle.bits.specs.Width.{rowWords}
 use Rattle.grammar.specs.Rules.{Grammar}
 use Rattle.grammar.specs.Accepted.{Accepted}

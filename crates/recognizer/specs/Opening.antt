@@ -6,7 +6,6 @@ use Rattle.grammar.specs.Accepted.{Accepted}
 use Rattle.grammar.specs.File.{Malformed, grammarOf, symbolsOf, tokensOf, ruleCountOf}
 use Rattle.grammar.specs.Decoded.{grammarIn}
 use Rattle.recognizer.specs.declared.Sizes.{Sizes}
-use Rattle.recognizer.specs.declared.Refusal.{Refusal}
 use Rattle.recognizer.specs.declared.file.Opened.{Opened}
 use Rattle.recognizer.specs.declared.file.Opened.the-variants as opened
 use Rattle.recognizer.specs.Answers.{refusalNumber}

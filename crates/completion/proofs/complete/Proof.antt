@@ -7,19 +7,11 @@ use borrow.Author.Tests.{not-true, not-false}
 use Rattle.completion.specs.Pass.{passOf}
 use Rattle.grammar.specs.Decoded.{rulesIn}
 use native.Mathlib.Omega.{arith}
-use lib.ListN.{length, getD}
-use Prim.Native.Nat.{ℕ, _+_, _-_, _≤_, _<_}
-use mathlib.Core.List.{List}
-use mathlib.Core.Path.{_≡_, refl, sym, ap, _∙_, subst}
+use Prim.Native.Nat.{_-_}
+use mathlib.Core.Path.{sym, ap, _∙_, subst}
 use borrow.Author.Needs.{needs}
 use Rattle.completion.proofs.complete.Statement.{statement}
 use Rattle.completion.proofs.complete.Tie as tie
-use Rattle.completion.proofs.complete.Reads as reads
-use Rattle.completion.proofs.complete.Lts as lts
-use Rattle.bits.proofs.has_at.Reads as has-at-reads
-use Rattle.completion.proofs.medial.complete_medial_items.Reads as complete-medial-items-reads
-use Rattle.completion.proofs.predictions.complete_binary_predictions.Reads as complete-binary-predictions-reads
-use Rattle.completion.proofs.predictions.complete_unary_predictions.Reads as complete-unary-predictions-reads
 
 -- src/lib.rt:42:9
 has-at-requires : tie.Need-has-at-requires

@@ -8,13 +8,6 @@ use Rattle.binary_heap.proofs.Kept.{kept-empty, kept-entry}
 use borrow.Author.Needs.{needs}
 use Rattle.replay_heap.proofs.pop.Statement.{statement}
 use Rattle.replay_heap.proofs.pop.Tie as tie
-use Rattle.replay_heap.proofs.pop.Reads as reads
-use Rattle.replay_heap.proofs.pop.Lts as lts
-use Rattle.binary_heap.proofs.pop.Reads as pop-reads
-use Rattle.numbers.proofs.read.Reads as read-reads
-use Rattle.replay_heap.proofs.differs.Reads as differs-reads
-use Rattle.replay_heap.proofs.refused.Reads as refused-reads
-use Rattle.std.proofs.num.wrapping_add_u64.Reads as wrapping-add-u64-reads
 
 -- src/main.rt:170:9
 read-requires : tie.Need-read-requires

@@ -9,10 +9,6 @@ use Rattle.binary_heap.proofs.Kept.{kept-full, kept-count}
 use borrow.Author.Needs.{needs}
 use Rattle.replay_heap.proofs.push.Statement.{statement}
 use Rattle.replay_heap.proofs.push.Tie as tie
-use Rattle.replay_heap.proofs.push.Reads as reads
-use Rattle.replay_heap.proofs.push.Lts as lts
-use Rattle.binary_heap.proofs.push.Reads as push-reads
-use Rattle.replay_heap.proofs.refused.Reads as refused-reads
 
 -- src/main.rt:150:9
 refused-requires : tie.Need-refused-requires

@@ -7,16 +7,11 @@ use Rattle.completion.specs.Pass.{passOf}
 use Rattle.grammar.specs.Decoded.{rulesIn}
 use borrow.Author.Needs.{needs}
 use native.Mathlib.Omega.{arith}
-use lib.ListN.{length, getD}
+use lib.ListN.{length}
 use Prim.Native.Nat.{ℕ, _+_, _-_, _≤_, _<_}
-use mathlib.Core.List.{List}
 use mathlib.Core.Path.{_≡_, refl, sym, ap, _∙_, subst}
 use Rattle.completion.proofs.medial.complete_medial_items.Statement.{statement}
 use Rattle.completion.proofs.medial.complete_medial_items.Tie as tie
-use Rattle.completion.proofs.medial.complete_medial_items.Reads as reads
-use Rattle.completion.proofs.medial.complete_medial_items.Lts as lts
-use Rattle.completion.proofs.medial.medial_item_set_range.Reads as medial-item-set-range-reads
-use Rattle.completion.proofs.pass.enqueue.Reads as enqueue-reads
 
 abbrev Inv-loop : tie.InvT-loop
 Inv-loop rules count items starts queue₀ k x first number now₀ i₀ queue now i =

@@ -3,20 +3,12 @@ use Rattle.completion.proofs.Waiting.{rules-length}
 use Rattle.item.specs.Item.{ruleAt}
 use Rattle.completion.specs.Search.{secondAt}
 use borrow.Author.Count.{below-more}
-use Rattle.completion.specs.Pass.{passOf}
 use Rattle.grammar.specs.Decoded.{rulesIn}
 use borrow.Author.Needs.{needs}
 use native.Mathlib.Omega.{arith}
-use lib.ListN.{length, getD}
-use Prim.Native.Nat.{ℕ, _+_, _-_, _≤_, _<_}
-use mathlib.Core.List.{List}
-use mathlib.Core.Path.{_≡_, refl, sym, ap, _∙_, subst}
+use Prim.Native.Nat.{ℕ, _-_, _≤_, _<_}
 use Rattle.completion.proofs.medial.first_not_below.Statement.{statement}
 use Rattle.completion.proofs.medial.first_not_below.Tie as tie
-use Rattle.completion.proofs.medial.first_not_below.Reads as reads
-use Rattle.completion.proofs.medial.first_not_below.Lts as lts
-use Rattle.grammar.proofs.rules.second.Reads as second-reads
-use Rattle.item.proofs.rule.Reads as rule-reads
 
 abbrev Inv-loop : tie.InvT-loop
 Inv-loop rules count items from to x p₀ p =

@@ -1,17 +1,9 @@
 use Rattle.completion.proofs.Searching.{found, searchable-from}
-use Rattle.completion.specs.Pass.{passOf}
 use Rattle.grammar.specs.Decoded.{rulesIn}
-use native.Mathlib.Omega.{arith}
-use lib.ListN.{length, getD}
-use Prim.Native.Nat.{ℕ, _+_, _-_, _≤_, _<_}
-use mathlib.Core.List.{List}
-use mathlib.Core.Path.{_≡_, refl, sym, ap, _∙_, subst}
+use Prim.Native.Nat.{_-_}
 use borrow.Author.Needs.{needs}
 use Rattle.completion.proofs.medial.medial_item_set_range.Statement.{statement}
 use Rattle.completion.proofs.medial.medial_item_set_range.Tie as tie
-use Rattle.completion.proofs.medial.medial_item_set_range.Reads as reads
-use Rattle.completion.proofs.medial.medial_item_set_range.Lts as lts
-use Rattle.completion.proofs.medial.first_not_below.Reads as first-not-below-reads
 
 -- src/medial.rt:54:9
 first-not-below-requires : tie.Need-first-not-below-requires

@@ -1,6 +1,5 @@
-use mathlib.Core.Path.{_≡_, sym, ap, _∙_}
-use mathlib.Core.List.{List}
-use Prim.Native.Nat.{ℕ, _+_, _<_}
+use mathlib.Core.Path.{sym, _∙_}
+use Prim.Native.Nat.{_<_}
 use native.Mathlib.Omega.{arith}
 use borrow.Author.Needs.{needs}
 use native.Mathlib.Nat.{le-refl}
@@ -10,9 +9,6 @@ use Rattle.completion.proofs.Soundness.{sound-places, has-place}
 use Rattle.completion.proofs.Pushes.{stays, queue-refused, queue-took}
 use Rattle.completion.proofs.pass.enqueue.Statement.{statement}
 use Rattle.completion.proofs.pass.enqueue.Tie as tie
-use Rattle.completion.proofs.pass.enqueue.Reads as reads
-use Rattle.completion.proofs.pass.enqueue.Lts as lts
-use Rattle.binary_heap.proofs.push.Reads as push-reads
 
 -- src/pass.rt:43:9
 returns : tie.Need-returns

@@ -1,4 +1,4 @@
-use mathlib.Core.Path.{_≡_, sym, ap, _∙_}
+use mathlib.Core.Path.{sym, ap, _∙_}
 use mathlib.Core.List.{List}
 use Prim.Native.Nat.{ℕ, _+_}
 use borrow.Author.Needs.{needs}
@@ -6,9 +6,6 @@ use Rattle.completion.specs.Pass.{passOf}
 use Rattle.completion.proofs.Pushes.{store-done, store-refused}
 use Rattle.completion.proofs.pass.store.Statement.{statement}
 use Rattle.completion.proofs.pass.store.Tie as tie
-use Rattle.completion.proofs.pass.store.Reads as reads
-use Rattle.completion.proofs.pass.store.Lts as lts
-use Rattle.item.proofs.write.Reads as write-reads
 
 -- src/pass.rt:21:9
 returns : tie.Need-returns

@@ -3,18 +3,11 @@ use Rattle.completion.proofs.Waiting.{rules-length, rule-second, binary
 use Rattle.completion.specs.Pass.{passOf}
 use Rattle.grammar.specs.Decoded.{rulesIn}
 use native.Mathlib.Omega.{arith}
-use lib.ListN.{length}
-use Prim.Native.Nat.{ℕ, _+_, _-_, _≤_, _<_}
-use mathlib.Core.List.{List}
-use mathlib.Core.Path.{_≡_, refl, sym, ap, _∙_, subst}
+use Prim.Native.Nat.{_-_}
+use mathlib.Core.Path.{sym, _∙_}
 use borrow.Author.Needs.{needs}
 use Rattle.completion.proofs.predictions.complete_binary.Statement.{statement}
 use Rattle.completion.proofs.predictions.complete_binary.Tie as tie
-use Rattle.completion.proofs.predictions.complete_binary.Reads as reads
-use Rattle.completion.proofs.predictions.complete_binary.Lts as lts
-use Rattle.completion.proofs.pass.store.Reads as store-reads
-use Rattle.completion.proofs.predictions.waits.Reads as waits-reads
-use Rattle.grammar.proofs.rules.second.Reads as second-reads
 
 -- src/predictions.rt:94:9
 returns : tie.Need-returns

@@ -7,14 +7,11 @@ use Rattle.laws.specs.Turns.{over}
 use borrow.Author.Needs.{needs}
 use native.Mathlib.Omega.{arith}
 use lib.ListN.{length}
-use Prim.Native.Nat.{ℕ, _+_, _-_, _≤_, _<_}
+use Prim.Native.Nat.{ℕ, _-_, _≤_}
 use mathlib.Core.List.{List}
-use mathlib.Core.Path.{_≡_, refl, sym, ap, _∙_, subst}
+use mathlib.Core.Path.{_≡_, refl, ap, _∙_}
 use Rattle.completion.proofs.predictions.complete_binary_predictions.Statement.{statement}
 use Rattle.completion.proofs.predictions.complete_binary_predictions.Tie as tie
-use Rattle.completion.proofs.predictions.complete_binary_predictions.Reads as reads
-use Rattle.completion.proofs.predictions.complete_binary_predictions.Lts as lts
-use Rattle.completion.proofs.predictions.complete_binary.Reads as complete-binary-reads
 
 abbrev Inv-loop : tie.InvT-loop
 Inv-loop rules count items₀ rows k x now₀ r₀ items now r =

@@ -6,19 +6,11 @@ use Rattle.completion.proofs.Waiting.{rules-length, rule-second, store-
 use Rattle.completion.specs.Pass.{passOf}
 use Rattle.grammar.specs.Decoded.{rulesIn}
 use native.Mathlib.Omega.{arith}
-use lib.ListN.{length}
-use Prim.Native.Nat.{ℕ, _+_, _-_, _≤_, _<_}
-use mathlib.Core.List.{List}
-use mathlib.Core.Path.{_≡_, refl, sym, ap, _∙_, subst}
+use Prim.Native.Nat.{_-_, _<_}
+use mathlib.Core.Path.{sym, ap, _∙_, subst}
 use borrow.Author.Needs.{needs}
 use Rattle.completion.proofs.predictions.complete_unary.Statement.{statement}
 use Rattle.completion.proofs.predictions.complete_unary.Tie as tie
-use Rattle.completion.proofs.predictions.complete_unary.Reads as reads
-use Rattle.completion.proofs.predictions.complete_unary.Lts as lts
-use Rattle.completion.proofs.pass.enqueue.Reads as enqueue-reads
-use Rattle.completion.proofs.pass.store.Reads as store-reads
-use Rattle.completion.proofs.predictions.waits.Reads as waits-reads
-use Rattle.grammar.proofs.rules.second.Reads as second-reads
 
 -- src/predictions.rt:42:9
 returns : tie.Need-returns

@@ -8,14 +8,10 @@ use Rattle.laws.specs.Turns.{over}
 use borrow.Author.Needs.{needs}
 use native.Mathlib.Omega.{arith}
 use lib.ListN.{length}
-use Prim.Native.Nat.{ℕ, _+_, _-_, _≤_, _<_}
-use mathlib.Core.List.{List}
+use Prim.Native.Nat.{ℕ, _-_, _≤_}
 use mathlib.Core.Path.{_≡_, refl, sym, ap, _∙_, subst}
 use Rattle.completion.proofs.predictions.complete_unary_predictions.Statement.{statement}
 use Rattle.completion.proofs.predictions.complete_unary_predictions.Tie as tie
-use Rattle.completion.proofs.predictions.complete_unary_predictions.Reads as reads
-use Rattle.completion.proofs.predictions.complete_unary_predictions.Lts as lts
-use Rattle.completion.proofs.predictions.complete_unary.Reads as complete-unary-reads
 
 abbrev Inv-loop : tie.InvT-loop
 Inv-loop rules count items₀ rows queue₀ k x now₀ r₀ items queue now r =

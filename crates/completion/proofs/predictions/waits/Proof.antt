@@ -1,19 +1,10 @@
 use Rattle.completion.proofs.Waiting.{rules-length, rule-left, rule-first, waits-other, waits-same}
-use Rattle.completion.specs.Pass.{passOf}
 use Rattle.grammar.specs.Decoded.{rulesIn}
-use borrow.Author.Needs.{needs}
 use native.Mathlib.Omega.{arith}
-use lib.ListN.{length}
-use Prim.Native.Nat.{ℕ, _+_, _-_, _≤_, _<_}
-use mathlib.Core.List.{List}
-use mathlib.Core.Path.{_≡_, refl, sym, ap, _∙_, subst}
+use Prim.Native.Nat.{_-_}
+use mathlib.Core.Path.{_∙_}
 use Rattle.completion.proofs.predictions.waits.Statement.{statement}
 use Rattle.completion.proofs.predictions.waits.Tie as tie
-use Rattle.completion.proofs.predictions.waits.Reads as reads
-use Rattle.completion.proofs.predictions.waits.Lts as lts
-use Rattle.bits.proofs.has_at.Reads as has-at-reads
-use Rattle.grammar.proofs.rules.first.Reads as first-reads
-use Rattle.grammar.proofs.rules.left.Reads as left-reads
 
 -- src/predictions.rt:20:8
 first-requires : tie.Need-first-requires

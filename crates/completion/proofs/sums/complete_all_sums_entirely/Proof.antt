@@ -4,14 +4,10 @@ use Rattle.completion.specs.Pass.{passOf}
 use Rattle.grammar.specs.Decoded.{rulesIn}
 use native.Mathlib.Omega.{arith}
 use lib.ListN.{length}
-use Prim.Native.Nat.{ℕ, _+_, _-_, _≤_, _<_}
-use mathlib.Core.List.{List}
-use mathlib.Core.Path.{_≡_, refl, sym, ap, _∙_, subst}
+use Prim.Native.Nat.{_-_}
+use mathlib.Core.Path.{_≡_, refl, _∙_}
 use Rattle.completion.proofs.sums.complete_all_sums_entirely.Statement.{statement}
 use Rattle.completion.proofs.sums.complete_all_sums_entirely.Tie as tie
-use Rattle.completion.proofs.sums.complete_all_sums_entirely.Reads as reads
-use Rattle.completion.proofs.sums.complete_all_sums_entirely.Lts as lts
-use Rattle.completion.proofs.sums.complete_sum.Reads as complete-sum-reads
 
 abbrev Inv-loop : tie.InvT-loop
 Inv-loop rules count items₀ starts rows queue₀ now₀ items queue now =

@@ -3,27 +3,17 @@ use Rattle.completion.proofs.Charting.{steady-refl, steady-pop}
 use Rattle.completion.proofs.Waiting.{rules-length, rule-left}
 use Rattle.completion.proofs.Soundness.{has-place}
 use Rattle.completion.specs.Ready.{IsSet, Sound, Charted}
-use Rattle.completion.specs.Pass.{Pass}
 use Rattle.grammar.specs.Rules.{noRule}
 use Rattle.item.specs.Item.{HasPlace, originAt, ruleAt}
 use Rattle.completion.specs.Pass.{passOf}
 use Rattle.grammar.specs.Decoded.{leftIn, rulesIn}
 use native.Mathlib.Omega.{arith}
-use lib.ListN.{length, getD}
-use Prim.Native.Nat.{ℕ, _+_, _-_, _≤_, _<_}
-use mathlib.Core.List.{List}
-use mathlib.Core.Path.{_≡_, refl, sym, ap, _∙_, subst}
+use lib.ListN.{getD}
+use Prim.Native.Nat.{_-_, _<_}
+use mathlib.Core.Path.{_≡_, sym, ap, _∙_, subst}
 use borrow.Author.Needs.{needs}
 use Rattle.completion.proofs.sums.complete_sum.Statement.{statement}
 use Rattle.completion.proofs.sums.complete_sum.Tie as tie
-use Rattle.completion.proofs.sums.complete_sum.Reads as reads
-use Rattle.completion.proofs.sums.complete_sum.Lts as lts
-use Rattle.completion.proofs.complete.Reads as complete-reads
-use Rattle.completion.proofs.sums.pop_sum.Reads as pop-sum-reads
-use Rattle.item.proofs.wide.Reads as wide-reads
-use Rattle.grammar.proofs.rules.left.Reads as left-reads
-use Rattle.item.proofs.origin.Reads as origin-reads
-use Rattle.item.proofs.rule.Reads as rule-reads
 
 -- src/sums.rt:67:20
 slice-read-wide : tie.Need-slice-read-wide

@@ -2,18 +2,12 @@ use Rattle.completion.proofs.Summing.{popped-entry}
 use Rattle.completion.proofs.Soundness.{sound-places}
 use Rattle.binary_heap.proofs.Answers.{pop-empty-tells}
 use Rattle.completion.specs.Pass.{passOf}
-use Rattle.grammar.specs.Decoded.{leftIn, rulesIn}
 use native.Mathlib.Omega.{arith}
-use lib.ListN.{length, getD}
-use Prim.Native.Nat.{ℕ, _+_, _-_, _≤_, _<_}
-use mathlib.Core.List.{List}
-use mathlib.Core.Path.{_≡_, refl, sym, ap, _∙_, subst}
+use Prim.Native.Nat.{_-_}
+use mathlib.Core.Path.{_≡_, sym, _∙_}
 use borrow.Author.Needs.{needs}
 use Rattle.completion.proofs.sums.next_summand.Statement.{statement}
 use Rattle.completion.proofs.sums.next_summand.Tie as tie
-use Rattle.completion.proofs.sums.next_summand.Reads as reads
-use Rattle.completion.proofs.sums.next_summand.Lts as lts
-use Rattle.binary_heap.proofs.pop.Reads as pop-reads
 
 -- src/sums.rt:39:11
 pop-requires : tie.Need-pop-requires

@@ -1,5 +1,5 @@
 use Rattle.completion.specs.Pass.{Pass}
-use mathlib.Core.Bool.{true, false}
+use mathlib.Core.Bool.{false}
 use mathlib.Core.List.{[]}
 use Rattle.completion.proofs.Summing.{sum-turn, read-next}
 use Rattle.completion.proofs.Charting.{next-sound, goes-on-sum}
@@ -9,19 +9,13 @@ use Rattle.laws.proofs.Turns.{until-rests}
 use Rattle.laws.specs.Turns.{until}
 use borrow.Author.Tests.{not-true, not-false}
 use Rattle.completion.specs.Pass.{passOf}
-use Rattle.grammar.specs.Decoded.{leftIn, rulesIn}
-use borrow.Author.Needs.{needs}
+use Rattle.grammar.specs.Decoded.{rulesIn}
 use native.Mathlib.Omega.{arith}
-use lib.ListN.{length, getD}
-use Prim.Native.Nat.{ℕ, _+_, _-_, _≤_, _<_}
-use mathlib.Core.List.{List}
+use lib.ListN.{length}
+use Prim.Native.Nat.{_-_, _<_}
 use mathlib.Core.Path.{_≡_, refl, sym, ap, _∙_, subst}
 use Rattle.completion.proofs.sums.pop_sum.Statement.{statement}
 use Rattle.completion.proofs.sums.pop_sum.Tie as tie
-use Rattle.completion.proofs.sums.pop_sum.Reads as reads
-use Rattle.completion.proofs.sums.pop_sum.Lts as lts
-use Rattle.completion.proofs.sums.next_summand.Reads as next-summand-reads
-use Rattle.completion.proofs.sums.sum_ends.Reads as sum-ends-reads
 
 abbrev Inv-loop : tie.InvT-loop
 Inv-loop rules count items queue₀ k x now₀ queue now =

@@ -5,19 +5,12 @@ use Rattle.item.specs.Item.{HasPlace, originAt, ruleAt}
 use Rattle.completion.specs.Pass.{passOf}
 use Rattle.grammar.specs.Decoded.{leftIn, rulesIn}
 use native.Mathlib.Omega.{arith}
-use lib.ListN.{length, getD}
-use Prim.Native.Nat.{ℕ, _+_, _-_, _≤_, _<_}
-use mathlib.Core.List.{List}
-use mathlib.Core.Path.{_≡_, refl, sym, ap, _∙_, subst}
+use lib.ListN.{getD}
+use Prim.Native.Nat.{_-_, _<_}
+use mathlib.Core.Path.{_≡_, sym, ap, _∙_, subst}
 use borrow.Author.Needs.{needs}
 use Rattle.completion.proofs.sums.sum_ends.Statement.{statement}
 use Rattle.completion.proofs.sums.sum_ends.Tie as tie
-use Rattle.completion.proofs.sums.sum_ends.Reads as reads
-use Rattle.completion.proofs.sums.sum_ends.Lts as lts
-use Rattle.item.proofs.wide.Reads as wide-reads
-use Rattle.grammar.proofs.rules.left.Reads as left-reads
-use Rattle.item.proofs.origin.Reads as origin-reads
-use Rattle.item.proofs.rule.Reads as rule-reads
 
 -- src/sums.rt:19:9
 returns : tie.Need-returns

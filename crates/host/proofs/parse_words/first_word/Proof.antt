@@ -1,5 +1,4 @@
 -- `first_word` meets its contract: the part ends where the items do.
-use mathlib.Core.Path.{refl}
 use native.Mathlib.Omega.{arith}
 use borrow.Author.Tests.{eq-eqb, ne-eqb}
 use Rattle.host.specs.Reports.{firstWord}

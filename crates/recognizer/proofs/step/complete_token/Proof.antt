@@ -4,19 +4,11 @@ use Rattle.grammar.specs.Decoded.{rulesIn}
 use Rattle.completion.specs.Sums.{completeAllSums}
 use Rattle.completion.specs.Pending.{Pending}
 use Rattle.completion.specs.Pass.{Pass}
-use native.Mathlib.Omega.{arith}
-use lib.ListN.{length, List·getD-eq-default}
-use Prim.Native.Nat.{ℕ, _+_, _-_, _*_, _≤_, _<_}
-use mathlib.Core.Logic.{⊎-elim}
-use mathlib.Core.List.{List}
-use mathlib.Core.Path.{_≡_, refl, sym, ap, _∙_, subst}
+use Prim.Native.Nat.{_-_}
+use mathlib.Core.Path.{sym, ap, _∙_, subst}
 use borrow.Author.Needs.{needs}
 use Rattle.recognizer.proofs.step.complete_token.Statement.{statement}
 use Rattle.recognizer.proofs.step.complete_token.Tie as tie
-use Rattle.recognizer.proofs.step.complete_token.Reads as reads
-use Rattle.recognizer.proofs.step.complete_token.Lts as lts
-use Rattle.completion.proofs.complete.Reads as complete-reads
-use Rattle.completion.proofs.sums.complete_all_sums_entirely.Reads as complete-all-sums-entirely-reads
 
 -- src/step.rt:43:9
 complete-requires : tie.Need-complete-requires

@@ -1,14 +1,9 @@
-use native.Mathlib.Omega.{arith}
-use lib.ListN.{length, List·getD-eq-default}
-use Prim.Native.Nat.{ℕ, _+_, _-_, _*_, _≤_, _<_}
+use Prim.Native.Nat.{_-_}
 use mathlib.Core.Logic.{⊎-elim}
-use mathlib.Core.List.{List}
-use mathlib.Core.Path.{_≡_, refl, sym, ap, _∙_, subst}
+use mathlib.Core.Path.{sym}
 use borrow.Author.Needs.{needs}
 use Rattle.recognizer.proofs.step.full.Statement.{statement}
 use Rattle.recognizer.proofs.step.full.Tie as tie
-use Rattle.recognizer.proofs.step.full.Reads as reads
-use Rattle.recognizer.proofs.step.full.Lts as lts
 
 -- src/step.rt:75:9
 returns : tie.Need-returns

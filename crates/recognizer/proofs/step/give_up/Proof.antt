@@ -1,16 +1,10 @@
 use native.Mathlib.Nat.{le-refl}
 use native.Mathlib.Omega.{arith}
 use lib.ListN.{length, List·getD-eq-default}
-use Prim.Native.Nat.{ℕ, _+_, _-_, _*_, _≤_, _<_}
-use mathlib.Core.Logic.{⊎-elim}
-use mathlib.Core.List.{List}
-use mathlib.Core.Path.{_≡_, refl, sym, ap, _∙_, subst}
+use Prim.Native.Nat.{_-_}
 use borrow.Author.Needs.{needs}
 use Rattle.recognizer.proofs.step.give_up.Statement.{statement}
 use Rattle.recognizer.proofs.step.give_up.Tie as tie
-use Rattle.recognizer.proofs.step.give_up.Reads as reads
-use Rattle.recognizer.proofs.step.give_up.Lts as lts
-use Rattle.advance.proofs.words.clear_words.Reads as clear-words-reads
 
 -- src/step.rt:64:40
 mul-clear-words : tie.Need-mul-clear-words

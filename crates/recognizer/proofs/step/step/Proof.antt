@@ -3,7 +3,6 @@ use Rattle.recognizer.specs.Steps.{Outcome, completed}
 use Rattle.advance.specs.Ready.{Ready}
 use Rattle.advance.specs.Advance.{padded, lent, Advances}
 use Rattle.completion.specs.Pass.{passOf}
-use Rattle.parse.specs.Words.{Words}
 use Rattle.grammar.specs.Decoded.{rulesIn}
 use lib.ListN.{take}
 use Rattle.item.specs.Item.{itemWords}
@@ -16,21 +15,12 @@ use Rattle.laws.specs.Bits.{rowOf}
 use Rattle.laws.proofs.Bits.{holds-true, holds-false}
 use borrow.Author.Tests.{not-true, not-false}
 use native.Mathlib.Omega.{arith}
-use lib.ListN.{length, List·getD-eq-default}
-use Prim.Native.Nat.{ℕ, _+_, _-_, _*_, _≤_, _<_}
-use mathlib.Core.Logic.{⊎-elim}
-use mathlib.Core.List.{List}
-use mathlib.Core.Path.{_≡_, refl, sym, ap, _∙_, subst}
+use lib.ListN.{length}
+use Prim.Native.Nat.{_-_, _*_}
+use mathlib.Core.Path.{_≡_, sym, ap, _∙_, subst}
 use borrow.Author.Needs.{needs}
 use Rattle.recognizer.proofs.step.step.Statement.{statement}
 use Rattle.recognizer.proofs.step.step.Tie as tie
-use Rattle.recognizer.proofs.step.step.Reads as reads
-use Rattle.recognizer.proofs.step.step.Lts as lts
-use Rattle.advance.proofs.advance.Reads as advance-reads
-use Rattle.bits.proofs.has_at.Reads as has-at-reads
-use Rattle.recognizer.proofs.step.complete_token.Reads as complete-token-reads
-use Rattle.recognizer.proofs.step.full.Reads as full-reads
-use Rattle.recognizer.proofs.step.give_up.Reads as give-up-reads
 
 -- src/step.rt:96:9
 returns : tie.Need-returns
