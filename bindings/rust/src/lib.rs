@@ -116,6 +116,25 @@ pub struct Parse<'a> {
     state: State,
 }
 
+/// A call that may write the words: grammar, state and words as all of them take these, then what is its own.
+macro_rules! write_call {
+    ($call:ident, $parse:ident $(, $own:expr)*) => {{
+        let Parse { file, words: Lent { items, starts, rows, queue }, state } = $parse;
+        let (set, held) = (&mut state.set, &mut state.items);
+        let (i, s, r, q) = (items.as_mut_ptr(), starts.as_mut_ptr(), rows.as_mut_ptr(), queue.as_mut_ptr());
+        unsafe { raw::$call(file.as_ptr(), file.len(), set, held, i, items.len(), s, starts.len(), r, rows.len(), q, queue.len() $(, $own)*) }
+    }};
+}
+
+/// The same of a call that only reads them.
+macro_rules! read_call {
+    ($call:ident, $parse:ident $(, $own:expr)*) => {{
+        let Parse { file, words: Lent { items, starts, rows, queue }, state } = $parse;
+        let (i, s, r, q) = (items.as_ptr(), starts.as_ptr(), rows.as_ptr(), queue.as_ptr());
+        unsafe { raw::$call(file.as_ptr(), file.len(), state.set, state.items, i, items.len(), s, starts.len(), r, rows.len(), q, queue.len() $(, $own)*) }
+    }};
+}
+
 impl<'a> Parse<'a> {
     /// Starts a parse: refused 1, 2 or 3, the words are as they were.
     pub fn start(file: &'a [u8], words: Lent<'a>) -> Result<Parse<'a>, Refusal> {
@@ -131,120 +150,33 @@ impl<'a> Parse<'a> {
 
     /// Starts anew in the same words.
     pub fn restart(&mut self) -> Result<(), Refusal> {
-        let Lent { items, starts, rows, queue } = &mut self.words;
-        answer(unsafe {
-            raw::brinesaddle_start(
-                self.file.as_ptr(),
-                self.file.len(),
-                &mut self.state.set,
-                &mut self.state.items,
-                items.as_mut_ptr(),
-                items.len(),
-                starts.as_mut_ptr(),
-                starts.len(),
-                rows.as_mut_ptr(),
-                rows.len(),
-                queue.as_mut_ptr(),
-                queue.len(),
-            )
-        })
+        answer(write_call!(brinesaddle_start, self))
     }
 
     /// Reads one token. Refused, all is as it was.
     pub fn token(&mut self, token: u32) -> Result<(), Refusal> {
-        let Lent { items, starts, rows, queue } = &mut self.words;
-        answer(unsafe {
-            raw::brinesaddle_token(
-                self.file.as_ptr(),
-                self.file.len(),
-                &mut self.state.set,
-                &mut self.state.items,
-                items.as_mut_ptr(),
-                items.len(),
-                starts.as_mut_ptr(),
-                starts.len(),
-                rows.as_mut_ptr(),
-                rows.len(),
-                queue.as_mut_ptr(),
-                queue.len(),
-                token,
-            )
-        })
+        answer(write_call!(brinesaddle_token, self, token))
     }
 
     /// Reads tokens up to the first that is refused.
     pub fn run(&mut self, tokens: &[u16]) -> Ran {
-        let Lent { items, starts, rows, queue } = &mut self.words;
         let mut taken = 0;
-        let number = unsafe {
-            raw::brinesaddle_run(
-                self.file.as_ptr(),
-                self.file.len(),
-                &mut self.state.set,
-                &mut self.state.items,
-                items.as_mut_ptr(),
-                items.len(),
-                starts.as_mut_ptr(),
-                starts.len(),
-                rows.as_mut_ptr(),
-                rows.len(),
-                queue.as_mut_ptr(),
-                queue.len(),
-                tokens.as_ptr(),
-                tokens.len(),
-                &mut taken,
-            )
-        };
+        let number = write_call!(brinesaddle_run, self, tokens.as_ptr(), tokens.len(), &mut taken);
         Ran { taken, answer: answer(number) }
     }
 
     /// Whether the tokens taken since the start are a sentence.
     pub fn finished(&self) -> Result<bool, Refusal> {
-        let Lent { items, starts, rows, queue } = &self.words;
         let mut yes = 0;
-        answer(unsafe {
-            raw::brinesaddle_finished(
-                self.file.as_ptr(),
-                self.file.len(),
-                self.state.set,
-                self.state.items,
-                items.as_ptr(),
-                items.len(),
-                starts.as_ptr(),
-                starts.len(),
-                rows.as_ptr(),
-                rows.len(),
-                queue.as_ptr(),
-                queue.len(),
-                &mut yes,
-            )
-        })?;
+        answer(read_call!(brinesaddle_finished, self, &mut yes))?;
         Ok(yes == 1)
     }
 
     /// The item words of the latest set: origin and rule of each item.
     pub fn latest_set(&self) -> Result<&[u32], Refusal> {
-        let Lent { items, starts, rows, queue } = &self.words;
         let (mut first, mut count) = (0, 0);
-        answer(unsafe {
-            raw::brinesaddle_latest_set(
-                self.file.as_ptr(),
-                self.file.len(),
-                self.state.set,
-                self.state.items,
-                items.as_ptr(),
-                items.len(),
-                starts.as_ptr(),
-                starts.len(),
-                rows.as_ptr(),
-                rows.len(),
-                queue.as_ptr(),
-                queue.len(),
-                &mut first,
-                &mut count,
-            )
-        })?;
-        Ok(&items[first..first + count])
+        answer(read_call!(brinesaddle_latest_set, self, &mut first, &mut count))?;
+        Ok(&self.words.items[first..first + count])
     }
 
     pub fn state(&self) -> State {
