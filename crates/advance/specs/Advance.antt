@@ -12,7 +12,7 @@ use Rattle.grammar.specs.Rules.{Rule}
 use Rattle.parse.specs.declared.State.{State}
 use Rattle.advance.specs.declared.Advanced.{Advanced}
 use Rattle.advance.specs.NewItems.{newItems}
-use Rattle.parse.specs.Words.{Words, startOf}
+use Rattle.parse.specs.Words.{Words, padded, startOf}
 use Rattle.parse.specs.WellFormed.{secondOf}
 
 -- m: the greatest origin of the new items, or `e` if there are none.
@@ -41,10 +41,6 @@ keptRows e m rows =
 unfoldable pub predictions : List Rule → List (List ℕ) → List Item → List ℕ
 predictions rs table [] = replicate rowWords 0
 predictions rs table (i ∷ is) = union (predictions rs table is) (getD table (secondOf rs i) [])
-
--- Words, and 0 behind them up to `size` words.
-abbrev pub padded : ℕ → List ℕ → List ℕ
-padded size words = words ++ replicate (size - length words) 0
 
 -- The words before the place `from`, then items, then 0.
 abbrev pub ending : List ℕ → ℕ → List Item → List ℕ

@@ -3,18 +3,18 @@ ghost use mathlib.Core.Path.{_≡_};
 ghost use Prim.Native.Nat.{_+_, _-_, _*_, _≤_};
 ghost use lib.ListN.{length};
 ghost use Rattle.item.specs.Item.{itemWords};
-ghost use Rattle.grammar.specs.Decoded.{rulesIn};
-ghost use Rattle.parse.specs.Tells.{Clear};
+ghost use Rattle.grammar.specs.inner.Decoded.{rulesIn};
+ghost use Rattle.parse.specs.inner.Parts.{Clear};
 ghost use Rattle.advance.specs.NewItems.{itemsFrom, binary, newItems};
-ghost use Rattle.advance.specs.Order.{NeverFalls, Stored};
+ghost use Rattle.advance.specs.inner.Order.{NeverFalls, Stored};
 ghost use Rattle.advance.specs.Advance.{ending};
 use crate::sort::sort_medial_items;
-use crate::words::clear_words;
 use grammar::rules::NONE;
 use grammar::rules::Rules;
 use grammar::rules::second;
 use item::ITEM_WORDS;
 use item::wide;
+use parse::words::clear;
 
 // The place behind the last of sorted items that has a second.
 fn binary_end(rules: &Rules, count: usize, items: &[u32], from: usize, to: usize) -> usize
@@ -45,7 +45,7 @@ pub fn remove_unary_medial_items(
     ensures words { λ _. ⌜ now (items .exit) ≡ ending (now (items .entry)) from (binary (rulesIn (now (rules .entry)) count) (itemsFrom (now (items .entry)) from (to - from))) ⌝ }
 {
     let end = binary_end(rules, count, items, from, to);
-    clear_words(items, ITEM_WORDS * end, ITEM_WORDS * to);
+    clear(items, ITEM_WORDS * end, ITEM_WORDS * to);
     end
 }
 

@@ -1,10 +1,10 @@
 // Completed items by origin and left side: greatest first, and each pair is completed when its last summand has come off.
 ghost use mathlib.Core.Path.{_≡_};
 ghost use Prim.Native.Nat.{ℕ, _<_};
-ghost use Rattle.grammar.specs.Decoded.{rulesIn};
+ghost use Rattle.grammar.specs.inner.Decoded.{rulesIn};
 ghost use Rattle.completion.specs.Pass.{passOf};
-ghost use Rattle.completion.specs.Ready.{RulesFit, Rowed, Sound, Charted, RulesRead};
-ghost use Rattle.completion.specs.Pending.{Grounds, Pending};
+ghost use Rattle.completion.specs.inner.Ready.{RulesFit, Rowed, PassFits, Charted, RulesRead};
+ghost use Rattle.completion.specs.inner.Pending.{Grounds, Pending};
 ghost use Rattle.completion.specs.Sums.{sumEnds, nextSummand, popSum, completeSum, completeAllSums};
 use crate::Progress;
 use crate::complete;
@@ -40,7 +40,7 @@ fn sum_ends(
 
 // Takes the greatest entry off the queue.
 fn next_summand(items: &[u32], queue: &mut [u32], at: Progress) -> Progress
-    requires { ⌜ Sound (passOf at (now items) (now queue)) × (0 < at .queued) ⌝ }
+    requires { ⌜ PassFits (passOf at (now items) (now queue)) × (0 < at .queued) ⌝ }
     ensures { λ r. ⌜ passOf r (now (items .entry)) (now (queue .exit)) ≡ nextSummand (passOf at (now (items .entry)) (now (queue .entry))) ⌝ }
 {
     let stopped = at.stopped;
@@ -87,7 +87,7 @@ fn complete_sum(
     at: Progress,
 ) -> Progress
     requires { ⌜ RulesFit (rulesIn (now rules) count) × Rowed (now starts) (now rows) ⌝ }
-    requires { ⌜ Sound (passOf at (now items) (now queue)) × Charted (rulesIn (now rules) count) (now starts) (passOf at (now items) (now queue)) × (0 < at .queued) ⌝ }
+    requires { ⌜ PassFits (passOf at (now items) (now queue)) × Charted (rulesIn (now rules) count) (now starts) (passOf at (now items) (now queue)) × (0 < at .queued) ⌝ }
     ensures { λ r. ⌜ passOf r (now (items .exit)) (now (queue .exit)) ≡ completeSum (rulesIn (now (rules .entry)) count) (now (starts .entry)) (now (rows .entry)) (passOf at (now (items .entry)) (now (queue .entry))) ⌝ }
 {
     let top = wide(queue[0]);

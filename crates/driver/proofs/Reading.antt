@@ -5,15 +5,14 @@ use Prim.Native.Nat.{ℕ, _+_, _*_, _≤_, _<_}
 use native.Mathlib.Omega.{arith}
 use lib.ListN.{length}
 use Rattle.parse.specs.declared.State.{State}
-use Rattle.parse.specs.Words.{Words}
+use Rattle.parse.specs.Words.{Words, wordsOf}
 use Rattle.recognizer.specs.declared.Answer.{Answer}
 use Rattle.recognizer.specs.declared.Answer.the-variants.{Done}
 use Rattle.recognizer.specs.declared.Ran.{Ran}
 use Rattle.recognizer.specs.Answers.{outcomeOf, endedOf}
-use Rattle.recognizer.specs.Steps.{Ended}
-use Rattle.recognizer.specs.Calls.{asItWas, Runs}
-use Rattle.recognizer.specs.Steppable.{wordsOf}
-use Rattle.recognizer.proofs.Singles.{further, runs-join}
+use Rattle.demands.specs.Steps.{Ended}
+use Rattle.demands.specs.Calls.{asItWas, Runs}
+use Rattle.demands.proofs.Singles.{further, runs-join}
 use Rattle.driver.specs.Parts.{partTokens}
 use Rattle.driver.specs.Writes.{RunsOver}
 

@@ -9,9 +9,9 @@ use lib.ListN.{length}
 use Rattle.grammar.specs.Rules.{Grammar}
 use Rattle.parse.specs.declared.State.{State}
 use Rattle.parse.specs.Words.{Words, within}
-use Rattle.recognizer.specs.Steps.{Outcome, Ended, oneMore, stepped, ran}
-use Rattle.recognizer.specs.Calls.{Runs}
-use Rattle.recognizer.specs.Calls.Runs.{refused, done}
+use Rattle.demands.specs.Steps.{Outcome, Ended, oneMore, stepped, ran}
+use Rattle.demands.specs.Calls.{Runs}
+use Rattle.demands.specs.Calls.Runs.{refused, done}
 
 -- One token more, or a refusal, is at most one more taken.
 more-by :

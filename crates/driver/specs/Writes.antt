@@ -5,8 +5,8 @@ use mathlib.Core.List.{List, []}
 use Prim.Native.Nat.{ℕ}
 use Rattle.parse.specs.declared.State.{State}
 use Rattle.parse.specs.Words.{Words, maxItems, maxSets, maxQueued, itemRoom, setRoom, queueRoom}
-use Rattle.recognizer.specs.Steps.{Outcome, Ended}
-use Rattle.recognizer.specs.Calls.{Starts, Runs, Finishes}
+use Rattle.demands.specs.Steps.{Outcome, Ended}
+use Rattle.demands.specs.Calls.{Starts, Runs, Finishes}
 use Rattle.driver.specs.Text.{grammarHead, Line, Report}
 
 -- A run over the tokens that were read.

@@ -8,7 +8,7 @@ ghost use Prim.Native.Nat.{_≤_};
 ghost use lib.ListN.{length as lengthOf, take};
 ghost use Rattle.io.specs.Counts.{Counts};
 ghost use Rattle.recognizer.specs.Answers.{numberOf, stateOf};
-ghost use Rattle.recognizer.specs.Steppable.{wordsOf};
+ghost use Rattle.parse.specs.Words.{wordsOf};
 ghost use Rattle.driver.specs.Header.{longestFile, Within};
 ghost use Rattle.driver.specs.Text.{textRoom};
 ghost use Rattle.driver.specs.Writes.{SaysFinished, Followed, Recognized, Answered, Written};

@@ -6,10 +6,10 @@ use native.Mathlib.Omega.{arith}
 use native.Mathlib.Decide.{ℕ-discrete}
 use lib.ListN.{length}
 use Rattle.grammar.specs.Accepted.{Accepted, maxRules}
-use Rattle.grammar.specs.Decoded.{grammarIn}
+use Rattle.grammar.specs.inner.Decoded.{grammarIn, Decodes}
 use Rattle.grammar.specs.File.{Malformed, grammarOf, symbolsOf, tokensOf, ruleCountOf, headerBytes, ruleBytes}
-use Rattle.grammar.specs.Checking.{Sized}
-use Rattle.grammar.specs.Answers.{Verdict, Decodes, numberOf}
+use Rattle.grammar.specs.inner.Checking.{Sized}
+use Rattle.grammar.specs.Answers.{Verdict, numberOf}
 use Rattle.grammar.specs.declared.Checked.{Checked}
 use Rattle.grammar.specs.declared.Checked.the-variants as answer
 use Rattle.grammar.proofs.Decoding.{of-count, holds-agree}

@@ -4,7 +4,7 @@ ghost use Prim.Native.Nat.{_+_, _*_, _≤_, _<_};
 ghost use lib.ListN.{length};
 ghost use Rattle.grammar.specs.Accepted.{maxRules};
 ghost use Rattle.grammar.specs.File.{headerBytes, ruleBytes, ruleCountOf};
-ghost use Rattle.grammar.specs.Decoded.{leftIn, firstIn, secondIn, HoldsRules};
+ghost use Rattle.grammar.specs.inner.Decoded.{leftIn, firstIn, secondIn, HoldsRules};
 use crate::file::HEADER;
 use crate::file::RULE;
 use crate::file::rule_count;

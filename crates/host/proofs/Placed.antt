@@ -9,8 +9,8 @@ use Rattle.item.specs.Item.{itemWords}
 use Rattle.grammar.specs.Rules.{Grammar}
 use Rattle.parse.specs.declared.State.{State}
 use Rattle.parse.specs.Words.{Words, within, startOf, itemRoom}
-use Rattle.recognizer.specs.Steps.{latestPart}
-use Rattle.recognizer.specs.Calls.{FileFault, CallFault, Formed, Reports}
+use Rattle.demands.specs.Steps.{latestPart}
+use Rattle.demands.specs.Calls.{FileFault, CallFault, Formed, Reports}
 use Rattle.host.specs.Reports.{ReportsIn, PartFits, firstWord}
 
 -- A fault has a number that is not 0.

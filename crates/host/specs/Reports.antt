@@ -9,7 +9,7 @@ use Rattle.grammar.specs.Rules.{Grammar}
 use Rattle.parse.specs.declared.State.{State}
 use Rattle.parse.specs.Words.{Words, within, startOf, maxItems}
 use Rattle.node.specs.Choice.{pick}
-use Rattle.recognizer.specs.Calls.{CallFault, Formed, Finishes}
+use Rattle.demands.specs.Calls.{CallFault, Formed, Finishes}
 
 -- Finished: its number, and 1 for yes and 0 for no.
 pub data FinishesIn (file : List ℕ) (s : State) (w : Words) : ℕ → ℕ → Type 0 where

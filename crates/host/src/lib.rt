@@ -2,9 +2,9 @@
 // of a parse is two words of the host, the set number and the item count. include/brinesaddle.h describes each call for a host.
 ghost use mathlib.Core.Path.{_≡_};
 ghost use Rattle.grammar.specs.Answers.{Verdict};
-ghost use Rattle.recognizer.specs.Calls.{Starts, Takes, Runs};
-ghost use Rattle.recognizer.specs.Sentences.{TokenTells, RunTells, FinishedTells};
-ghost use Rattle.recognizer.specs.Steppable.{wordsOf};
+ghost use Rattle.demands.specs.Calls.{Starts, Takes, Runs};
+ghost use Rattle.demands.specs.Sentences.{TokenTells, RunTells, FinishedTells};
+ghost use Rattle.parse.specs.Words.{wordsOf};
 ghost use Rattle.node.specs.Reading.{readAt};
 ghost use Rattle.node.specs.Walking.{walkAt};
 ghost use Rattle.host.specs.Answers.{stateIn, outcomeIn, endedIn};

@@ -6,7 +6,7 @@ ghost use Prim.Native.Nat.{_+_, _≤_, min};
 ghost use lib.ListN.{length};
 ghost use lib.Dec.{leb};
 ghost use Rattle.node.specs.Answers.{written};
-ghost use Rattle.node.specs.Writing.{Outcome, put, usableUnits, writeUnits};
+ghost use Rattle.node.specs.Writing.{StoreOutcome, put, usableUnits, writeUnits};
 ghost use Rattle.node.specs.Rows.{listOf};
 use crate::Units;
 use crate::Written;

@@ -6,9 +6,9 @@ mod within;
 
 ghost use mathlib.Core.Path.{_≡_};
 ghost use Rattle.recognizer.specs.Answers.{refusalNumber, numberOf, outcomeOf, endedOf, finishedNumber, saysYes};
-ghost use Rattle.recognizer.specs.Calls.{Starts, Takes, Runs, Finishes, Reports};
-ghost use Rattle.recognizer.specs.Steppable.{wordsOf};
-ghost use Rattle.recognizer.specs.Sentences.{TokenTells, RunTells, FinishedTells};
+ghost use Rattle.demands.specs.Calls.{Starts, Takes, Runs, Finishes, Reports};
+ghost use Rattle.parse.specs.Words.{wordsOf};
+ghost use Rattle.demands.specs.Sentences.{TokenTells, RunTells, FinishedTells};
 use crate::file::Opened;
 use crate::file::open;
 use crate::within::begin;

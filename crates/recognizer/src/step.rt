@@ -4,20 +4,20 @@ ghost use Prim.Native.Nat.{_*_, _≤_, _<_};
 ghost use lib.ListN.{length, replicate, take};
 ghost use Rattle.item.specs.Item.{itemWords};
 ghost use Rattle.completion.specs.Pass.{passOf};
-ghost use Rattle.advance.specs.Advance.{padded};
-ghost use Rattle.recognizer.specs.Steps.{completed, stepped};
+ghost use Rattle.demands.specs.Steps.{completed, stepped};
 ghost use Rattle.recognizer.specs.Answers.{refusalNumber, outcomeOf};
-ghost use Rattle.recognizer.specs.Steppable.{grammarFrom, wordsOf, Steppable, FullAt};
+ghost use Rattle.parse.specs.Words.{wordsOf, padded};
+ghost use Rattle.recognizer.specs.inner.Steppable.{grammarFrom, Steppable, FullAt};
 use crate::Answer;
 use crate::Refusal;
 use crate::Sizes;
 use advance::Advanced;
-use advance::predict::Table;
 use completion::Progress;
 use completion::pass::ITEMS_FULL;
 use grammar::rules::Rules;
 use item::ITEM_WORDS;
 use parse::State;
+use prediction::Table;
 
 // Steps 2 and 3: completes the latest set and the token, and then sum after sum.
 fn complete_token(
@@ -61,9 +61,9 @@ fn give_up(items: &mut [u32], queue: &mut [u32], stored: usize)
     ensures queue { λ _. ⌜ now (queue .exit) ≡ padded (length (now (queue .entry))) (take 0 (now (queue .entry))) ⌝ }
 {
     let item_words = items.len();
-    advance::words::clear_words(items, ITEM_WORDS * stored, item_words);
+    parse::words::clear(items, ITEM_WORDS * stored, item_words);
     let entries = queue.len();
-    advance::words::clear_words(queue, 0, entries);
+    parse::words::clear(queue, 0, entries);
 }
 
 // The refusal of the push that a pass met.

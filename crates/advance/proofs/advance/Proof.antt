@@ -30,8 +30,8 @@ add-if1 c =
       c .before .before .before .before .before .before .before .before .before .before .pre .set-fits,
     )
 
-mul-clear-words : tie.Need-mul-clear-words
-mul-clear-words c =
+mul-clear : tie.Need-mul-clear
+mul-clear c =
     omega (
       arith,
       clear-asks _ _ _ _ _ _ (c .before .before .before .before .before .before .before .before .before .before .before .before .pre) _ _
@@ -39,8 +39,8 @@ mul-clear-words c =
           (c .before .before .before .before .before .before .before .new-items .ensures .1) .0,
     )
 
-mul-clear-words-2 : tie.Need-mul-clear-words-2
-mul-clear-words-2 c =
+mul-clear-2 : tie.Need-mul-clear-2
+mul-clear-2 c =
     omega (
       arith,
       clear-asks _ _ _ _ _ _ (c .before .before .before .before .before .before .before .before .before .before .before .before .pre) _ _
@@ -48,14 +48,14 @@ mul-clear-words-2 c =
           (c .before .before .before .before .before .before .before .new-items .ensures .1) .1,
     )
 
-clear-words-requires : tie.Need-clear-words-requires
-clear-words-requires c κs =
+clear-requires : tie.Need-clear-requires
+clear-requires c κs =
     clear-asks _ _ _ _ _ _ (c .before .before .before .before .before .before .before .before .before .before .before .before .pre) _ _
     (c .before .before .before .before .before .before .before .new-items .ensures .0)
     (c .before .before .before .before .before .before .before .new-items .ensures .1)
 
 same-length : tie.Need-same-length
-same-length c = c .before .before .clear-words .kept .0 ∙ c .before .before .before .before .before .before .before .before .before .before .new-items .kept .1 .1 .0
+same-length c = c .before .before .clear .kept .0 ∙ c .before .before .before .before .before .before .before .before .before .before .new-items .kept .1 .1 .0
 
 returns : tie.Need-returns
 returns c =
@@ -64,7 +64,7 @@ returns c =
     (c .before .before .before .before .before .before .before .before .before .before .new-items .ensures .0)
     (c .before .before .before .before .before .before .before .before .before .before .new-items .ensures .1) _
     (c .before .before .before .before .before .before .greatest-origin .ensures) _ (c .before .before .before .before .before .last-kept .ensures)
-    (c .before .before .before .before .if1 .taken) (c .before .before .clear-words .ensures)
+    (c .before .before .before .before .if1 .taken) (c .before .before .clear .ensures)
 
 next-set-requires : tie.Need-next-set-requires
 next-set-requires c κs =
@@ -104,9 +104,9 @@ advance-spec =
     greatest-origin-requires
     last-kept-requires
     add-if1
-    mul-clear-words
-    mul-clear-words-2
-    clear-words-requires
+    mul-clear
+    mul-clear-2
+    clear-requires
     same-length
     returns
     next-set-requires

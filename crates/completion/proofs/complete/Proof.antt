@@ -1,11 +1,11 @@
 use Rattle.completion.proofs.Pairs.{complete-passed, complete-parts, has-row, medials-sound}
 use Rattle.completion.proofs.Waiting.{rules-length}
-use Rattle.completion.specs.Ready.{Sound}
+use Rattle.completion.specs.inner.Ready.{PassFits}
 use Rattle.completion.specs.Complete.{completeUnaryPredictions, completeBinaryPredictions}
 use Rattle.completion.specs.Pass.{Pass}
 use borrow.Author.Tests.{not-true, not-false}
 use Rattle.completion.specs.Pass.{passOf}
-use Rattle.grammar.specs.Decoded.{rulesIn}
+use Rattle.grammar.specs.inner.Decoded.{rulesIn}
 use native.Mathlib.Omega.{arith}
 use Prim.Native.Nat.{_-_}
 use mathlib.Core.Path.{sym, ap, _∙_, subst}
@@ -43,7 +43,7 @@ complete-unary-predictions-requires c κs =
     let a = c .before .before .before .before .before .before .before .before .before .before .before .before .before .args in
     let rs = rulesIn (a .rules .now) (a .count) in
     let s = passOf (a .at) (a .items .now) (a .queue .now) in
-    (c .before .before .before .before .before .before .before .before .before .before .before .before .before .pre .0 .0, has-row (a .starts .now) (a .rows .now) (a .k) (c .before .before .before .before .before .before .before .before .before .before .before .before .before .pre .0 .1) (c .before .before .before .before .before .before .before .before .before .before .before .before .before .pre .1 .0 .0), subst Sound (sym (c .before .before .before .before .complete-medial-items .ensures)) (medials-sound rs (a .starts .now) (a .k) (a .x) s (c .before .before .before .before .before .before .before .before .before .before .before .before .before .pre .1 .1 .0) (c .before .before .before .before .before .before .before .before .before .before .before .before .before .pre .1 .1 .1)))
+    (c .before .before .before .before .before .before .before .before .before .before .before .before .before .pre .0 .0, has-row (a .starts .now) (a .rows .now) (a .k) (c .before .before .before .before .before .before .before .before .before .before .before .before .before .pre .0 .1) (c .before .before .before .before .before .before .before .before .before .before .before .before .before .pre .1 .0 .0), subst PassFits (sym (c .before .before .before .before .complete-medial-items .ensures)) (medials-sound rs (a .starts .now) (a .k) (a .x) s (c .before .before .before .before .before .before .before .before .before .before .before .before .before .pre .1 .1 .0) (c .before .before .before .before .before .before .before .before .before .before .before .before .before .pre .1 .1 .1)))
 
 -- src/lib.rt:56:5
 complete-binary-predictions-requires : tie.Need-complete-binary-predictions-requires

@@ -1,5 +1,5 @@
 -- `brinesaddle_run` meets its contract: what the call beneath answers, in the host's words.
-use Rattle.recognizer.proofs.Telling.{run-means}
+use Rattle.demands.proofs.Telling.{run-means}
 use Rattle.host.proofs.Telling.{runs-told}
 use borrow.Author.Needs.{needs}
 use Rattle.host.proofs.brinesaddle_run.Statement.{statement}

@@ -1,5 +1,5 @@
 -- `brinesaddle_token` meets its contract: what the call beneath answers, in the host's words, for numbers past a u16 too.
-use Rattle.recognizer.proofs.Telling.{token-means}
+use Rattle.demands.proofs.Telling.{token-means}
 use Rattle.host.proofs.Telling.{takes-told}
 use borrow.Author.Needs.{needs}
 use Rattle.host.proofs.brinesaddle_token.Statement.{statement}

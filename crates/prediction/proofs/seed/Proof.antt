@@ -1,6 +1,6 @@
 -- `prediction::seed` meets its contract. The invariant, `Seeded`: the table of the symbols and rules passed.
 use Rattle.bits.specs.Width.{rowWords}
-use Rattle.prediction.specs.Tables.{Seeded}
+use Rattle.prediction.specs.inner.Tables.{Seeded}
 use Rattle.prediction.proofs.Cells.{seeded-none, seeded-own, seeded-first, seeded-at}
 use borrow.Author.Needs.{needs}
 use native.Mathlib.Omega.{arith}

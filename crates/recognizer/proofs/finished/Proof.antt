@@ -1,9 +1,9 @@
 -- `recognizer::finished` meets its contract.
 use borrow.Author.Needs.{needs}
-use Rattle.recognizer.specs.Calls.{CallFault, Finishes}
-use Rattle.recognizer.specs.Steppable.{wordsOf}
+use Rattle.demands.specs.Calls.{CallFault, Finishes}
+use Rattle.parse.specs.Words.{wordsOf}
 use Rattle.recognizer.proofs.Readying.{opened-fault, opened-sound, sound-few, told-ill-formed, told-formed, finishes-with}
-use Rattle.recognizer.proofs.Telling.{finished-means}
+use Rattle.demands.proofs.Telling.{finished-means}
 use Rattle.recognizer.proofs.Cutting.{latest-there}
 use Rattle.recognizer.proofs.finished.Statement.{statement}
 use Rattle.recognizer.proofs.finished.Tie as tie

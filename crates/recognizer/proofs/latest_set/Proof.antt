@@ -1,7 +1,7 @@
 -- `recognizer::latest_set` meets its contract.
 use borrow.Author.Needs.{needs}
-use Rattle.recognizer.specs.Calls.{CallFault}
-use Rattle.recognizer.specs.Steppable.{wordsOf}
+use Rattle.demands.specs.Calls.{CallFault}
+use Rattle.parse.specs.Words.{wordsOf}
 use Rattle.recognizer.proofs.Readying.{opened-fault, opened-sound, sound-few, told-ill-formed, told-formed, reports-with, reports-refused}
 use Rattle.recognizer.proofs.Cutting.{latest-there}
 use Rattle.recognizer.proofs.latest_set.Statement.{statement}

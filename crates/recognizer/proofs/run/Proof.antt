@@ -1,11 +1,11 @@
 -- `recognizer::run` meets its contract.
 use mathlib.Core.Path.{refl}
 use Rattle.prediction.proofs.Reaching.{accepted-within}
-use Rattle.recognizer.specs.Calls.{CallFault, Runs}
-use Rattle.recognizer.specs.Steppable.{wordsOf}
+use Rattle.demands.specs.Calls.{CallFault, Runs}
+use Rattle.parse.specs.Words.{wordsOf}
 use Rattle.recognizer.proofs.Readying.{opened-fault, opened-sound, sound-few, sound-checked, told-ill-formed, told-formed}
 use Rattle.recognizer.proofs.Given.{can-step, runs}
-use Rattle.recognizer.proofs.Telling.{run-means}
+use Rattle.demands.proofs.Telling.{run-means}
 use Rattle.recognizer.proofs.run.Statement.{statement}
 use Rattle.recognizer.proofs.run.Tie as tie
 

@@ -3,8 +3,8 @@ use mathlib.Core.Path.{refl, sym, _∙_}
 use native.Mathlib.Omega.{arith}
 use borrow.Author.Needs.{needs}
 use Rattle.prediction.proofs.Reaching.{accepted-within}
-use Rattle.recognizer.specs.Calls.{Starts, StartFault}
-use Rattle.recognizer.specs.Steppable.{wordsOf}
+use Rattle.demands.specs.Calls.{Starts, StartFault}
+use Rattle.parse.specs.Words.{wordsOf}
 use Rattle.recognizer.proofs.Beginning.{wrapper-row, starts-done}
 use Rattle.recognizer.proofs.Readying.{opened-fault, opened-sound, sound-few, sound-checked}
 use Rattle.recognizer.proofs.start.Statement.{statement}

@@ -1,11 +1,11 @@
 -- `recognizer::token` meets its contract.
 use mathlib.Core.Path.{refl}
 use Rattle.prediction.proofs.Reaching.{accepted-within}
-use Rattle.recognizer.specs.Calls.{CallFault, Takes}
-use Rattle.recognizer.specs.Steppable.{wordsOf}
+use Rattle.demands.specs.Calls.{CallFault, Takes}
+use Rattle.parse.specs.Words.{wordsOf}
 use Rattle.recognizer.proofs.Readying.{opened-fault, opened-sound, sound-few, sound-checked, told-ill-formed, told-formed}
 use Rattle.recognizer.proofs.Given.{can-step, takes}
-use Rattle.recognizer.proofs.Telling.{token-means}
+use Rattle.demands.proofs.Telling.{token-means}
 use Rattle.recognizer.proofs.token.Statement.{statement}
 use Rattle.recognizer.proofs.token.Tie as tie
 

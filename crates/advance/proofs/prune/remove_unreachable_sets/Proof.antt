@@ -31,14 +31,14 @@ move-items-requires c κs = (
   c .before .before .before .before .before .before .before .pre .spare-items,
 )
 
-add-clear-words : tie.Need-add-clear-words
-add-clear-words c = search needs
+add-clear : tie.Need-add-clear
+add-clear c = search needs
 
-add-clear-words-2 : tie.Need-add-clear-words-2
-add-clear-words-2 c = search needs
+add-clear-2 : tie.Need-add-clear-2
+add-clear-2 c = search needs
 
-clear-words-requires : tie.Need-clear-words-requires
-clear-words-requires c κs = search needs
+clear-requires : tie.Need-clear-requires
+clear-requires c κs = search needs
 
 add-clear-rows : tie.Need-add-clear-rows
 add-clear-rows c = search needs
@@ -59,7 +59,7 @@ same-length : tie.Need-same-length
 same-length c = c .before .before .before .before .before .before .before .before .before .before .move-items .kept .0
 
 same-length-2 : tie.Need-same-length-2
-same-length-2 c = c .before .before .before .before .before .before .clear-words .kept .0
+same-length-2 c = c .before .before .before .before .before .before .clear .kept .0
 
 same-length-3 : tie.Need-same-length-3
 same-length-3 c = c .before .before .clear-rows .kept .0
@@ -71,7 +71,7 @@ returns-2 c =
     (c .before .before .before .before .before .before .before .before .before .before .before .before .before .before .if1 .left)
     (c .before .before .before .before .before .before .before .before .before .before .before .before .wide .ensures)
     (c .before .before .before .before .before .before .before .before .before .before .move-items .ensures)
-    (c .before .before .before .before .before .before .clear-words .ensures) (c .before .before .clear-rows .ensures)
+    (c .before .before .before .before .before .before .clear .ensures) (c .before .before .clear-rows .ensures)
 
 pub remove-unreachable-sets-spec : {M : Type 1} → statement M
 remove-unreachable-sets-spec =
@@ -84,9 +84,9 @@ remove-unreachable-sets-spec =
     slice-read-wide
     wide-requires
     move-items-requires
-    add-clear-words
-    add-clear-words-2
-    clear-words-requires
+    add-clear
+    add-clear-2
+    clear-requires
     add-clear-rows
     mul-clear-rows
     add-clear-rows-2

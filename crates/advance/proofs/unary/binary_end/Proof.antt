@@ -5,7 +5,7 @@ use native.Mathlib.Omega.{arith}
 use denote.Ref.{now}
 use borrow.Author.Needs.{needs}
 use Rattle.item.specs.Item.{itemAt}
-use Rattle.grammar.specs.Decoded.{rulesIn}
+use Rattle.grammar.specs.inner.Decoded.{rulesIn}
 use Rattle.parse.specs.WellFormed.{secondOf}
 use Rattle.advance.proofs.Placing.{Narrow}
 use Rattle.advance.proofs.Dropping.{Dropping, dropping-start, dropping-next, dropping-ends, second-read}

@@ -1,10 +1,10 @@
 use Rattle.completion.proofs.Searching.{queueing, set-searchable, medial-found, queueing-sound}
-use Rattle.completion.specs.Ready.{Sound}
+use Rattle.completion.specs.inner.Ready.{PassFits}
 use Rattle.completion.specs.Pass.{Pass}
 use Rattle.laws.proofs.Turns.{over-next, over-none}
 use Rattle.laws.specs.Turns.{over}
 use Rattle.completion.specs.Pass.{passOf}
-use Rattle.grammar.specs.Decoded.{rulesIn}
+use Rattle.grammar.specs.inner.Decoded.{rulesIn}
 use borrow.Author.Needs.{needs}
 use native.Mathlib.Omega.{arith}
 use lib.ListN.{length}
@@ -80,7 +80,7 @@ enqueue-requires c κs =
     let first = c .before .before .before .medial-item-set-range .result .first in
     let number = c .before .before .before .medial-item-set-range .result .number in
     let known = queueing-sound first number (l .i) s (c .before .before .before .before .before .before .before .before .before .pre .1 .0) (omega (arith, f .up-to, c .before .before .before .before .before .before .before .before .before .pre .1 .1 .starts-fit (a .k + 1))) (l .inv .0) in (
-      subst Sound (sym (l .inv .1)) (known .0),
+      subst PassFits (sym (l .inv .1)) (known .0),
       λ on. subst (λ (u : Pass). first + l .i < u .at .items) (sym (l .inv .1)) (omega (arith, known .1, c .before .loop-test .taken, f .up-to, c .before .before .before .before .before .before .before .before .before .pre .1 .1 .starts-fit (a .k + 1))),
     )
 

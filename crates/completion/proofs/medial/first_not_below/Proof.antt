@@ -1,9 +1,9 @@
 use Rattle.completion.proofs.Searching.{second-read}
 use Rattle.completion.proofs.Waiting.{rules-length}
 use Rattle.item.specs.Item.{ruleAt}
-use Rattle.completion.specs.Search.{secondAt}
+use Rattle.completion.specs.inner.Search.{secondAt}
 use borrow.Author.Count.{below-more}
-use Rattle.grammar.specs.Decoded.{rulesIn}
+use Rattle.grammar.specs.inner.Decoded.{rulesIn}
 use borrow.Author.Needs.{needs}
 use native.Mathlib.Omega.{arith}
 use Prim.Native.Nat.{ℕ, _-_, _≤_, _<_}

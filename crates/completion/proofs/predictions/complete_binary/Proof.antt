@@ -1,7 +1,7 @@
 use borrow.Author.Tests.{not-true, not-false}
 use Rattle.completion.proofs.Waiting.{rules-length, rule-second, binary-stopped, binary-one, binary-passed, binary-waits}
 use Rattle.completion.specs.Pass.{passOf}
-use Rattle.grammar.specs.Decoded.{rulesIn}
+use Rattle.grammar.specs.inner.Decoded.{rulesIn}
 use native.Mathlib.Omega.{arith}
 use Prim.Native.Nat.{_-_}
 use mathlib.Core.Path.{sym, _∙_}

@@ -1,7 +1,7 @@
 use Rattle.completion.proofs.Waiting.{rules-length}
 use Rattle.completion.specs.Complete.{completeBinary, completeBinaryPredictions}
 use Rattle.completion.specs.Pass.{passOf}
-use Rattle.grammar.specs.Decoded.{rulesIn}
+use Rattle.grammar.specs.inner.Decoded.{rulesIn}
 use Rattle.laws.proofs.Turns.{over-next, over-none}
 use Rattle.laws.specs.Turns.{over}
 use borrow.Author.Needs.{needs}

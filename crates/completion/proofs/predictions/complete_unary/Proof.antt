@@ -1,10 +1,10 @@
 use borrow.Author.Tests.{not-true, not-false}
 use Rattle.completion.proofs.Soundness.{store-sound}
-use Rattle.completion.specs.Ready.{Sound}
+use Rattle.completion.specs.inner.Ready.{PassFits}
 use Rattle.completion.specs.Pass.{Pass, andThen, enqueue}
 use Rattle.completion.proofs.Waiting.{rules-length, rule-second, store-place, unary-stopped, unary-two, unary-passed, unary-waits}
 use Rattle.completion.specs.Pass.{passOf}
-use Rattle.grammar.specs.Decoded.{rulesIn}
+use Rattle.grammar.specs.inner.Decoded.{rulesIn}
 use native.Mathlib.Omega.{arith}
 use Prim.Native.Nat.{_-_, _<_}
 use mathlib.Core.Path.{sym, ap, _∙_, subst}
@@ -58,7 +58,7 @@ enqueue-requires c κs =
     let rs = rulesIn (a .rules .now) (a .count) in
     let s = passOf (a .at) (a .items .now) (a .queue .now) in
     let stored = c .before .before .before .before .store .ensures (a .queue .now) in (
-      subst Sound (sym stored) (store-sound (a .k) (a .r) s (c .before .before .before .before .before .before .before .before .before .before .before .before .before .before .before .pre .3)),
+      subst PassFits (sym stored) (store-sound (a .k) (a .r) s (c .before .before .before .before .before .before .before .before .before .before .before .before .before .before .before .pre .3)),
       λ on. subst (λ (u : Pass). a .at .items < u .at .items) (sym stored) (store-place (a .k) (a .r) s (ap (λ (u : Pass). u .at .stopped) (sym stored) ∙ on)),
     )
 

@@ -1,8 +1,8 @@
 use Rattle.completion.proofs.Waiting.{rules-length, unaries-sound}
-use Rattle.completion.specs.Ready.{Sound}
+use Rattle.completion.specs.inner.Ready.{PassFits}
 use Rattle.completion.specs.Complete.{completeUnary, completeUnaryPredictions}
 use Rattle.completion.specs.Pass.{passOf}
-use Rattle.grammar.specs.Decoded.{rulesIn}
+use Rattle.grammar.specs.inner.Decoded.{rulesIn}
 use Rattle.laws.proofs.Turns.{over-next, over-none}
 use Rattle.laws.specs.Turns.{over}
 use borrow.Author.Needs.{needs}
@@ -33,7 +33,7 @@ complete-unary-requires c κs =
     let a = c .before .before .before .before .before .before .before .args in
     let rs = rulesIn (a .rules .now) (a .count) in
     let l = c .before .before .before .loop in
-    (c .before .before .before .before .before .before .before .pre .0, c .before .before .before .before .before .before .before .pre .1, c .before .before .loop-test .taken, subst Sound (sym (l .inv .1)) (unaries-sound rs (a .rows .now) (a .k) (a .x) (l .r) (passOf (a .at) (a .items .now) (a .queue .now)) (c .before .before .before .before .before .before .before .pre .2)))
+    (c .before .before .before .before .before .before .before .pre .0, c .before .before .before .before .before .before .before .pre .1, c .before .before .loop-test .taken, subst PassFits (sym (l .inv .1)) (unaries-sound rs (a .rows .now) (a .k) (a .x) (l .r) (passOf (a .at) (a .items .now) (a .queue .now)) (c .before .before .before .before .before .before .before .pre .2)))
 
 -- src/predictions.rt:73:9
 add-r : tie.Need-add-r Inv-loop μ-loop

@@ -1,7 +1,7 @@
 use Rattle.completion.proofs.Remaining.{Remaining, remaining-start, remaining-turn, remaining-falls, remaining-stopped, remaining-empty}
 use Rattle.completion.proofs.Pending.{left}
 use Rattle.completion.specs.Pass.{passOf}
-use Rattle.grammar.specs.Decoded.{rulesIn}
+use Rattle.grammar.specs.inner.Decoded.{rulesIn}
 use native.Mathlib.Omega.{arith}
 use lib.ListN.{length}
 use Prim.Native.Nat.{_-_}

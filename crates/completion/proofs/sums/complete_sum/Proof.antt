@@ -2,11 +2,11 @@ use Rattle.completion.proofs.Summing.{sum-is}
 use Rattle.completion.proofs.Charting.{steady-refl, steady-pop}
 use Rattle.completion.proofs.Waiting.{rules-length, rule-left}
 use Rattle.completion.proofs.Soundness.{has-place}
-use Rattle.completion.specs.Ready.{IsSet, Sound, Charted}
+use Rattle.completion.specs.inner.Ready.{IsSet, PassFits, Charted}
 use Rattle.grammar.specs.Rules.{noRule}
 use Rattle.item.specs.Item.{HasPlace, originAt, ruleAt}
 use Rattle.completion.specs.Pass.{passOf}
-use Rattle.grammar.specs.Decoded.{leftIn, rulesIn}
+use Rattle.grammar.specs.inner.Decoded.{leftIn, rulesIn}
 use native.Mathlib.Omega.{arith}
 use lib.ListN.{getD}
 use Prim.Native.Nat.{_-_, _<_}
@@ -83,7 +83,7 @@ complete-requires c κs =
       c .before .before .before .before .before .before .before .before .before .before .before .before .before .before .before .before .before .before .before .before .pre .0,
       (
         (subst (IsSet (a .starts .now)) (sym set) (c .before .before .before .before .before .before .before .before .before .before .before .before .before .before .before .before .before .before .before .before .pre .1 .1 .origins top there), omega (arith, symbol, c .before .before .before .before .before .before .before .before .before .before .before .before .before .before .before .before .before .before .before .before .pre .0 .0 .lefts (ruleAt (a .items .now) top))),
-        (subst Sound (sym (c .before .before .before .before .pop-sum .ensures)) (popped .sound), subst (Charted rs (a .starts .now)) (sym (c .before .before .before .before .pop-sum .ensures)) (popped .charted)),
+        (subst PassFits (sym (c .before .before .before .before .pop-sum .ensures)) (popped .sound), subst (Charted rs (a .starts .now)) (sym (c .before .before .before .before .pop-sum .ensures)) (popped .charted)),
       ),
     )
 

@@ -4,12 +4,12 @@ use mathlib.Core.List.{[]}
 use Rattle.completion.proofs.Summing.{sum-turn, read-next}
 use Rattle.completion.proofs.Charting.{next-sound, goes-on-sum}
 use Rattle.completion.specs.Sums.{sumEnds, nextSummand, popSum}
-use Rattle.completion.specs.Ready.{RulesRead}
+use Rattle.completion.specs.inner.Ready.{RulesRead}
 use Rattle.laws.proofs.Turns.{until-rests}
 use Rattle.laws.specs.Turns.{until}
 use borrow.Author.Tests.{not-true, not-false}
 use Rattle.completion.specs.Pass.{passOf}
-use Rattle.grammar.specs.Decoded.{rulesIn}
+use Rattle.grammar.specs.inner.Decoded.{rulesIn}
 use native.Mathlib.Omega.{arith}
 use lib.ListN.{length}
 use Prim.Native.Nat.{_-_, _<_}

@@ -3,7 +3,7 @@ use Rattle.completion.proofs.Waiting.{rules-length, rule-left}
 use Rattle.completion.proofs.Soundness.{has-place}
 use Rattle.item.specs.Item.{HasPlace, originAt, ruleAt}
 use Rattle.completion.specs.Pass.{passOf}
-use Rattle.grammar.specs.Decoded.{leftIn, rulesIn}
+use Rattle.grammar.specs.inner.Decoded.{leftIn, rulesIn}
 use native.Mathlib.Omega.{arith}
 use lib.ListN.{getD}
 use Prim.Native.Nat.{_-_, _<_}

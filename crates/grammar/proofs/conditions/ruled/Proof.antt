@@ -1,7 +1,7 @@
 -- `grammar::conditions::ruled` meets its contract. The invariant: every rule passed is as asked.
 use Rattle.laws.proofs.Decides.{says-yes, says-no}
 use borrow.Author.Tests.{not-true, not-false}
-use Rattle.grammar.specs.Checking.{Ruled}
+use Rattle.grammar.specs.inner.Checking.{Ruled}
 use Rattle.grammar.proofs.Asked.{ruled-none, ruled-more, ruled-last}
 use borrow.Author.Needs.{needs}
 use native.Mathlib.Omega.{arith}

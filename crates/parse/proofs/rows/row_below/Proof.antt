@@ -3,7 +3,7 @@ use Prim.Native.Nat.{_-_, _≤_}
 use native.Mathlib.Omega.{arith}
 use borrow.Author.Needs.{needs}
 use Rattle.bits.specs.Width.{rowWords}
-use Rattle.parse.proofs.Telling.{holds, part-fails, passes}
+use Rattle.laws.proofs.Decides.{says-yes, part-fails, passes}
 use Rattle.parse.proofs.Below.{WordIn, words-below, below-words}
 use Rattle.parse.proofs.Passing.{Passed, none-passed, one-passed}
 use Rattle.parse.proofs.rows.row_below.Statement.{statement}
@@ -51,7 +51,7 @@ loop-again c = (one-passed _ 0 _ (c .before .before .before .before .loop .inv .
 returns-2 : tie.Need-returns-2 Inv-loop μ-loop
 returns-2 c =
     let args = c .before .before .before .args in
-    holds (words-below rowWords (args .symbols) (args .rows .now) (args .k) (λ i l. c .before .loop .inv .0 .each i (omega arith) (omega arith)))
+    says-yes (words-below rowWords (args .symbols) (args .rows .now) (args .k) (λ i l. c .before .loop .inv .0 .each i (omega arith) (omega arith)))
 
 pub row-below-spec : {M : Type 1} → statement M
 row-below-spec =

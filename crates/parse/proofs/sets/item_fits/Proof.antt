@@ -4,7 +4,7 @@ use native.Mathlib.Omega.{arith}
 use borrow.Author.Needs.{needs}
 use Rattle.grammar.proofs.Decoding.{in-count}
 use Rattle.parse.specs.WellFormed.{Fits}
-use Rattle.parse.proofs.Telling.{fails}
+use Rattle.laws.proofs.Decides.{says-no}
 use Rattle.parse.proofs.Fitting.{second-tells}
 use Rattle.parse.proofs.sets.item_fits.Statement.{statement}
 use Rattle.parse.proofs.sets.item_fits.Tie as tie
@@ -22,10 +22,10 @@ wide-requires-2 : tie.Need-wide-requires-2
 wide-requires-2 c κs = search needs
 
 returns : tie.Need-returns
-returns c = fails (λ (h : Fits _ _ _). omega (arith, h .earlier, c .before .wide2 .ensures, c .before .before .origin .ensures))
+returns c = says-no (λ (h : Fits _ _ _). omega (arith, h .earlier, c .before .wide2 .ensures, c .before .before .origin .ensures))
 
 returns-2 : tie.Need-returns-2
-returns-2 c = fails (λ (h : Fits _ _ _). omega (arith, h .is-rule, in-count (c .before .before .before .before .before .before .before .args .rules .now) 0 0 (c .before .before .before .before .before .before .before .args .count), c .before .before .before .before .wide .ensures, c .before .before .before .before .before .rule .ensures))
+returns-2 c = says-no (λ (h : Fits _ _ _). omega (arith, h .is-rule, in-count (c .before .before .before .before .before .before .before .args .rules .now) 0 0 (c .before .before .before .before .before .before .before .args .count), c .before .before .before .before .wide .ensures, c .before .before .before .before .before .rule .ensures))
 
 second-requires : tie.Need-second-requires
 second-requires c κs = search needs

@@ -3,11 +3,11 @@ use Prim.Native.Nat.{ℕ, _+_, _-_, _≤_}
 use native.Mathlib.Omega.{arith}
 use lib.ListN.{getD}
 use borrow.Author.Needs.{needs}
-use Rattle.grammar.specs.Decoded.{rulesIn}
-use Rattle.parse.specs.Tells.{Tells}
-use Rattle.parse.specs.Parts.{SetFits, SetsFit}
+use Rattle.grammar.specs.inner.Decoded.{rulesIn}
+use Rattle.laws.specs.Decides.{Decides}
+use Rattle.parse.specs.inner.Parts.{SetFits, SetsFit}
 use Rattle.parse.proofs.Fitting.{rising}
-use Rattle.parse.proofs.Telling.{holds, part-fails, passes, moved}
+use Rattle.laws.proofs.Decides.{says-yes, part-fails, passes, decides-of}
 use Rattle.parse.proofs.Passing.{Passed, none-passed, one-passed}
 use Rattle.parse.proofs.sets.sets_fit.Statement.{statement}
 use Rattle.parse.proofs.sets.sets_fit.Tie as tie
@@ -60,8 +60,8 @@ set-fits-requires c κs =
 told : (c : tie.After-set-fits Inv-loop μ-loop)
     → let args = c .before .before .before .before .before .before .before .before .before .args in
     let k = c .before .before .before .before .before .before .loop .k in
-    Tells (c .set-fits .result) (SetFits (rulesIn (args .rules .now) (args .count)) (args .items .now) k (getD (args .starts .now) k 0) (getD (args .starts .now) (k + 1) 0))
-told c = moved (SetFits _ _ _) (c .before .before .before .wide .ensures) (c .before .wide2 .ensures) (c .set-fits .ensures)
+    Decides (c .set-fits .result) (SetFits (rulesIn (args .rules .now) (args .count)) (args .items .now) k (getD (args .starts .now) k 0) (getD (args .starts .now) (k + 1) 0))
+told c = decides-of (SetFits _ _ _) (c .before .before .before .wide .ensures) (c .before .wide2 .ensures) (c .set-fits .ensures)
 
 returns : tie.Need-returns Inv-loop μ-loop
 returns c = part-fails (told (c .before)) (c .if1 .taken) (λ (h : SetsFit _ _ _ _). h .each _ (omega arith))
@@ -76,7 +76,7 @@ loop-again : tie.Need-loop-again Inv-loop μ-loop
 loop-again c = (one-passed _ 0 _ (c .before .before .before .before .before .before .before .loop .inv .0) (passes (told (c .before)) (c .if1 .left)), search needs)
 
 returns-2 : tie.Need-returns-2 Inv-loop μ-loop
-returns-2 c = holds (record { each = λ k l. c .before .loop .inv .0 .each k (omega arith) (omega arith) })
+returns-2 c = says-yes (record { each = λ k l. c .before .loop .inv .0 .each k (omega arith) (omega arith) })
 
 pub sets-fit-spec : {M : Type 1} → statement M
 sets-fit-spec =

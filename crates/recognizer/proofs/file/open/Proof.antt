@@ -4,7 +4,7 @@ use native.Mathlib.Omega.{arith}
 use borrow.Author.Needs.{needs}
 use Rattle.grammar.proofs.Verdicts.{AcceptedFile, accepted-file}
 use Rattle.grammar.specs.Answers.{numberOf}
-use Rattle.recognizer.specs.Calls.{FileFault}
+use Rattle.demands.specs.Calls.{FileFault}
 use Rattle.recognizer.proofs.file.open.Statement.{statement}
 use Rattle.recognizer.proofs.file.open.Tie as tie
 

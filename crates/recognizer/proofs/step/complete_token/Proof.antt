@@ -1,8 +1,8 @@
 use Rattle.recognizer.proofs.OneToken.{first-asks, sums-ask}
-use Rattle.recognizer.specs.Steppable.{wordsOf}
-use Rattle.grammar.specs.Decoded.{rulesIn}
+use Rattle.parse.specs.Words.{wordsOf}
+use Rattle.grammar.specs.inner.Decoded.{rulesIn}
 use Rattle.completion.specs.Sums.{completeAllSums}
-use Rattle.completion.specs.Pending.{Pending}
+use Rattle.completion.specs.inner.Pending.{Pending}
 use Rattle.completion.specs.Pass.{Pass}
 use Prim.Native.Nat.{_-_}
 use mathlib.Core.Path.{sym, ap, _∙_, subst}

@@ -7,17 +7,17 @@ use Rattle.recognizer.proofs.step.give_up.Statement.{statement}
 use Rattle.recognizer.proofs.step.give_up.Tie as tie
 
 -- src/step.rt:64:40
-mul-clear-words : tie.Need-mul-clear-words
-mul-clear-words c = search needs
+mul-clear : tie.Need-mul-clear
+mul-clear c = search needs
 
 -- src/step.rt:64:5
-clear-words-requires : tie.Need-clear-words-requires
-clear-words-requires c κs =
+clear-requires : tie.Need-clear-requires
+clear-requires c κs =
     (c .before .before .before .pre, le-refl (length (c .before .before .before .args .items .now)), record { zero = λ i past. List·getD-eq-default (c .before .before .before .args .items .now) 0 {n = i} past })
 
 -- src/step.rt:66:5
-clear-words-requires-2 : tie.Need-clear-words-requires-2
-clear-words-requires-2 c κs =
+clear-requires-2 : tie.Need-clear-requires-2
+clear-requires-2 c κs =
     (omega arith, le-refl (length (c .before .before .before .before .before .before .before .args .queue .now)), record { zero = λ i past. List·getD-eq-default (c .before .before .before .before .before .before .before .args .queue .now) 0 {n = i} past })
 
 -- src/step.rt:58:1
@@ -36,9 +36,9 @@ pub give-up-spec : {M : Type 1} → statement M
 give-up-spec =
     tie.close
     (tie.spec
-    mul-clear-words
-    clear-words-requires
-    clear-words-requires-2
+    mul-clear
+    clear-requires
+    clear-requires-2
     same-length
     same-length-2
     returns)

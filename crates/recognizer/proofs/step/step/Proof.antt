@@ -1,14 +1,15 @@
-use Rattle.recognizer.specs.Steppable.{FullAt}
-use Rattle.recognizer.specs.Steps.{Outcome, completed}
-use Rattle.advance.specs.Ready.{Ready}
-use Rattle.advance.specs.Advance.{padded, lent, Advances}
+use Rattle.recognizer.specs.inner.Steppable.{FullAt}
+use Rattle.demands.specs.Steps.{Outcome, completed}
+use Rattle.advance.specs.inner.Ready.{Advanceable}
+use Rattle.advance.specs.Advance.{lent, Advances}
 use Rattle.completion.specs.Pass.{passOf}
-use Rattle.grammar.specs.Decoded.{rulesIn}
+use Rattle.grammar.specs.inner.Decoded.{rulesIn}
 use lib.ListN.{take}
 use Rattle.item.specs.Item.{itemWords}
 use Rattle.recognizer.proofs.OneToken.{full-at, advance-asks, advance-refused, advance-done, pass-refused}
-use Rattle.recognizer.proofs.Ways.{is-no-token, is-not-predicted, Predicted}
-use Rattle.recognizer.specs.Steppable.{grammarFrom, wordsOf}
+use Rattle.demands.proofs.Ways.{is-no-token, is-not-predicted, Predicted}
+use Rattle.parse.specs.Words.{wordsOf, padded}
+use Rattle.recognizer.specs.inner.Steppable.{grammarFrom}
 use Rattle.completion.specs.Pass.{Pass}
 use Rattle.bits.specs.Width.{rowWords}
 use Rattle.laws.specs.Bits.{rowOf}
@@ -105,7 +106,7 @@ advance-requires c κs =
     let pass : Pass = passOf (c .before .before .before .before .before .before .before .before .complete-token .result) (c .before .before .before .before .before .before .before .before .complete-token .last .1 .1 .1 .1 .0) (c .before .before .before .before .before .before .before .before .complete-token .last .1 .1 .1 .1 .1 .1 .1 .0) in
     let is : pass ≡ completed (grammarFrom (a .rules .now) (a .sizes)) (a .state) v (a .t) = c .before .before .before .before .before .before .before .before .complete-token .ensures in
     let stops : c .before .before .before .before .before .before .before .before .complete-token .result .stopped ≡ completed (grammarFrom (a .rules .now) (a .sizes)) (a .state) v (a .t) .at .stopped = ap (λ (u : Pass). u .at .stopped) is in
-    subst (λ (u : Pass). Ready (a .rules .now) (a .sizes .rules) (a .table .now) (a .state) (lent (u .items) (a .starts .now) (a .rows .now)) (u .at .items)) (sym is)
+    subst (λ (u : Pass). Advanceable (a .rules .now) (a .sizes .rules) (a .table .now) (a .state) (lent (u .items) (a .starts .now) (a .rows .now)) (u .at .items)) (sym is)
     (advance-asks (a .rules .now) (a .sizes) (a .table .now) (a .state) v (c .before .before .before .before .before .before .before .before .before .before .before .before .before .before .before .before .before .before .before .before .before .before .pre) (a .t) (sym stops ∙ c .before .before .before .if3 .left))
 
 -- src/step.rt:119:46

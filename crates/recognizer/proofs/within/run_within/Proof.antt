@@ -6,7 +6,8 @@ use native.Mathlib.Numerals.{add-one-le}
 use native.Mathlib.Omega.{arith}
 use lib.ListN.{length}
 use borrow.Author.Needs.{scaled-fits}
-use Rattle.recognizer.specs.Steppable.{grammarFrom, wordsOf}
+use Rattle.parse.specs.Words.{wordsOf}
+use Rattle.recognizer.specs.inner.Steppable.{grammarFrom}
 use Rattle.recognizer.proofs.Turning.{Going, going-first, going-on, going-off, going-end}
 use Rattle.recognizer.proofs.within.run_within.Statement.{statement}
 use Rattle.recognizer.proofs.within.run_within.Tie as tie

@@ -3,10 +3,10 @@ use mathlib.Core.Path.{sym, subst}
 use native.Mathlib.Omega.{arith}
 use lib.Seq.{length-take-le}
 use borrow.Author.Needs.{needs}
-use Rattle.parse.specs.Words.{Words}
-use Rattle.recognizer.specs.Steps.{stepped}
+use Rattle.parse.specs.Words.{Words, wordsOf}
+use Rattle.demands.specs.Steps.{stepped}
 use Rattle.recognizer.specs.Answers.{outcomeOf}
-use Rattle.recognizer.specs.Steppable.{grammarFrom, wordsOf, Steppable}
+use Rattle.recognizer.specs.inner.Steppable.{grammarFrom, Steppable}
 use Rattle.recognizer.proofs.Carving.{starts-there, first-within, replaced-place}
 use Rattle.recognizer.proofs.within.step_within.Statement.{statement}
 use Rattle.recognizer.proofs.within.step_within.Tie as tie

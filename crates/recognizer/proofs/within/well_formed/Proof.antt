@@ -4,7 +4,7 @@ use mathlib.Core.Path.{sym}
 use native.Mathlib.Omega.{arith}
 use lib.Seq.{length-take-le}
 use borrow.Author.Needs.{needs}
-use Rattle.recognizer.specs.Steppable.{wordsOf}
+use Rattle.parse.specs.Words.{wordsOf}
 use Rattle.recognizer.proofs.Cutting.{no-room, cut-sets, tells-within}
 use Rattle.recognizer.proofs.within.well_formed.Statement.{statement}
 use Rattle.recognizer.proofs.within.well_formed.Tie as tie
@@ -16,10 +16,7 @@ returns : tie.Need-returns
 returns c =
     let start = c .before .before .before .before .before .before in
     let words = wordsOf (start .args .items .now) (start .args .starts .now) (start .args .rows .now) (start .args .queue .now) in
-    record {
-      yes = λ e. absurd (false≢true e);
-      nay = λ e. no-room _ _ _ words (omega (arith, c .before .set-room .ensures, c .if1 .taken));
-    }
+    says-no (no-room _ _ _ words (omega (arith, c .before .set-room .ensures, c .if1 .taken)))
 
 item-room-requires : tie.Need-item-room-requires
 item-room-requires c κs = search needs

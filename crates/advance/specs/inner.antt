@@ -1,0 +1,3 @@
+-- What only inner contracts cite: what steps 4 to 6 rely on.
+pub mod Order
+pub mod Ready

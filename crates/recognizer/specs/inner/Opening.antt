@@ -1,0 +1,26 @@
+-- What a call learns of its file.
+use mathlib.Core.Path.{_≡_}
+use mathlib.Core.List.{List}
+use Prim.Native.Nat.{ℕ}
+use Rattle.grammar.specs.Accepted.{Accepted}
+use Rattle.grammar.specs.File.{Malformed, grammarOf, symbolsOf, tokensOf, ruleCountOf}
+use Rattle.grammar.specs.inner.Decoded.{grammarIn}
+use Rattle.recognizer.specs.declared.Sizes.{Sizes}
+use Rattle.recognizer.specs.declared.file.Opened.{Opened}
+use Rattle.recognizer.specs.declared.file.Opened.the-variants as opened
+use Rattle.recognizer.specs.Answers.{refusalNumber}
+use Rattle.demands.specs.Calls.{FileFault}
+
+-- The numbers of an accepted file, and words that hold its rules.
+pub record OpenedFile (file words : List ℕ) (sizes : Sizes) : Type 0 where
+  pub whole : Malformed file → ⊥
+  pub accepted : Accepted (grammarOf file)
+  pub symbols : sizes .symbols ≡ symbolsOf file
+  pub tokens : sizes .tokens ≡ tokensOf file
+  pub rules : sizes .rules ≡ ruleCountOf file
+  pub decoded : grammarIn words (symbolsOf file) (tokensOf file) (ruleCountOf file) ≡ grammarOf file
+
+-- 1 or 2, or an accepted file.
+abbrev pub Opens : List ℕ → List ℕ → Opened → Type 0
+Opens file words (opened.Refused r) = FileFault file (refusalNumber r)
+Opens file words (opened.Sound sizes) = OpenedFile file words sizes
