@@ -1,9 +1,9 @@
 -- Laws of a start.
 use mathlib.Core.Path.{_≡_, sym, ap, subst, _∙_}
 use mathlib.Core.List.{List, [], _++_}
-use Prim.Native.Nat.{ℕ, _-_, _<_}
+use Prim.Native.Nat.{ℕ, _-_, _≤_, _<_}
 use native.Mathlib.Omega.{arith}
-use lib.ListN.{length, getD, take, replicate}
+use lib.ListN.{length, getD, take, replicate, List·getD-eq-default}
 use Rattle.laws.proofs.Lists.{drop-zeros}
 use Rattle.laws.specs.Bits.{withRow}
 use Rattle.bits.specs.Width.{rowWords}
@@ -12,8 +12,13 @@ use Rattle.grammar.specs.Accepted.{Accepted}
 use Rattle.grammar.specs.Prediction.{Predicts}
 use Rattle.parse.specs.declared.State.{State}
 use Rattle.parse.specs.Words.{Words, setRoom, wordsOf, padded}
+use Rattle.parse.specs.inner.Parts.{Clear}
 use Rattle.demands.specs.Calls.{Sound, Starts}
 use Rattle.recognizer.specs.inner.Cuts.{clearedWords, begunWords}
+
+-- Any words may be cleared from the first to the last.
+pub may-clear : (words : List ℕ) → (0 ≤ length words) × (length words ≤ length words) × Clear words (length words)
+may-clear words = (omega arith, omega arith, record { zero = λ i l. List·getD-eq-default words 0 {n = i} l })
 
 -- Words cleared from the first on.
 pub cleared-all : (words : List ℕ) → padded (length words) (take 0 words) ≡ replicate (length words) 0

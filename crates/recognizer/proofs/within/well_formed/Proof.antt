@@ -1,9 +1,9 @@
 -- `recognizer::within::well_formed` meets its contract: what is told of the cut words is told of those within the capacities.
-use mathlib.Core.Bool.{false≢true}
 use mathlib.Core.Path.{sym}
 use native.Mathlib.Omega.{arith}
 use lib.Seq.{length-take-le}
 use borrow.Author.Needs.{needs}
+use Rattle.laws.proofs.Decides.{says-no}
 use Rattle.parse.specs.Words.{wordsOf}
 use Rattle.recognizer.proofs.Cutting.{no-room, cut-sets, tells-within}
 use Rattle.recognizer.proofs.within.well_formed.Statement.{statement}
