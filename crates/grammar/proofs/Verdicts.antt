@@ -86,6 +86,20 @@ module _ (file : List ℕ) where
       ∙ ap (grammarIn words (symbolsOf file) (tokensOf file)) (e .rules)
       ∙ d
 
+-- Two numbers that are right are the same, whatever number a call could have answered.
+pub verdict-number : (file : List ℕ) (n m : ℕ) → Verdict file n → Verdict file m → n ≡ m
+verdict-number file n m v w =
+    elim (ℕ-discrete n 1) [
+      | yes one ↦ one ∙ sym (w .always-one (v .one one))
+      | no not-one ↦ elim (ℕ-discrete n 2) [
+        | yes two ↦ two ∙ sym (w .always-two (λ bad. not-one (v .always-one bad)) (v .two two))
+        | no not-two ↦ elim (ℕ-discrete n 0) [
+          | yes zero ↦ zero ∙ sym (w .always-zero (λ bad. not-one (v .always-one bad)) (v .zero zero))
+          | no not-zero ↦ absurd (not-two (v .always-two (λ bad. not-one (v .always-one bad)) (λ good. not-zero (v .always-zero (λ bad. not-one (v .always-one bad)) good))))
+        ]
+      ]
+    ]
+
 -- Two answers that are right are the same.
 pub verdict-unique : (file : List ℕ) (a b : Checked) → Verdict file (numberOf a) → Verdict file (numberOf b) → a ≡ b
 verdict-unique file answer.Accepted answer.Accepted v w = refl
