@@ -21,7 +21,8 @@ use Rattle.parse.specs.WellFormed.{secondOf}
 use Rattle.advance.specs.declared.Advanced.{Advanced}
 use Rattle.advance.specs.NewItems.{itemsFrom, sorted, binary, newItems}
 use Rattle.advance.specs.inner.Order.{All}
-use Rattle.advance.specs.Advance.{highest, greatestOrigin, lastKept, predictions, ending, nextState, nextWords, Follows, newOf, reachOf, keptOf, hasRoom, advanceAnswer, advanceWords, withoutNew, Advances}
+use Rattle.advance.specs.inner.Advances.{Follows, newOf, reachOf, keptOf, hasRoom, advanceAnswer, withoutNew, advanceWords, Advances}
+use Rattle.advance.specs.Advance.{highest, greatestOrigin, lastKept, predictions, ending, nextState, nextWords}
 use Rattle.advance.specs.inner.Ready.{Followable, Advanceable}
 use Rattle.advance.proofs.Placed.{noItem, items-count}
 use Rattle.advance.proofs.Placing.{second-in}

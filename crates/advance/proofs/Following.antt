@@ -20,7 +20,8 @@ use Rattle.parse.specs.Words.{Words, maxItems, padded}
 use Rattle.parse.specs.WellFormed.{secondOf}
 use Rattle.advance.specs.NewItems.{itemsFrom}
 use Rattle.advance.specs.inner.Order.{All}
-use Rattle.advance.specs.Advance.{lastKept, keptRows, predictions, ending, Pruned, Follows}
+use Rattle.advance.specs.inner.Advances.{Pruned, Follows}
+use Rattle.advance.specs.Advance.{lastKept, keptRows, predictions, ending}
 use Rattle.advance.specs.inner.Ready.{Predictable, Followable}
 use Rattle.prediction.specs.inner.Tables.{Shape}
 use Rattle.advance.proofs.Placed.{noItem, items-count, items-at, items-are, item-eq, behind-words}

@@ -12,7 +12,8 @@ use Rattle.item.proofs.Words.{flat-length}
 use Rattle.parse.specs.inner.Parts.{Clear}
 use Rattle.advance.specs.NewItems.{itemsFrom, placed}
 use Rattle.parse.specs.Words.{padded}
-use Rattle.advance.specs.Advance.{highest, greatestOrigin, lastKept, keptRows, ending, Pruned}
+use Rattle.advance.specs.inner.Advances.{Pruned}
+use Rattle.advance.specs.Advance.{highest, greatestOrigin, lastKept, keptRows, ending}
 use Rattle.advance.specs.inner.Ready.{Prunable}
 use Rattle.advance.proofs.Placed.{items-count, items-down, items-none, item-eq, placed-self, placed-length, placed-above, placed-more}
 use Rattle.advance.proofs.Inserting.{items-more}

@@ -24,7 +24,8 @@ use Rattle.parse.specs.WellFormed.{secondOf, WellFormed}
 use Rattle.advance.specs.declared.Advanced.{Advanced}
 use Rattle.advance.specs.NewItems.{itemsFrom, sorted, binary}
 use Rattle.advance.specs.inner.Order.{All, Stored}
-use Rattle.advance.specs.Advance.{predictions, nextState, nextWords, newOf, reachOf, keptOf, lent, hasRoom, withoutNew, advanceAnswer, advanceWords, Advances}
+use Rattle.advance.specs.inner.Advances.{lent, newOf, reachOf, keptOf, hasRoom, advanceAnswer, withoutNew, advanceWords, Advances}
+use Rattle.advance.specs.Advance.{predictions, nextState, nextWords}
 use Rattle.advance.specs.inner.Ready.{Advanceable}
 use Rattle.prediction.specs.inner.Tables.{Shape}
 use Rattle.advance.proofs.Placing.{second-in}

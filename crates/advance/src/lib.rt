@@ -2,7 +2,8 @@
 ghost use Prim.Native.Nat.{_-_};
 ghost use Rattle.grammar.specs.inner.Decoded.{rulesIn};
 ghost use Rattle.advance.specs.NewItems.{itemsFrom};
-ghost use Rattle.advance.specs.Advance.{predictions, lent, Follows, Advances};
+ghost use Rattle.advance.specs.inner.Advances.{lent, Follows, Advances};
+ghost use Rattle.advance.specs.Advance.{predictions};
 ghost use Rattle.advance.specs.inner.Ready.{Followable, Advanceable};
 use crate::predict::prediction_pass;
 use crate::prune::greatest_origin;

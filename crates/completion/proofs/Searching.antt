@@ -191,3 +191,34 @@ pub queueing-sound : (first number n : ℕ) (s : Pass) → PassFits s → first 
 queueing-sound first number n s sound there few =
     over-keeps (λ (u : Pass). PassFits u × (u .at .items ≡ s .at .items)) n (queueing first)
     (λ i u h known. (then-sound u (enqueue (first + i)) (known .0) (λ on. enqueue-sound (first + i) u (known .0) (omega (arith, known .1))), then-next-count u (enqueue (first + i)) (enqueue-count (first + i) u) ∙ known .1)) s (sound, refl)
+
+-- One stretch of places is found and no other, also where no item has the symbol behind its dot.
+module _ {rs : List Rule} {items : List ℕ} {from to x first number first′ number′ : ℕ} (a : Found rs items from to x first number) (b : Found rs items from to x first′ number′) where
+  not-later : first < first′ → ⊥
+  not-later l =
+      let lower : secondAt rs items first < x = b .before first (a .from-on) l in
+      elim (decLt 0 number) [
+        | yes some ↦ omega (arith, lower, a .there first (omega arith) (omega arith))
+        | no none ↦ omega (arith, lower, a .behind first (omega arith) (omega (arith, b .up-to)))
+      ]
+
+  not-more : first ≡ first′ → number < number′ → ⊥
+  not-more same l =
+      let here : secondAt rs items (first + number) ≡ x = b .there (first + number) (omega arith) (omega arith) in
+      omega (arith, here, a .behind (first + number) (omega arith) (omega (arith, b .up-to)))
+
+pub found-unique : {rs : List Rule} {items : List ℕ} {from to x first number first′ number′ : ℕ}
+    → Found rs items from to x first number → Found rs items from to x first′ number′ → (first ≡ first′) × (number ≡ number′)
+found-unique {first = first} {number} {first′} {number′} a b = (places, counts)
+  where
+    places : first ≡ first′
+    places = elim (decLt first first′) [
+      | yes l ↦ absurd (not-later a b l)
+      | no m ↦ elim (decLt first′ first) [ yes l ↦ absurd (not-later b a l) | no n ↦ omega arith ]
+    ]
+
+    counts : number ≡ number′
+    counts = elim (decLt number number′) [
+      | yes l ↦ absurd (not-more a b places l)
+      | no m ↦ elim (decLt number′ number) [ yes l ↦ absurd (not-more b a (sym places) l) | no n ↦ omega arith ]
+    ]

@@ -22,7 +22,8 @@ use Rattle.completion.specs.Pass.{Pass}
 use Rattle.completion.proofs.Beginning.{beginning, start-fits}
 use Rattle.completion.proofs.Passed.{Passed, token-passed, passed-apart}
 use Rattle.advance.specs.inner.Order.{All}
-use Rattle.advance.specs.Advance.{predictions, withoutNew}
+use Rattle.advance.specs.inner.Advances.{withoutNew}
+use Rattle.advance.specs.Advance.{predictions}
 use Rattle.advance.proofs.Placed.{noItem}
 use Rattle.advance.proofs.Ordering.{Among, at-all, all-map}
 use Rattle.advance.proofs.Pruning.{kept-pruned, kept-all, last-greatest}

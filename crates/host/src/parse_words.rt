@@ -1,7 +1,7 @@
 // A parse's answers in the host's words.
 ghost use mathlib.Core.Path.{_≡_};
 ghost use Prim.Native.Nat.{min};
-ghost use Rattle.host.specs.Reports.{firstWord, PartFits};
+ghost use Rattle.host.specs.inner.Parts.{PartFits, firstWord};
 ghost use Rattle.recognizer.specs.Answers.{numberOf, stateOf};
 use item::ITEM_WORDS;
 use recognizer::Answer;

@@ -9,6 +9,7 @@ use native.Mathlib.Omega.{arith}
 use lib.ListN.{length, getD, take, replicate, length-take, List·getD-eq-default}
 use lib.Seq.{ext-getD, getD-take}
 use borrow.Author.Tests.{ltb-true, ltb-false}
+use Rattle.laws.specs.Bits.{wordBits}
 use Rattle.bits.specs.Width.{rowWords}
 use Rattle.item.specs.Item.{Item, itemWords, flat}
 use Rattle.grammar.specs.Rules.{Grammar, Rule, none}
@@ -28,7 +29,8 @@ use Rattle.completion.proofs.Pending.{first-pending}
 use Rattle.completion.proofs.Refusals.{Ends}
 use Rattle.completion.proofs.Beginning.{beginning, start-fits, is-set, begins-pending, begins-spare, accepted-grounds, accepted-rules-fit}
 use Rattle.completion.proofs.Passed.{Passed, token-passed, passed-queue, passed-spare}
-use Rattle.advance.specs.Advance.{lent, Advances, withoutNew, hasRoom, advanceAnswer, advanceWords, nextState, nextWords, lastKept, predictions}
+use Rattle.advance.specs.inner.Advances.{lent, hasRoom, advanceAnswer, withoutNew, advanceWords, Advances}
+use Rattle.advance.specs.Advance.{nextState, nextWords, lastKept, predictions}
 use Rattle.advance.specs.declared.Advanced.{Advanced}
 use Rattle.advance.specs.declared.Advanced.the-variants as answers
 use Rattle.advance.specs.inner.Ready.{Advanceable}
@@ -61,7 +63,7 @@ module _ (rules : List ℕ) (sizes : Sizes) (table : List (List ℕ)) (s : State
   passed = token-passed g (can .accepted) well (can .few-items) (can .rowed) t
 
   -- What completing the token asks.
-  pub first-asks : t < sizes .tokens → (RulesFit rs × Rowed (v .starts) (v .rows)) × ((IsSet (v .starts) (s .set) × (t < 128)) × (PassFits (beginning s v) × Charted rs (v .starts) (beginning s v)))
+  pub first-asks : t < sizes .tokens → (RulesFit rs × Rowed (v .starts) (v .rows)) × ((IsSet (v .starts) (s .set) × (t < wordBits * rowWords)) × (PassFits (beginning s v) × Charted rs (v .starts) (beginning s v)))
   first-asks small =
       let pending : Pending rs (v .starts) (beginning s v) = begins-pending well (can .accepted .few-rules) (can .few-items) (can .rowed) in (
         (accepted-rules-fit g (can .accepted), can .rowed),

@@ -1,7 +1,7 @@
 use Rattle.recognizer.specs.inner.Steppable.{FullAt}
 use Rattle.demands.specs.Steps.{Outcome, completed}
 use Rattle.advance.specs.inner.Ready.{Advanceable}
-use Rattle.advance.specs.Advance.{lent, Advances}
+use Rattle.advance.specs.inner.Advances.{lent, Advances}
 use Rattle.completion.specs.Pass.{passOf}
 use Rattle.grammar.specs.inner.Decoded.{rulesIn}
 use lib.ListN.{take}
