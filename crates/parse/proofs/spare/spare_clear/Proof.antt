@@ -40,10 +40,11 @@ clear-requires-3 c κs = search needs
 
 returns-4 : tie.Need-returns-4
 returns-4 c =
+    let items-checked = c .before .before .before .before .before .before .clear in
     same (c .clear3 .ensures)
     (λ queue.
     record {
-      items = passes (c .before .before .before .before .before .before .clear .ensures) (c .before .before .before .before .before .if1 .left);
+      items = passes (items-checked .ensures) (c .before .before .before .before .before .if1 .left);
       starts = passes (c .before .before .before .before .clear2 .ensures) (c .before .before .before .if2 .left);
       rows = passes (c .before .before .clear-rows .ensures) (c .before .if3 .left);
       queue = queue;
