@@ -21,9 +21,9 @@ returns-3 c = part-fails (c .before .starts-fit .ensures) (c .if3 .taken) (its-s
 
 sets-fit-requires : tie.Need-sets-fit-requires
 sets-fit-requires c κs =
-    let start = c .before .before .before .before .before .before .before .before in
+    let required = c .before .before .before .before .before .before .before .before .pre in
     let starts = passes (c .before .starts-fit .ensures) (c .if3 .left) in
-    ((start .pre .0, omega arith), (omega (arith, starts .last-start, c .before .before .if2 .left), starts .never-falls))
+    ((required .0, omega arith), (omega (arith, starts .last-start, c .before .before .if2 .left), starts .never-falls))
 
 returns-4 : tie.Need-returns-4
 returns-4 c = part-fails (c .before .sets-fit .ensures) (c .if4 .taken) (its-sets _ _ _ _)
@@ -39,9 +39,12 @@ spare-clear-requires c κs = search needs
 
 returns-6 : tie.Need-returns-6
 returns-6 c =
+    let set-tested = c .before .before .before .before .before .before .before .before .if1 in
+    let items-tested = c .before .before .before .before .before .before .before .if2 in
+    let starts-checked = c .before .before .before .before .before .before .starts-fit in
     decides-map
-    (whole _ _ _ _ (c .before .before .before .before .before .before .before .before .if1 .left) (c .before .before .before .before .before .before .before .if2 .left)
-    (passes (c .before .before .before .before .before .before .starts-fit .ensures) (c .before .before .before .before .before .if3 .left))
+    (whole _ _ _ _ (set-tested .left) (items-tested .left)
+    (passes (starts-checked .ensures) (c .before .before .before .before .before .if3 .left))
     (passes (c .before .before .before .before .sets-fit .ensures) (c .before .before .before .if4 .left))
     (passes (c .before .before .rows-below .ensures) (c .before .if5 .left)))
     (its-spare _ _ _ _)

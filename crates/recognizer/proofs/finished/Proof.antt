@@ -28,35 +28,41 @@ well-formed-requires c κs =
 
 returns-2 : tie.Need-returns-2
 returns-2 c =
-    let start = c .before .before .before .before .before .before .before .before .before .before .before .before .before in
-    let words = wordsOf (start .args .items .now) (start .args .starts .now) (start .args .rows .now) (start .args .queue .now) in
-    let sound = opened-sound _ _ _ (c .before .before .before .before .before .before .«open» .ensures) _ (c .before .before .before .before .found .given .1) in
-    let fault = told-ill-formed _ _ _ sound (start .args .state) words _ (c .before .well-formed .ensures) (c .if1 .taken) in
+    let given = c .before .before .before .before .before .before .before .before .before .before .before .before .before .args in
+    let opened = c .before .before .before .before .before .before .«open» in
+    let words = wordsOf (given .items .now) (given .starts .now) (given .rows .now) (given .queue .now) in
+    let sound = opened-sound _ _ _ (opened .ensures) _ (c .before .before .before .before .found .given .1) in
+    let fault = told-ill-formed _ _ _ sound (given .state) words _ (c .before .well-formed .ensures) (c .if1 .taken) in
     finished-means (Finishes.refused fault)
 
 last-wraps-requires : tie.Need-last-wraps-requires
 last-wraps-requires c κs =
-    let start = c .before .before .before .before .before .before .before .before .before .before .before .before .before in
-    let words = wordsOf (start .args .items .now) (start .args .starts .now) (start .args .rows .now) (start .args .queue .now) in
-    let sound = opened-sound _ _ _ (c .before .before .before .before .before .before .«open» .ensures) _ (c .before .before .before .before .found .given .1) in
-    let formed = told-formed _ _ _ sound (start .args .state) words _ (c .before .well-formed .ensures) (c .if1 .left) in
-    latest-there _ _ (start .args .state) words (formed .well-formed)
+    let given = c .before .before .before .before .before .before .before .before .before .before .before .before .before .args in
+    let opened = c .before .before .before .before .before .before .«open» in
+    let words = wordsOf (given .items .now) (given .starts .now) (given .rows .now) (given .queue .now) in
+    let sound = opened-sound _ _ _ (opened .ensures) _ (c .before .before .before .before .found .given .1) in
+    let formed = told-formed _ _ _ sound (given .state) words _ (c .before .well-formed .ensures) (c .if1 .left) in
+    latest-there _ _ (given .state) words (formed .well-formed)
 
 returns-3 : tie.Need-returns-3
 returns-3 c =
-    let start = c .before .before .before .before .before .before .before .before .before .before .before .before .before .before .before in
-    let words = wordsOf (start .args .items .now) (start .args .starts .now) (start .args .rows .now) (start .args .queue .now) in
-    let sound = opened-sound _ _ _ (c .before .before .before .before .before .before .before .before .«open» .ensures) _ (c .before .before .before .before .before .before .found .given .1) in
-    let formed = told-formed _ _ _ sound (start .args .state) words _ (c .before .before .before .well-formed .ensures) (c .before .before .if1 .left) in
-    finished-means (finishes-with _ (start .args .state) words formed _ _ (c .before .last-wraps .ensures) (c .if2 .taken))
+    let given = c .before .before .before .before .before .before .before .before .before .before .before .before .before .before .before .args in
+    let opened = c .before .before .before .before .before .before .before .before .«open» in
+    let found = c .before .before .before .before .before .before .found in
+    let words = wordsOf (given .items .now) (given .starts .now) (given .rows .now) (given .queue .now) in
+    let sound = opened-sound _ _ _ (opened .ensures) _ (found .given .1) in
+    let formed = told-formed _ _ _ sound (given .state) words _ (c .before .before .before .well-formed .ensures) (c .before .before .if1 .left) in
+    finished-means (finishes-with _ (given .state) words formed _ _ (c .before .last-wraps .ensures) (c .if2 .taken))
 
 returns-4 : tie.Need-returns-4
 returns-4 c =
-    let start = c .before .before .before .before .before .before .before .before .before .before .before .before .before .before .before in
-    let words = wordsOf (start .args .items .now) (start .args .starts .now) (start .args .rows .now) (start .args .queue .now) in
-    let sound = opened-sound _ _ _ (c .before .before .before .before .before .before .before .before .«open» .ensures) _ (c .before .before .before .before .before .before .found .given .1) in
-    let formed = told-formed _ _ _ sound (start .args .state) words _ (c .before .before .before .well-formed .ensures) (c .before .before .if1 .left) in
-    finished-means (finishes-with _ (start .args .state) words formed _ _ (c .before .last-wraps .ensures) (c .if2 .left))
+    let given = c .before .before .before .before .before .before .before .before .before .before .before .before .before .before .before .args in
+    let opened = c .before .before .before .before .before .before .before .before .«open» in
+    let found = c .before .before .before .before .before .before .found in
+    let words = wordsOf (given .items .now) (given .starts .now) (given .rows .now) (given .queue .now) in
+    let sound = opened-sound _ _ _ (opened .ensures) _ (found .given .1) in
+    let formed = told-formed _ _ _ sound (given .state) words _ (c .before .before .before .well-formed .ensures) (c .before .before .if1 .left) in
+    finished-means (finishes-with _ (given .state) words formed _ _ (c .before .last-wraps .ensures) (c .if2 .left))
 
 pub finished-spec : {M : Type 1} → statement M
 finished-spec =

@@ -27,9 +27,9 @@ part-result-end c = search needs
 
 returns : tie.Need-returns
 returns c =
-    let start = c .before .before .before .before .before .before .before .before .before .before .before .before in
-    let words = wordsOf (start .args .items .now) (start .args .starts .now) (start .args .rows .now) (start .args .queue .now) in
-    reports-refused _ (start .args .state) words (CallFault.file-fault (opened-fault _ _ _ (c .before .before .before .before .before .«open» .ensures) _ (c .before .before .before .why .given .1))) _
+    let given = c .before .before .before .before .before .before .before .before .before .before .before .before .args in
+    let words = wordsOf (given .items .now) (given .starts .now) (given .rows .now) (given .queue .now) in
+    reports-refused _ (given .state) words (CallFault.file-fault (opened-fault _ _ _ (c .before .before .before .before .before .«open» .ensures) _ (c .before .before .before .why .given .1))) _
     (c .before .refusal-number .ensures)
 
 enum-known-found : tie.Need-enum-known-found
@@ -54,27 +54,31 @@ part-result-end-2 c = search needs
 
 returns-2 : tie.Need-returns-2
 returns-2 c =
-    let start = c .before .before .before .before .before .before .before .before .before .before .before .before .before .before .before in
-    let words = wordsOf (start .args .items .now) (start .args .starts .now) (start .args .rows .now) (start .args .queue .now) in
-    let sound = opened-sound _ _ _ (c .before .before .before .before .before .before .before .before .«open» .ensures) _ (c .before .before .before .before .before .before .found .given .1) in
-    let fault = told-ill-formed _ _ _ sound (start .args .state) words _ (c .before .before .before .well-formed .ensures) (c .before .before .if1 .taken) in
-    reports-refused _ (start .args .state) words fault _ (c .before .refusal-number2 .ensures)
+    let given = c .before .before .before .before .before .before .before .before .before .before .before .before .before .before .before .args in
+    let opened = c .before .before .before .before .before .before .before .before .«open» in
+    let found = c .before .before .before .before .before .before .found in
+    let words = wordsOf (given .items .now) (given .starts .now) (given .rows .now) (given .queue .now) in
+    let sound = opened-sound _ _ _ (opened .ensures) _ (found .given .1) in
+    let fault = told-ill-formed _ _ _ sound (given .state) words _ (c .before .before .before .well-formed .ensures) (c .before .before .if1 .taken) in
+    reports-refused _ (given .state) words fault _ (c .before .refusal-number2 .ensures)
 
 latest-part-requires : tie.Need-latest-part-requires
 latest-part-requires c κs =
-    let start = c .before .before .before .before .before .before .before .before .before .before .before .before .before in
-    let words = wordsOf (start .args .items .now) (start .args .starts .now) (start .args .rows .now) (start .args .queue .now) in
-    let sound = opened-sound _ _ _ (c .before .before .before .before .before .before .«open» .ensures) _ (c .before .before .before .before .found .given .1) in
-    let formed = told-formed _ _ _ sound (start .args .state) words _ (c .before .well-formed .ensures) (c .if1 .left) in
-    latest-there _ _ (start .args .state) words (formed .well-formed)
+    let given = c .before .before .before .before .before .before .before .before .before .before .before .before .before .args in
+    let opened = c .before .before .before .before .before .before .«open» in
+    let words = wordsOf (given .items .now) (given .starts .now) (given .rows .now) (given .queue .now) in
+    let sound = opened-sound _ _ _ (opened .ensures) _ (c .before .before .before .before .found .given .1) in
+    let formed = told-formed _ _ _ sound (given .state) words _ (c .before .well-formed .ensures) (c .if1 .left) in
+    latest-there _ _ (given .state) words (formed .well-formed)
 
 returns-3 : tie.Need-returns-3
 returns-3 c =
-    let start = c .before .before .before .before .before .before .before .before .before .before .before .before .before .before in
-    let words = wordsOf (start .args .items .now) (start .args .starts .now) (start .args .rows .now) (start .args .queue .now) in
-    let sound = opened-sound _ _ _ (c .before .before .before .before .before .before .before .«open» .ensures) _ (c .before .before .before .before .before .found .given .1) in
-    let formed = told-formed _ _ _ sound (start .args .state) words _ (c .before .before .well-formed .ensures) (c .before .if1 .left) in
-    reports-with _ (start .args .state) words formed _ (c .latest-part .ensures)
+    let given = c .before .before .before .before .before .before .before .before .before .before .before .before .before .before .args in
+    let opened = c .before .before .before .before .before .before .before .«open» in
+    let words = wordsOf (given .items .now) (given .starts .now) (given .rows .now) (given .queue .now) in
+    let sound = opened-sound _ _ _ (opened .ensures) _ (c .before .before .before .before .before .found .given .1) in
+    let formed = told-formed _ _ _ sound (given .state) words _ (c .before .before .well-formed .ensures) (c .before .if1 .left) in
+    reports-with _ (given .state) words formed _ (c .latest-part .ensures)
 
 pub latest-set-spec : {M : Type 1} → statement M
 latest-set-spec =

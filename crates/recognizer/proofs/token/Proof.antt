@@ -24,7 +24,9 @@ enum-known-found c = c .match .keys2
 
 well-formed-requires : tie.Need-well-formed-requires
 well-formed-requires c κs =
-    let sound = opened-sound _ _ _ (c .before .before .before .before .before .before .before .before .«open» .ensures) _ (c .before .before .before .before .before .before .found .given .1) in
+    let opened = c .before .before .before .before .before .before .before .before .«open» in
+    let found = c .before .before .before .before .before .before .found in
+    let sound = opened-sound _ _ _ (opened .ensures) _ (found .given .1) in
     sound-few _ _ _ sound
 
 same-length : tie.Need-same-length
@@ -41,46 +43,66 @@ same-length-4 c = refl
 
 returns-2 : tie.Need-returns-2
 returns-2 c =
-    let a = c .before .before .before .before .before .before .before .before .before .before .before .before .before .before .before .before .before .args in
-    let w = wordsOf (a .items .now) (a .starts .now) (a .rows .now) (a .queue .now) in
-    let sound = opened-sound _ _ _ (c .before .before .before .before .before .before .before .before .before .before .«open» .ensures) _ (c .before .before .before .before .before .before .before .before .found .given .1) in
-    token-means (Takes.refused (told-ill-formed _ _ _ sound (a .state) w _ (c .before .well-formed .ensures) (c .if1 .taken)))
+    let given = c .before .before .before .before .before .before .before .before .before .before .before .before .before .before .before .before .before .args in
+    let opened = c .before .before .before .before .before .before .before .before .before .before .«open» in
+    let found = c .before .before .before .before .before .before .before .before .found in
+    let w = wordsOf (given .items .now) (given .starts .now) (given .rows .now) (given .queue .now) in
+    let sound = opened-sound _ _ _ (opened .ensures) _ (found .given .1) in
+    token-means (Takes.refused (told-ill-formed _ _ _ sound (given .state) w _ (c .before .well-formed .ensures) (c .if1 .taken)))
 
 table-requires : tie.Need-table-requires
 table-requires c κs =
-    let sound = opened-sound _ _ _ (c .before .before .before .before .before .before .before .before .before .before .before .«open» .ensures) _ (c .before .before .before .before .before .before .before .before .before .found .given .1) in
+    let opened = c .before .before .before .before .before .before .before .before .before .before .before .«open» in
+    let found = c .before .before .before .before .before .before .before .before .before .found in
+    let sound = opened-sound _ _ _ (opened .ensures) _ (found .given .1) in
     (sound-few _ _ _ sound, accepted-within _ _ _ _ (sound-checked _ _ _ sound .accepted))
 
 step-within-requires : tie.Need-step-within-requires
 step-within-requires c κs =
-    let a = c .before .before .before .before .before .before .before .before .before .before .before .before .before .before .before .before .before .before .before .before .before .before .before .before .before .args in
-    let w = wordsOf (a .items .now) (a .starts .now) (a .rows .now) (a .queue .now) in
-    let sound = opened-sound _ _ _ (c .before .before .before .before .before .before .before .before .before .before .before .before .before .before .before .before .before .before .«open» .ensures) _ (c .before .before .before .before .before .before .before .before .before .before .before .before .before .before .before .before .found .given .1) in
-    let formed = told-formed _ _ _ sound (a .state) w _ (c .before .before .before .before .before .before .before .before .before .well-formed .ensures) (c .before .before .before .before .before .before .before .before .if1 .left) in
-    can-step formed (c .before .before .before .before .before .before .table .ensures (c .before .before .before .before .before .before .before .before .before .before .before .before .before .before .before .before .found .given .0 .0 .tokens))
+    let given = c .before .before .before .before .before .before .before .before .before .before .before .before .before .before .before .before .before .before .before .before .before .before .before .before .before .args in
+    let opened = c .before .before .before .before .before .before .before .before .before .before .before .before .before .before .before .before .before .before .«open» in
+    let found = c .before .before .before .before .before .before .before .before .before .before .before .before .before .before .before .before .found in
+    let checked = c .before .before .before .before .before .before .before .before .before .well-formed in
+    let check-tested = c .before .before .before .before .before .before .before .before .if1 in
+    let predicted = c .before .before .before .before .before .before .table in
+    let w = wordsOf (given .items .now) (given .starts .now) (given .rows .now) (given .queue .now) in
+    let sound = opened-sound _ _ _ (opened .ensures) _ (found .given .1) in
+    let formed = told-formed _ _ _ sound (given .state) w _ (checked .ensures) (check-tested .left) in
+    can-step formed (predicted .ensures (found .given .0 .0 .tokens))
 
 same-length-5 : tie.Need-same-length-5
-same-length-5 c = c .before .before .before .before .before .before .before .before .step-within .kept .1 .1 .1 .1 .0
+same-length-5 c =
+    let stepped = c .before .before .before .before .before .before .before .before .step-within in
+    stepped .kept .1 .1 .1 .1 .0
 
 same-length-6 : tie.Need-same-length-6
 same-length-6 c =
-    c .before .before .before .before .before .before .before .before .step-within .kept .1 .1 .1 .1 .1 .0
+    let stepped = c .before .before .before .before .before .before .before .before .step-within in
+    stepped .kept .1 .1 .1 .1 .1 .0
 
 same-length-7 : tie.Need-same-length-7
 same-length-7 c =
-    c .before .before .before .before .before .before .before .before .step-within .kept .1 .1 .1 .1 .1 .1 .0
+    let stepped = c .before .before .before .before .before .before .before .before .step-within in
+    stepped .kept .1 .1 .1 .1 .1 .1 .0
 
 same-length-8 : tie.Need-same-length-8
 same-length-8 c =
-    c .before .before .before .before .before .before .before .before .step-within .kept .1 .1 .1 .1 .1 .1 .1 .0
+    let stepped = c .before .before .before .before .before .before .before .before .step-within in
+    stepped .kept .1 .1 .1 .1 .1 .1 .1 .0
 
 returns-3 : tie.Need-returns-3
 returns-3 c =
-    let a = c .before .before .before .before .before .before .before .before .before .before .before .before .before .before .before .before .before .before .before .before .before .before .before .before .before .before .before .before .before .before .before .before .before .before .args in
-    let w = wordsOf (a .items .now) (a .starts .now) (a .rows .now) (a .queue .now) in
-    let sound = opened-sound _ _ _ (c .before .before .before .before .before .before .before .before .before .before .before .before .before .before .before .before .before .before .before .before .before .before .before .before .before .before .before .«open» .ensures) _ (c .before .before .before .before .before .before .before .before .before .before .before .before .before .before .before .before .before .before .before .before .before .before .before .before .before .found .given .1) in
-    let formed = told-formed _ _ _ sound (a .state) w _ (c .before .before .before .before .before .before .before .before .before .before .before .before .before .before .before .before .before .before .well-formed .ensures) (c .before .before .before .before .before .before .before .before .before .before .before .before .before .before .before .before .before .if1 .left) in
-    token-means (takes formed (c .before .before .before .before .before .before .before .before .before .before .before .before .before .before .before .table .ensures (c .before .before .before .before .before .before .before .before .before .before .before .before .before .before .before .before .before .before .before .before .before .before .before .before .before .found .given .0 .0 .tokens)) (a .t) (c .before .before .before .before .before .before .before .before .step-within .ensures))
+    let given = c .before .before .before .before .before .before .before .before .before .before .before .before .before .before .before .before .before .before .before .before .before .before .before .before .before .before .before .before .before .before .before .before .before .before .args in
+    let opened = c .before .before .before .before .before .before .before .before .before .before .before .before .before .before .before .before .before .before .before .before .before .before .before .before .before .before .before .«open» in
+    let found = c .before .before .before .before .before .before .before .before .before .before .before .before .before .before .before .before .before .before .before .before .before .before .before .before .before .found in
+    let checked = c .before .before .before .before .before .before .before .before .before .before .before .before .before .before .before .before .before .before .well-formed in
+    let check-tested = c .before .before .before .before .before .before .before .before .before .before .before .before .before .before .before .before .before .if1 in
+    let predicted = c .before .before .before .before .before .before .before .before .before .before .before .before .before .before .before .table in
+    let stepped = c .before .before .before .before .before .before .before .before .step-within in
+    let w = wordsOf (given .items .now) (given .starts .now) (given .rows .now) (given .queue .now) in
+    let sound = opened-sound _ _ _ (opened .ensures) _ (found .given .1) in
+    let formed = told-formed _ _ _ sound (given .state) w _ (checked .ensures) (check-tested .left) in
+    token-means (takes formed (predicted .ensures (found .given .0 .0 .tokens)) (given .t) (stepped .ensures))
 
 pub token-spec : {M : Type 1} → statement M
 token-spec =

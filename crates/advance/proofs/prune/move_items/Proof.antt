@@ -51,8 +51,8 @@ loop-less c = search needs
 
 loop-again : tie.Need-loop-again Inv-loop μ-loop
 loop-again c =
-    moving-next _ _ _ _ (c .before .before .before .before .before .before .before .pre .0)
-    (c .before .before .before .before .before .before .before .pre .1) (c .before .before .before .before .before .before .before .pre .2) _ _
+    let required = c .before .before .before .before .before .before .before .pre in
+    moving-next _ _ _ _ (required .0) (required .1) (required .2) _ _
     (c .before .before .before .before .before .loop .inv) (c .before .before .before .before .loop-test .taken) (c .before .before .copy .ensures)
 
 add-clear : tie.Need-add-clear Inv-loop μ-loop
@@ -87,14 +87,14 @@ clear-requires c κs = (
 
 same-length : tie.Need-same-length Inv-loop μ-loop
 same-length c =
-    c .before .before .clear .kept .0 ∙ moving-length _ _ _ _ (c .before .before .before .before .before .before .before .pre .0)
-    (c .before .before .before .before .before .before .before .pre .1) (c .before .before .before .before .before .before .before .pre .2) _ _
+    let required = c .before .before .before .before .before .before .before .pre in
+    c .before .before .clear .kept .0 ∙ moving-length _ _ _ _ (required .0) (required .1) (required .2) _ _
     (c .before .before .before .before .before .loop .inv)
 
 returns : tie.Need-returns Inv-loop μ-loop
 returns c =
-    moving-ends _ _ _ _ (c .before .before .before .before .before .before .before .pre .0)
-    (c .before .before .before .before .before .before .before .pre .1) (c .before .before .before .before .before .before .before .pre .2) _ _
+    let required = c .before .before .before .before .before .before .before .pre in
+    moving-ends _ _ _ _ (required .0) (required .1) (required .2) _ _
     (c .before .before .before .before .before .loop .inv) (c .before .before .before .before .loop-test .left)
     (c .before .before .clear .ensures)
 

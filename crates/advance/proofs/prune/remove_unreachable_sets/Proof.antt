@@ -23,13 +23,13 @@ wide-requires : tie.Need-wide-requires
 wide-requires c κs = search needs
 
 move-items-requires : tie.Need-move-items-requires
-move-items-requires c κs = (
-  base-below _ _ _ _ _ _ _ (c .before .before .before .before .before .before .before .pre) (c .before .before .before .if1 .left)
-      (c .before .wide .ensures),
-  c .before .before .before .before .before .before .before .pre .runs,
-  c .before .before .before .before .before .before .before .pre .there,
-  c .before .before .before .before .before .before .before .pre .spare-items,
-)
+move-items-requires c κs =
+    let required = c .before .before .before .before .before .before .before .pre in (
+      base-below _ _ _ _ _ _ _ required (c .before .before .before .if1 .left) (c .before .wide .ensures),
+      required .runs,
+      required .there,
+      required .spare-items,
+    )
 
 add-clear : tie.Need-add-clear
 add-clear c = search needs
@@ -56,22 +56,27 @@ clear-rows-requires : tie.Need-clear-rows-requires
 clear-rows-requires c κs = search needs
 
 same-length : tie.Need-same-length
-same-length c = c .before .before .before .before .before .before .before .before .before .before .move-items .kept .0
+same-length c =
+    let items-moved = c .before .before .before .before .before .before .before .before .before .before .move-items in
+    items-moved .kept .0
 
 same-length-2 : tie.Need-same-length-2
-same-length-2 c = c .before .before .before .before .before .before .clear .kept .0
+same-length-2 c =
+    let starts-cleared = c .before .before .before .before .before .before .clear in
+    starts-cleared .kept .0
 
 same-length-3 : tie.Need-same-length-3
 same-length-3 c = c .before .before .clear-rows .kept .0
 
 returns-2 : tie.Need-returns-2
 returns-2 c =
-    sets-dropped _ _ _ _ _ _ _
-    (c .before .before .before .before .before .before .before .before .before .before .before .before .before .before .before .before .before .before .pre)
-    (c .before .before .before .before .before .before .before .before .before .before .before .before .before .before .if1 .left)
-    (c .before .before .before .before .before .before .before .before .before .before .before .before .wide .ensures)
-    (c .before .before .before .before .before .before .before .before .before .before .move-items .ensures)
-    (c .before .before .before .before .before .before .clear .ensures) (c .before .before .clear-rows .ensures)
+    let required = c .before .before .before .before .before .before .before .before .before .before .before .before .before .before .before .before .before .before .pre in
+    let drop-tested = c .before .before .before .before .before .before .before .before .before .before .before .before .before .before .if1 in
+    let base-read = c .before .before .before .before .before .before .before .before .before .before .before .before .wide in
+    let items-moved = c .before .before .before .before .before .before .before .before .before .before .move-items in
+    let starts-cleared = c .before .before .before .before .before .before .clear in
+    sets-dropped _ _ _ _ _ _ _ required (drop-tested .left) (base-read .ensures) (items-moved .ensures)
+    (starts-cleared .ensures) (c .before .before .clear-rows .ensures)
 
 pub remove-unreachable-sets-spec : {M : Type 1} → statement M
 remove-unreachable-sets-spec =

@@ -44,12 +44,13 @@ second-requires c κs =
 
 returns : tie.Need-returns Inv-loop μ-loop
 returns c =
-    let start = c .before .before .before .before .before .before .before in
-    let args = start .args in
-    let here : secondOf (rulesIn (now (args .rules)) (args .count)) (itemAt (now (args .items)) (c .before .before .before .before .before .loop .end - 1)) ≡ c .before .second .result = second-read _ _ _ _ _ _ (c .before .before .before .before .before .before .before .pre .0) (omega arith) (omega (arith, c .before .before .before .before .before .loop .inv .below)) _ _ _ (c .before .before .before .rule .ensures) (c .before .before .wide .ensures) (c .before .second .ensures .0) in
-    let narrow : Narrow (now (args .items)) = record { fits = λ i. omega (arith, c .before .before .before .before .before .before .shared-slice-known .given i) } in (
+    let given = c .before .before .before .before .before .before .before .args in
+    let required = c .before .before .before .before .before .before .before .pre in
+    let items-lent = c .before .before .before .before .before .before .shared-slice-known in
+    let here : secondOf (rulesIn (now (given .rules)) (given .count)) (itemAt (now (given .items)) (c .before .before .before .before .before .loop .end - 1)) ≡ c .before .second .result = second-read _ _ _ _ _ _ (required .0) (omega arith) (omega (arith, c .before .before .before .before .before .loop .inv .below)) _ _ _ (c .before .before .before .rule .ensures) (c .before .before .wide .ensures) (c .before .second .ensures .0) in
+    let narrow : Narrow (now (given .items)) = record { fits = λ i. omega (arith, items-lent .given i) } in (
       (c .before .before .before .before .before .loop .inv .above, c .before .before .before .before .before .loop .inv .below),
-      dropping-ends _ _ _ _ narrow (start .pre .1) _
+      dropping-ends _ _ _ _ narrow (required .1) _
           (c .before .before .before .before .before .loop .inv) (λ l. omega (arith, here, c .before .second .ensures .1, c .if1 .taken)),
     )
 
@@ -61,15 +62,16 @@ loop-less c = search needs
 
 loop-again : tie.Need-loop-again Inv-loop μ-loop
 loop-again c =
+    let required = c .before .before .before .before .before .before .before .pre in
     dropping-next _ _ _ _ _ (c .before .before .before .before .before .loop .inv)
-    (c .before .before .before .before .loop-test .taken) (second-read _ _ _ _ _ _ (c .before .before .before .before .before .before .before .pre .0)
+    (c .before .before .before .before .loop-test .taken) (second-read _ _ _ _ _ _ (required .0)
     (omega arith) (omega (arith, c .before .before .before .before .before .loop .inv .below)) _ _ _ (c .before .before .before .rule .ensures)
     (c .before .before .wide .ensures) (c .before .second .ensures .0) ∙ c .if1 .left)
 
 returns-2 : tie.Need-returns-2 Inv-loop μ-loop
 returns-2 c =
-    let args = c .before .before .before .args in
-    let narrow : Narrow (now (args .items)) = record { fits = λ i. omega (arith, c .before .before .shared-slice-known .given i) } in (
+    let given = c .before .before .before .args in
+    let narrow : Narrow (now (given .items)) = record { fits = λ i. omega (arith, c .before .before .shared-slice-known .given i) } in (
       (c .before .loop .inv .above, c .before .loop .inv .below),
       dropping-ends _ _ _ _ narrow (c .before .before .before .pre .1) _
           (c .before .loop .inv) (λ l. absurd (omega arith)),

@@ -23,10 +23,11 @@ same-length c = search needs
 
 returns : tie.Need-returns
 returns c =
+    let required = c .before .before .before .before .before .before .before .pre in
     let near = c .before .before .before .before .binary-end .ensures in (
       cut-count _ _ _ _ (near .0 .0) (near .1),
       c .before .before .clear .ensures ∙ cut-ending _ _ _ _ (near .0 .0)
-          (omega (arith, near .0 .1, c .before .before .before .before .before .before .before .pre .0 .there)) (near .1),
+          (omega (arith, near .0 .1, required .0 .there)) (near .1),
     )
 
 pub remove-unary-medial-items-spec : {M : Type 1} → statement M

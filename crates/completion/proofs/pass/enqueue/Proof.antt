@@ -23,9 +23,9 @@ cast-push c =
 -- src/pass.rt:48:11
 push-requires : tie.Need-push-requires
 push-requires c κs =
-    let a = c .before .before .before .before .before .args in
-    let s = passOf (a .at) (a .items .now) (a .queue .now) in
-    (sound-places s (c .before .before .before .before .before .pre .0), le-refl (length (a .queue .now)), has-place s (c .before .before .before .before .before .pre .0) (a .place) (c .before .before .before .before .before .pre .1 (c .before .if1 .left)))
+    let given = c .before .before .before .before .before .args in
+    let s = passOf (given .at) (given .items .now) (given .queue .now) in
+    (sound-places s (c .before .before .before .before .before .pre .0), le-refl (length (given .queue .now)), has-place s (c .before .before .before .before .before .pre .0) (given .place) (c .before .before .before .before .before .pre .1 (c .before .if1 .left)))
 
 -- src/pass.rt:49:25
 enum-told : tie.Need-enum-told
@@ -42,8 +42,9 @@ same-length c = search needs
 -- src/pass.rt:38:1
 returns-2 : tie.Need-returns-2
 returns-2 c =
-    let a = c .before .before .before .before .before .before .before .before .before .before .args in
-    queue-refused (passOf (a .at) (a .items .now) (a .queue .now)) (a .place) (c .before .before .before .before .push .last .1 .0) (c .before .before .before .before .before .before .if1 .left) (sym (c .before .before .before .before .push .ensures .0) ∙ c .enum-told .given .1) (c .before .before .before .before .push .ensures .1)
+    let given = c .before .before .before .before .before .before .before .before .before .before .args in
+    let stop-tested = c .before .before .before .before .before .before .if1 in
+    queue-refused (passOf (given .at) (given .items .now) (given .queue .now)) (given .place) (c .before .before .before .before .push .last .1 .0) (stop-tested .left) (sym (c .before .before .before .before .push .ensures .0) ∙ c .enum-told .given .1) (c .before .before .before .before .push .ensures .1)
 
 -- src/pass.rt:38:1
 same-length-2 : tie.Need-same-length-2
@@ -52,8 +53,9 @@ same-length-2 c = search needs
 -- src/pass.rt:38:1
 returns-3 : tie.Need-returns-3
 returns-3 c =
-    let a = c .before .before .before .before .before .before .before .before .before .before .before .args in
-    queue-took (passOf (a .at) (a .items .now) (a .queue .now)) (a .place) _ (c .before .before .before .before .before .push .last .1 .0) (c .before .before .before .before .before .before .before .if1 .left) (sym (c .before .before .before .before .before .push .ensures .0) ∙ c .before .n .given .1) (c .before .before .before .before .before .push .ensures .1)
+    let given = c .before .before .before .before .before .before .before .before .before .before .before .args in
+    let stop-tested = c .before .before .before .before .before .before .before .if1 in
+    queue-took (passOf (given .at) (given .items .now) (given .queue .now)) (given .place) _ (c .before .before .before .before .before .push .last .1 .0) (stop-tested .left) (sym (c .before .before .before .before .before .push .ensures .0) ∙ c .before .n .given .1) (c .before .before .before .before .before .push .ensures .1)
 
 pub enqueue-spec : {M : Type 1} → statement M
 enqueue-spec =

@@ -34,10 +34,10 @@ same-length c = search needs
 -- src/pass.rt:14:1
 returns-2 : tie.Need-returns-2
 returns-2 c =
-    let a = c .before .before .before .before .before .before .args in
+    let given = c .before .before .before .before .before .before .args in
     λ q.
-    ap (λ (w : List ℕ). passOf (record { stopped = 0; items = a .at .items + 1; queued = a .at .queued }) w q) (c .before .before .write .ensures)
-    ∙ sym (store-done (passOf (a .at) (a .items .now) q) (a .origin) (a .rule) (c .before .before .before .before .if1 .left))
+    ap (λ (w : List ℕ). passOf (record { stopped = 0; items = given .at .items + 1; queued = given .at .queued }) w q) (c .before .before .write .ensures)
+    ∙ sym (store-done (passOf (given .at) (given .items .now) q) (given .origin) (given .rule) (c .before .before .before .before .if1 .left))
 
 pub store-spec : {M : Type 1} → statement M
 store-spec =

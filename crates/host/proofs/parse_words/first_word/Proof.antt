@@ -3,7 +3,6 @@ use native.Mathlib.Omega.{arith}
 use borrow.Author.Tests.{eq-eqb, ne-eqb}
 use Rattle.host.specs.inner.Parts.{firstWord}
 use borrow.Author.Tests.{eq-eqb, ne-eqb}
-use Rattle.host.specs.Reports.{firstWord}
 use borrow.Author.Tests.{eq-eqb, ne-eqb}
 use Rattle.host.specs.Reports.{firstWord}
 use borrow.Author.Tests.{eq-eqb, ne-eqb}

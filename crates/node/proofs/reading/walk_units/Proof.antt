@@ -35,12 +35,14 @@ enum-known-behind c = search needs
 
 -- In a turn that goes on, a node was read, and the position behind it is onward and within the store.
 node-read : (c : tie.After-known-told Inv-loop μ-loop)
-    → readUnits (c .before .before .before .before .before .before .args .s .now) (c .before .before .before .before .loop .at)
+    → let given = c .before .before .before .before .before .before .args in
+    readUnits (given .s .now) (c .before .before .before .before .loop .at)
     ≡ answer done (node (c .before .behind .given .0 .0) (c .before .behind .given .0 .1 .0))
 node-read c = sym (c .before .before .before .read-units .ensures) ∙ ap found (c .before .behind .given .1)
 
 onward : (c : tie.After-known-told Inv-loop μ-loop)
-    → Onward (c .before .before .before .before .before .before .args .s .now) (c .before .before .before .before .loop .at)
+    → let given = c .before .before .before .before .before .before .args in
+    Onward (given .s .now) (c .before .before .before .before .loop .at)
     (c .before .behind .given .0 .1 .0)
 onward c = read-onward _ _ _ _ (node-read c)
 

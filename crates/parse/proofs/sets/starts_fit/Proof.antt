@@ -38,10 +38,11 @@ never-falls-requires c κs = search needs
 
 returns-4 : tie.Need-returns-4
 returns-4 c =
+    let first-tested = c .before .before .before .before .before .before .if1 in
     decides-map
     (λ never.
     record {
-      first-start = c .before .before .before .before .before .before .if1 .left;
+      first-start = first-tested .left;
       second-start = c .before .before .before .before .if2 .left;
       never-falls = never;
       last-start = sym (c .before .before .wide .ensures) ∙ c .before .if3 .left;

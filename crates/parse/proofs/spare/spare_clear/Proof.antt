@@ -40,10 +40,11 @@ is-clear-requires-3 c κs = search needs
 
 returns-4 : tie.Need-returns-4
 returns-4 c =
+    let items-checked = c .before .before .before .before .before .before .is-clear in
     decides-map
     (λ queue.
     record {
-      items = passes (c .before .before .before .before .before .before .is-clear .ensures) (c .before .before .before .before .before .if1 .left);
+      items = passes (items-checked .ensures) (c .before .before .before .before .before .if1 .left);
       starts = passes (c .before .before .before .before .is-clear2 .ensures) (c .before .before .before .if2 .left);
       rows = passes (c .before .before .is-clear-rows .ensures) (c .before .if3 .left);
       queue = queue;

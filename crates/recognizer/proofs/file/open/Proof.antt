@@ -43,7 +43,8 @@ returns-2 c =
 
 returns-3 : tie.Need-returns-3
 returns-3 c =
-    let a : AcceptedFile (c .before .before .before .before .before .before .before .before .args .file .now) = accepted-file _ _ (c .before .before .before .before .before .read .ensures .0) (c .before .before .before .enum-told3 .given .1) in
+    let given = c .before .before .before .before .before .before .before .before .args in
+    let a : AcceptedFile (given .file .now) = accepted-file _ _ (c .before .before .before .before .before .read .ensures .0) (c .before .before .before .enum-told3 .given .1) in
     record {
       whole = a .formed;
       accepted = a .accepted;

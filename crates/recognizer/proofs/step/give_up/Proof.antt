@@ -18,7 +18,8 @@ clear-requires c κs =
 -- src/step.rt:66:5
 clear-requires-2 : tie.Need-clear-requires-2
 clear-requires-2 c κs =
-    (omega arith, le-refl (length (c .before .before .before .before .before .before .before .args .queue .now)), record { zero = λ i past. List·getD-eq-default (c .before .before .before .before .before .before .before .args .queue .now) 0 {n = i} past })
+    let given = c .before .before .before .before .before .before .before .args in
+    (omega arith, le-refl (length (given .queue .now)), record { zero = λ i past. List·getD-eq-default (given .queue .now) 0 {n = i} past })
 
 -- src/step.rt:58:1
 same-length : tie.Need-same-length
