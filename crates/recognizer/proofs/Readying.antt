@@ -18,10 +18,12 @@ use Rattle.recognizer.specs.declared.Sizes.{Sizes}
 use Rattle.recognizer.specs.declared.Refusal.{Refusal}
 use Rattle.recognizer.specs.declared.file.Opened.{Opened}
 use Rattle.recognizer.specs.declared.file.Opened.the-variants as opened
+use Rattle.recognizer.specs.declared.ready.Readied.{Readied}
+use Rattle.recognizer.specs.declared.ready.Readied.the-variants as readied
 use Rattle.recognizer.specs.Answers.{refusalNumber}
 use Rattle.demands.specs.Calls.{Checked, FileFault, CallFault, Formed, Finishes, Reports}
 use Rattle.recognizer.specs.inner.Cuts.{lastWrapsIn, latestPartIn}
-use Rattle.recognizer.specs.inner.Opening.{OpenedFile, Opens}
+use Rattle.recognizer.specs.inner.Opening.{OpenedFile, Opens, ReadyFor, Readies}
 use Rattle.recognizer.specs.inner.Steppable.{grammarFrom}
 use Rattle.recognizer.proofs.Cutting.{last-same, part-same}
 
@@ -52,8 +54,22 @@ module _ (file words : List ℕ) (sizes : Sizes) (sound : OpenedFile file words 
     pub told-ill-formed : not b ≡ true → CallFault file s w 4
     told-ill-formed not-so = CallFault.ill-formed sound-checked (tells .if-no (not-true b not-so))
 
-    pub told-formed : not b ≡ false → Formed file s w (grammarFrom words sizes)
-    told-formed so = record { checked = sound-checked; well-formed = tells .if-yes (not-false b so) }
+    pub told-ready : not b ≡ false → ReadyFor file s w words sizes
+    told-ready so = record { opened = sound; well-formed = tells .if-yes (not-false b so) }
+
+-- What the first checks of a call have told.
+module _ (file : List ℕ) (s : State) (w : Words) (words : List ℕ) (r : Readied) (tells : Readies file s w words r) where
+  pub readied-fault : (why : Refusal) → r ≡ readied.Refused why → CallFault file s w (refusalNumber why)
+  readied-fault why is = subst (Readies file s w words) is tells
+
+  pub readied-for : (sizes : Sizes) → r ≡ readied.Formed sizes → ReadyFor file s w words sizes
+  readied-for sizes is = subst (Readies file s w words) is tells
+
+  pub readied-few : (sizes : Sizes) → r ≡ readied.Formed sizes → sizes .rules ≤ maxRules
+  readied-few sizes is = sound-few file words sizes (readied-for sizes is .opened)
+
+  pub readied-formed : (sizes : Sizes) → r ≡ readied.Formed sizes → Formed file s w (grammarFrom words sizes)
+  readied-formed sizes is = record { checked = sound-checked file words sizes (readied-for sizes is .opened); well-formed = readied-for sizes is .well-formed }
 
 -- The reports of a well-formed state, from the uncut words.
 module _ (file : List ℕ) (s : State) (w : Words) where

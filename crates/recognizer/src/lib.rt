@@ -1,6 +1,7 @@
 // The calls on a parse: start, token, run, finished, latest set.
 
 mod file;
+pub mod ready;
 mod step;
 mod within;
 
@@ -11,11 +12,12 @@ ghost use Rattle.parse.specs.Words.{wordsOf};
 ghost use Rattle.demands.specs.Sentences.{TokenTells, RunTells, FinishedTells};
 use crate::file::Opened;
 use crate::file::open;
+use crate::ready::Readied;
+use crate::ready::ready;
 use crate::within::begin;
 use crate::within::last_wraps;
 use crate::within::latest_part;
 use crate::within::step_within;
-use crate::within::well_formed;
 use grammar::limits::WORDS;
 use parse::State;
 
@@ -97,13 +99,10 @@ pub fn token(
     ensures sentences { λ r. ⌜ TokenTells (now (file .entry)) state (wordsOf (now (items .entry)) (now (starts .entry)) (now (rows .entry)) (now (queue .entry))) t (numberOf r) ⌝ }
 {
     let mut rules = [0; WORDS];
-    let sizes = match open(file, &mut rules) {
-        Opened::Refused(why) => return Answer::Refused(why, state),
-        Opened::Sound(found) => found,
+    let sizes = match ready(file, state, items, starts, rows, queue, &mut rules) {
+        Readied::Refused(why) => return Answer::Refused(why, state),
+        Readied::Formed(found) => found,
     };
-    if !well_formed(&rules, sizes, state, items, starts, rows, queue) {
-        return Answer::Refused(Refusal::IllFormed, state);
-    }
     let table = prediction::table(&rules, sizes.symbols, sizes.rules);
     step_within(
         &rules,
@@ -132,19 +131,13 @@ pub fn run(
     ensures sentences { λ r. ⌜ RunTells (now (file .entry)) state (wordsOf (now (items .entry)) (now (starts .entry)) (now (rows .entry)) (now (queue .entry))) (now (tokens .entry)) (endedOf r (wordsOf (now (items .exit)) (now (starts .exit)) (now (rows .exit)) (now (queue .exit)))) ⌝ }
 {
     let mut rules = [0; WORDS];
-    let sizes = match open(file, &mut rules) {
-        Opened::Refused(why) => return Ran {
+    let sizes = match ready(file, state, items, starts, rows, queue, &mut rules) {
+        Readied::Refused(why) => return Ran {
             answer: Answer::Refused(why, state),
             taken: 0,
         },
-        Opened::Sound(found) => found,
+        Readied::Formed(found) => found,
     };
-    if !well_formed(&rules, sizes, state, items, starts, rows, queue) {
-        return Ran {
-            answer: Answer::Refused(Refusal::IllFormed, state),
-            taken: 0,
-        };
-    }
     let table = prediction::table(&rules, sizes.symbols, sizes.rules);
     within::run_within(
         &rules,
@@ -172,12 +165,9 @@ pub fn finished(
     ensures sentences { λ r. ⌜ FinishedTells (now (file .entry)) state (wordsOf (now (items .entry)) (now (starts .entry)) (now (rows .entry)) (now (queue .entry))) (finishedNumber r) (saysYes r) ⌝ }
 {
     let mut rules = [0; WORDS];
-    let sizes = match open(file, &mut rules) {
-        Opened::Refused(why) => return Whether::Refused(why),
-        Opened::Sound(found) => found,
-    };
-    if !well_formed(&rules, sizes, state, items, starts, rows, queue) {
-        return Whether::Refused(Refusal::IllFormed);
+    match ready(file, state, items, starts, rows, queue, &mut rules) {
+        Readied::Refused(why) => return Whether::Refused(why),
+        Readied::Formed(_) => {}
     }
     if last_wraps(state, items, starts) {
         return Whether::Yes;
@@ -198,16 +188,12 @@ pub fn latest_set<'a>(
     ensures calls { λ r. ⌜ Reports (now (file .entry)) state (wordsOf (now (items .entry)) (now (starts .entry)) (now (rows .entry)) (now (queue .entry))) (now (number .exit)) (now r) ⌝ }
 {
     let mut rules = [0; WORDS];
-    let sizes = match open(file, &mut rules) {
-        Opened::Refused(why) => {
+    match ready(file, state, items, starts, rows, queue, &mut rules) {
+        Readied::Refused(why) => {
             *number = refusal_number(why);
             return &items[0..0];
         }
-        Opened::Sound(found) => found,
-    };
-    if !well_formed(&rules, sizes, state, items, starts, rows, queue) {
-        *number = refusal_number(Refusal::IllFormed);
-        return &items[0..0];
+        Readied::Formed(_) => {}
     }
     *number = 0;
     latest_part(state, items, starts)
