@@ -16,9 +16,9 @@ use Rattle.parse.specs.inner.Parts.{Clear}
 use Rattle.demands.specs.Calls.{Sound, Starts}
 use Rattle.recognizer.specs.inner.Cuts.{clearedWords, begunWords}
 
--- Any words may be cleared from the first to the last.
-pub may-clear : (words : List ℕ) → (0 ≤ length words) × (length words ≤ length words) × Clear words (length words)
-may-clear words = (omega arith, omega arith, record { zero = λ i l. List·getD-eq-default words 0 {n = i} l })
+-- Words may be cleared up to the last.
+pub may-clear : (words : List ℕ) (from : ℕ) → from ≤ length words → (from ≤ length words) × (length words ≤ length words) × Clear words (length words)
+may-clear words from l = (l, omega arith, record { zero = λ i m. List·getD-eq-default words 0 {n = i} m })
 
 -- Words cleared from the first on.
 pub cleared-all : (words : List ℕ) → padded (length words) (take 0 words) ≡ replicate (length words) 0

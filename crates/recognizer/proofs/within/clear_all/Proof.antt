@@ -1,4 +1,5 @@
 -- `recognizer::within::clear_all` meets its contract.
+use native.Mathlib.Omega.{arith}
 use borrow.Author.Needs.{needs}
 use Rattle.parse.specs.Words.{wordsOf}
 use Rattle.recognizer.proofs.Beginning.{may-clear, all-cleared}
@@ -6,16 +7,16 @@ use Rattle.recognizer.proofs.within.clear_all.Statement.{statement}
 use Rattle.recognizer.proofs.within.clear_all.Tie as tie
 
 clear-requires : tie.Need-clear-requires
-clear-requires c κs = may-clear _
+clear-requires c κs = may-clear _ _ (omega arith)
 
 clear-requires-2 : tie.Need-clear-requires-2
-clear-requires-2 c κs = may-clear _
+clear-requires-2 c κs = may-clear _ _ (omega arith)
 
 clear-rows-requires : tie.Need-clear-rows-requires
-clear-rows-requires c κs = may-clear _
+clear-rows-requires c κs = may-clear _ _ (omega arith)
 
 clear-requires-3 : tie.Need-clear-requires-3
-clear-requires-3 c κs = may-clear _
+clear-requires-3 c κs = may-clear _ _ (omega arith)
 
 put-at-requires : tie.Need-put-at-requires
 put-at-requires c κs = search needs
