@@ -7,7 +7,6 @@ ghost use mathlib.Core.Path.{_≡_};
 ghost use Prim.Native.Nat.{_≤_};
 ghost use lib.ListN.{length as lengthOf, take};
 ghost use Rattle.io.specs.Counts.{Counts};
-ghost use Rattle.recognizer.specs.Answers.{numberOf, stateOf};
 ghost use Rattle.recognizer.specs.Steppable.{wordsOf};
 ghost use Rattle.driver.specs.Header.{longestFile, Within};
 ghost use Rattle.driver.specs.Text.{textRoom};
@@ -23,7 +22,9 @@ use libc::STDOUT_FILENO;
 use parse::State;
 use recognizer::Answer;
 use recognizer::Whether;
+use recognizer::number_of;
 use recognizer::refusal_number;
+use recognizer::state_of;
 use text::ROOM;
 use tokens::read_tokens;
 
@@ -43,26 +44,6 @@ fn wide(number: u32) -> usize
     ensures { λ r. ⌜ r ≡ number ⌝ }
 {
     number as usize
-}
-
-// The paper's number of an answer.
-fn number_of(answer: Answer) -> usize
-    ensures { λ r. ⌜ r ≡ numberOf answer ⌝ }
-{
-    match answer {
-        Answer::Done(_) => 0,
-        Answer::Refused(why, _) => wide(refusal_number(why)),
-    }
-}
-
-// The state that an answer leaves.
-fn state_of(answer: Answer) -> State
-    ensures { λ r. ⌜ r ≡ stateOf answer ⌝ }
-{
-    match answer {
-        Answer::Done(state) => state,
-        Answer::Refused(_, state) => state,
-    }
 }
 
 // Reads what stands behind the header of a file of that length.
@@ -128,7 +109,7 @@ fn follow(
     let answer = ran.answer;
     let end = state_of(answer);
     let yes = is_finished(file, end, items, starts, rows, queue);
-    text::report(out, ran.taken, number_of(answer), yes, end.set)
+    text::report(out, ran.taken, wide(number_of(answer)), yes, end.set)
 }
 
 // Starts a parse and follows it; answers how long the lines are.
