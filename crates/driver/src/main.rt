@@ -16,6 +16,7 @@ use grammar::file::RULE;
 use grammar::limits::RULES;
 use header::Header;
 use header::told;
+use libc::STDERR_FILENO;
 use libc::STDIN_FILENO;
 use libc::STDOUT_FILENO;
 use parse::State;
@@ -164,5 +165,7 @@ fn main() {
     let came = read_grammar(&mut file);
     let mut out = [0u8; ROOM];
     let count = answer(&file[..came], &mut out);
-    io::write_all(STDOUT_FILENO, &out[..count]);
+    if !io::write_all(STDOUT_FILENO, &out[..count]) {
+        io::write_all(STDERR_FILENO, b"driver: the output could not be written\n");
+    }
 }
