@@ -17,7 +17,7 @@ use Rattle.demands.proofs.Running.{ran-on, ran-off}
 use Rattle.demands.proofs.Again.{stepped-ready}
 
 -- A refused call is not answered 0.
-call-some : {file : List ℕ} {s : State} {w : Words} {n : ℕ} → CallFault file s w n → n ≡ 0 → ⊥
+pub call-some : {file : List ℕ} {s : State} {w : Words} {n : ℕ} → CallFault file s w n → n ≡ 0 → ⊥
 call-some (CallFault.file-fault (FileFault.malformed m)) e = omega arith
 call-some (CallFault.file-fault (FileFault.broken m b)) e = omega arith
 call-some (CallFault.ill-formed checked ill) e = omega arith

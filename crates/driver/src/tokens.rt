@@ -2,8 +2,9 @@
 ghost use mathlib.Core.Path.{_≡_};
 ghost use Prim.Native.Nat.{_≤_};
 ghost use lib.ListN.{length, take};
+ghost use lib.Dec.{ltb};
 ghost use Rattle.driver.specs.Parts.{partTokens};
-ghost use Rattle.driver.specs.Writes.{RunsOver};
+ghost use Rattle.driver.specs.Writes.{RunsPart, RunsOver};
 ghost use Rattle.demands.specs.Calls.{Runs};
 ghost use Rattle.recognizer.specs.Answers.{endedOf};
 ghost use Rattle.parse.specs.Words.{wordsOf};
@@ -51,7 +52,14 @@ fn run_part(
     recognizer::run(file, state, items, starts, rows, queue, &tokens[..count])
 }
 
-// Reads and runs one part. A part that is taken and is not full is the last.
+// Whether a part of so many tokens is the last: one that is not full is.
+fn is_last(count: usize) -> bool
+    ensures { λ r. ⌜ r ≡ ltb count partTokens ⌝ }
+{
+    count < PART
+}
+
+// Reads and runs one part.
 fn read_part(
     file: &[u8],
     state: State,
@@ -60,7 +68,7 @@ fn read_part(
     rows: &mut [u64],
     queue: &mut [u32],
 ) -> Ran
-    ensures read { λ r. ⌜ RunsOver (now (file .entry)) state (wordsOf (now (items .entry)) (now (starts .entry)) (now (rows .entry)) (now (queue .entry))) (endedOf r (wordsOf (now (items .exit)) (now (starts .exit)) (now (rows .exit)) (now (queue .exit)))) ⌝ }
+    ensures read { λ r. ⌜ RunsPart (now (file .entry)) state (wordsOf (now (items .entry)) (now (starts .entry)) (now (rows .entry)) (now (queue .entry))) (endedOf r (wordsOf (now (items .exit)) (now (starts .exit)) (now (rows .exit)) (now (queue .exit)))) ⌝ }
     ensures few { λ r. ⌜ r .taken ≤ partTokens ⌝ }
 {
     let mut part = io::buffer();
@@ -95,7 +103,7 @@ pub fn read_tokens(
                 taken: taken,
             },
         }
-        if more < PART {
+        if is_last(more) {
             parts = 0;
         } else {
             parts -= 1;

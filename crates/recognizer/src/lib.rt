@@ -6,7 +6,7 @@ mod step;
 mod within;
 
 ghost use mathlib.Core.Path.{_≡_};
-ghost use Rattle.recognizer.specs.Answers.{refusalNumber, numberOf, outcomeOf, endedOf, finishedNumber, saysYes};
+ghost use Rattle.recognizer.specs.Answers.{refusalNumber, numberOf, stateOf, outcomeOf, endedOf, finishedNumber, saysYes};
 ghost use Rattle.demands.specs.Calls.{Starts, Takes, Runs, Finishes, Reports};
 ghost use Rattle.parse.specs.Words.{wordsOf};
 ghost use Rattle.demands.specs.Sentences.{TokenTells, RunTells, FinishedTells};
@@ -213,5 +213,25 @@ pub fn refusal_number(why: Refusal) -> u32
         Refusal::ItemsFull => 7,
         Refusal::QueueFull => 8,
         Refusal::SetsFull => 9,
+    }
+}
+
+// The paper's number of an answer.
+pub fn number_of(answer: Answer) -> u32
+    ensures { λ r. ⌜ r ≡ numberOf answer ⌝ }
+{
+    match answer {
+        Answer::Done(_) => 0,
+        Answer::Refused(why, _) => refusal_number(why),
+    }
+}
+
+// The state that an answer leaves.
+pub fn state_of(answer: Answer) -> State
+    ensures { λ r. ⌜ r ≡ stateOf answer ⌝ }
+{
+    match answer {
+        Answer::Done(state) => state,
+        Answer::Refused(_, state) => state,
     }
 }
