@@ -24,8 +24,9 @@ enum-told-2 c = search needs
 returns : tie.Need-returns
 unfolding numberIn positionOr numbersOr
 returns c =
-    let h = heard-read (c .before .before .before .before .before .before .args .behind .now) (c .before .before .before .before .read .ensures .0) (c .before .before .n .given .1) in
-    (h .number, (c .numbers-of .ensures ∙ h .numbers (c .before .before .before .before .before .before .args .node .now), h .position))
+    let given = c .before .before .before .before .before .before .args in
+    let h = heard-read (given .behind .now) (c .before .before .before .before .read .ensures .0) (c .before .before .n .given .1) in
+    (h .number, (c .numbers-of .ensures ∙ h .numbers (given .node .now), h .position))
 
 returns-2 : tie.Need-returns-2
 unfolding numberIn positionOr numbersOr
