@@ -35,7 +35,10 @@ same-length-5 : tie.Need-same-length-5
 same-length-5 c = search needs
 
 returns : tie.Need-returns
-returns c = (c .before .before .report .ensures .0, followed (c .before .before .before .before .before .before .before .before .before .before .before .before .before .before .before .before .before .before .before .read-tokens .result) (c .before .before .before .before .before .before .before .before .before .before .before .before .before .before .before .before .before .before .before .read-tokens .ensures) (c .before .before .before .before .before .before .before .before .before .before .state-of .ensures) (c .before .before .before .before .before .is-finished .ensures) (c .before .before .before .number-of .ensures) (c .before .before .report .ensures .1))
+returns c =
+    let tokens-read = c .before .before .before .before .before .before .before .before .before .before .before .before .before .before .before .before .before .before .before .read-tokens in
+    let end-told = c .before .before .before .before .before .before .before .before .before .before .state-of in
+    (c .before .before .report .ensures .0, followed (tokens-read .result) (tokens-read .ensures) (end-told .ensures) (c .before .before .before .before .before .is-finished .ensures) (c .before .before .before .number-of .ensures) (c .before .before .report .ensures .1))
 
 pub follow-spec : {M : Type 1} → statement M
 follow-spec =
