@@ -29,7 +29,8 @@ returns : tie.Need-returns
 returns c =
     let given = c .before .before .before .before .before .before .before .before .before .before .before .before .args in
     let words = wordsOf (given .items .now) (given .starts .now) (given .rows .now) (given .queue .now) in
-    reports-refused _ (given .state) words (CallFault.file-fault (opened-fault _ _ _ (c .before .before .before .before .before .«open» .ensures) _ (c .before .before .before .why .given .1))) _
+    reports-refused _ (given .state) words (CallFault.file-fault
+    (opened-fault _ _ _ (c .before .before .before .before .before .«open» .ensures) _ (c .before .before .before .why .given .1))) _
     (c .before .refusal-number .ensures)
 
 enum-known-found : tie.Need-enum-known-found

@@ -13,7 +13,8 @@ mul-clear-words c = search needs
 -- src/step.rt:64:5
 clear-words-requires : tie.Need-clear-words-requires
 clear-words-requires c κs =
-    (c .before .before .before .pre, le-refl (length (c .before .before .before .args .items .now)), record { zero = λ i past. List·getD-eq-default (c .before .before .before .args .items .now) 0 {n = i} past })
+    let given = c .before .before .before .args in
+    (c .before .before .before .pre, le-refl (length (given .items .now)), record { zero = λ i past. List·getD-eq-default (given .items .now) 0 {n = i} past })
 
 -- src/step.rt:66:5
 clear-words-requires-2 : tie.Need-clear-words-requires-2
