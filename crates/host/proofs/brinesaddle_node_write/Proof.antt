@@ -42,7 +42,8 @@ returns-2 c =
     let given = c .before .before .before .before .before .before .before .before .before .before .before .before .args in
     let node-asked = c .before .before .before .before .before .before .before .before .before .before .node-of in
     let node-told = c .before .before .before .before .before .before .before .before .n in
-    let w = wrote-node (given .behind .now) (given .store .now) (given .node .now) (given .p) (node-asked .ensures) (node-told .given .1) (c .before .before .before .before .before .write .ensures) (c .before .q .given .1) in
+    let w = wrote-node (given .behind .now) (given .store .now) (given .node .now) (given .p) (node-asked .ensures) (node-told .given .1)
+    (c .before .before .before .before .before .write .ensures) (c .before .q .given .1) in
     (w .is-number, (w .is-position, w .is-store))
 
 same-length-2 : tie.Need-same-length-2
@@ -54,7 +55,8 @@ returns-3 c =
     let given = c .before .before .before .before .before .before .before .before .before .before .before .args in
     let node-asked = c .before .before .before .before .before .before .before .before .before .node-of in
     let node-told = c .before .before .before .before .before .before .before .n in
-    let w = wrote-node (given .behind .now) (given .store .now) (given .node .now) (given .p) (node-asked .ensures) (node-told .given .1) (c .before .before .before .before .write .ensures) (c .enum-told2 .given .1) in
+    let w = wrote-node (given .behind .now) (given .store .now) (given .node .now) (given .p) (node-asked .ensures) (node-told .given .1)
+    (c .before .before .before .before .write .ensures) (c .enum-told2 .given .1) in
     (w .is-number, (w .is-position, w .is-store))
 
 same-length-3 : tie.Need-same-length-3
@@ -66,7 +68,8 @@ returns-4 c =
     let given = c .before .before .before .before .before .before .before .before .before .before .before .args in
     let node-asked = c .before .before .before .before .before .before .before .before .before .node-of in
     let node-told = c .before .before .before .before .before .before .before .n in
-    let w = wrote-node (given .behind .now) (given .store .now) (given .node .now) (given .p) (node-asked .ensures) (node-told .given .1) (c .before .before .before .before .write .ensures) (c .enum-told3 .given .1) in
+    let w = wrote-node (given .behind .now) (given .store .now) (given .node .now) (given .p) (node-asked .ensures) (node-told .given .1)
+    (c .before .before .before .before .write .ensures) (c .enum-told3 .given .1) in
     (w .is-number, (w .is-position, w .is-store))
 
 pub brinesaddle-node-write-spec : {M : Type 1} → statement M
