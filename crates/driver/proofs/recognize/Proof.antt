@@ -66,8 +66,11 @@ same-length-10 c = search needs
 returns-2 : tie.Need-returns-2
 returns-2 c =
     let started = c .before .before .before .before .before .before .before .before .before .before .before .before .before .before .before .before .before .start in
-    let refusal-told = c .before .before .before .before .before .before .before .why in
-    (c .before .before .refusal .ensures .0, refused-line (started .ensures) (refusal-told .given .1) (c .before .before .before .wide .ensures ∙ c .before .before .before .before .refusal-number .ensures) (c .before .before .refusal .ensures .1))
+    let refusal-told = c .before .before .before .before .before .before .before .why in (
+      c .before .before .refusal .ensures .0,
+      refused-line (started .ensures) (refusal-told .given .1) (c .before .before .before .wide .ensures
+          ∙ c .before .before .before .before .refusal-number .ensures) (c .before .before .refusal .ensures .1),
+    )
 
 pub recognize-spec : {M : Type 1} → statement M
 recognize-spec =

@@ -25,7 +25,8 @@ put-requires-2 c κs =
     let required = c .before .before .before .before .before .before .before .before .before .before .before .pre in
     let widened = c .before .before .before .before .before .before .before .before .wide in
     let digits-made = c .before .before .before .before .before .before .decimal in
-    omega (arith, c .before .before .before .before .put .ensures .0, c .before .before .before .before .put .kept .0, digits-made .ensures .0 .1, twenty _ _ (widened .ensures .1) (digits-made .ensures .1 .0), required)
+    let head-put = c .before .before .before .before .put in
+    omega (arith, head-put .ensures .0, head-put .kept .0, digits-made .ensures .0 .1, twenty _ _ (widened .ensures .1) (digits-made .ensures .1 .0), required)
 
 slice-aggregate-put-2 : tie.Need-slice-aggregate-put-2
 slice-aggregate-put-2 c = search needs
@@ -36,7 +37,8 @@ put-requires-3 c κs =
     let widened = c .before .before .before .before .before .before .before .before .before .before .before .before .before .wide in
     let digits-made = c .before .before .before .before .before .before .before .before .before .before .before .decimal in
     let head-put = c .before .before .before .before .before .before .before .before .before .put in
-    omega (arith, c .before .before .before .before .put2 .ensures .0, c .before .before .before .before .put2 .kept .0, head-put .ensures .0, head-put .kept .0, digits-made .ensures .0 .1, twenty _ _ (widened .ensures .1) (digits-made .ensures .1 .0), required)
+    let digits-put = c .before .before .before .before .put2 in
+    omega (arith, digits-put .ensures .0, digits-put .kept .0, head-put .ensures .0, head-put .kept .0, digits-made .ensures .0 .1, twenty _ _ (widened .ensures .1) (digits-made .ensures .1 .0), required)
 
 same-length : tie.Need-same-length
 same-length c = search needs
@@ -48,7 +50,8 @@ returns c =
     let head-put = c .before .before .before .before .before .before .before .before .before .before .before .before .put in
     let digits-put = c .before .before .before .before .before .before .before .put2 in (
       omega (arith, c .before .before .put3 .ensures .0, digits-put .ensures .0, head-put .ensures .0, digits-made .ensures .0 .1, twenty _ _ (widened .ensures .1) (digits-made .ensures .1 .0)),
-      a-line _ _ _ _ _ _ _ _ _ (widened .ensures .0) (digits-made .ensures .1 .0) (digits-made .ensures .1 .1) (head-put .ensures .1) (digits-put .ensures .1) (c .before .before .put3 .ensures .1),
+      a-line _ _ _ _ _ _ _ _ _ (widened .ensures .0) (digits-made .ensures .1 .0) (digits-made .ensures .1 .1) (head-put .ensures .1) (digits-put .ensures .1)
+          (c .before .before .put3 .ensures .1),
     )
 
 pub put-line-spec : {M : Type 1} → statement M
