@@ -6,28 +6,29 @@ use Rattle.advance.proofs.advance.Statement.{statement}
 use Rattle.advance.proofs.advance.Tie as tie
 
 new-items-requires : tie.Need-new-items-requires
-new-items-requires c κs = (c .before .before .before .before .pre .new, c .before .before .before .before .pre .spare-items)
+new-items-requires c κs =
+    let required = c .before .before .before .before .pre in
+    (required .new, required .spare-items)
 
 greatest-origin-requires : tie.Need-greatest-origin-requires
 greatest-origin-requires c κs =
     let required = c .before .before .before .before .before .before .before .before .pre in
-    reach-asks _ _ _ _ _ _ required _ _
-    (c .before .before .before .new-items .ensures .0) (c .before .before .before .new-items .ensures .1)
+    let items-made = c .before .before .before .new-items in
+    reach-asks _ _ _ _ _ _ required _ _ (items-made .ensures .0) (items-made .ensures .1)
 
 last-kept-requires : tie.Need-last-kept-requires
 last-kept-requires c κs =
     let required = c .before .before .before .before .before .before .before .before .before .pre in
-    reaches _ _ _ _ _ _ required _ _
-    (c .before .before .before .before .new-items .ensures .0) (c .before .before .before .before .new-items .ensures .1) _
-    (c .greatest-origin .ensures)
+    let items-made = c .before .before .before .before .new-items in
+    reaches _ _ _ _ _ _ required _ _ (items-made .ensures .0) (items-made .ensures .1) _ (c .greatest-origin .ensures)
 
 add-if1 : tie.Need-add-if1
 add-if1 c =
     let required = c .before .before .before .before .before .before .before .before .before .before .pre in
+    let items-made = c .before .before .before .before .before .new-items in
     omega (
       arith,
-      kept-below _ _ _ _ _ _ required _ _
-          (c .before .before .before .before .before .new-items .ensures .0) (c .before .before .before .before .before .new-items .ensures .1) _
+      kept-below _ _ _ _ _ _ required _ _ (items-made .ensures .0) (items-made .ensures .1) _
           (c .before .greatest-origin .ensures) _
           (c .last-kept .ensures),
       required .set-fits,

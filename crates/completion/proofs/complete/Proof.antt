@@ -17,9 +17,10 @@ use Rattle.completion.proofs.complete.Tie as tie
 has-at-requires : tie.Need-has-at-requires
 has-at-requires c κs =
     let given = c .before .before .before .before .args in
+    let required = c .before .before .before .before .pre in
     let rs = rulesIn (given .rules .now) (given .count) in
     let s = passOf (given .at) (given .items .now) (given .queue .now) in
-    (has-row (given .starts .now) (given .rows .now) (given .k) (c .before .before .before .before .pre .0 .1) (c .before .before .before .before .pre .1 .0 .0) .row, c .before .before .before .before .pre .1 .0 .1)
+    (has-row (given .starts .now) (given .rows .now) (given .k) (required .0 .1) (required .1 .0 .0) .row, required .1 .0 .1)
 
 -- src/lib.rt:43:9
 returns : tie.Need-returns
@@ -44,8 +45,13 @@ complete-unary-predictions-requires c κs =
     let given = c .before .before .before .before .before .before .before .before .before .before .before .before .before .args in
     let required = c .before .before .before .before .before .before .before .before .before .before .before .before .before .pre in
     let rs = rulesIn (given .rules .now) (given .count) in
-    let s = passOf (given .at) (given .items .now) (given .queue .now) in
-    (required .0 .0, has-row (given .starts .now) (given .rows .now) (given .k) (required .0 .1) (required .1 .0 .0), subst PassFits (sym (c .before .before .before .before .complete-medial-items .ensures)) (medials-sound rs (given .starts .now) (given .k) (given .x) s (required .1 .1 .0) (required .1 .1 .1)))
+    let s = passOf (given .at) (given .items .now) (given .queue .now) in (
+      required .0 .0,
+      has-row (given .starts .now) (given .rows .now) (given .k) (required .0 .1) (required .1 .0 .0),
+      subst PassFits (sym
+          (c .before .before .before .before .complete-medial-items .ensures))
+          (medials-sound rs (given .starts .now) (given .k) (given .x) s (required .1 .1 .0) (required .1 .1 .1)),
+    )
 
 -- src/lib.rt:56:5
 complete-binary-predictions-requires : tie.Need-complete-binary-predictions-requires

@@ -35,7 +35,8 @@ returns-2 c =
     let tokens-read = c .before .before .before .tokens in
     let rules-counted = c .before .before .rule-count in (
       verdict-two _ (form-checked .ensures .if-no (form-tested .left))
-          (not-sized _ _ _ _ (record { symbols = symbols-read .ensures .0; tokens = tokens-read .ensures .0; rules = rules-counted .ensures .0 }) (c .before .sized .ensures .if-no (not-true _ (c .if2 .taken)))),
+          (not-sized _ _ _ _ (record { symbols = symbols-read .ensures .0; tokens = tokens-read .ensures .0; rules = rules-counted .ensures .0 })
+          (c .before .sized .ensures .if-no (not-true _ (c .if2 .taken)))),
       record { accepted = λ zero. absurd (omega arith); refused = λ other. refl },
     )
 
@@ -59,7 +60,8 @@ returns-3 c =
     let rules-counted = c .before .before .before .before .before .before .rule-count in
     let decoded = c .before .before .before .decode in (
       verdict-zero _ (form-checked .ensures .if-no (form-tested .left))
-          (subst Accepted (read-grammar _ _ _ _ _ (record { symbols = symbols-read .ensures .0; tokens = tokens-read .ensures .0; rules = rules-counted .ensures .0 }) (decoded .ensures .rules)) (c .before .accepted .ensures .if-yes (c .if3 .taken))),
+          (subst Accepted (read-grammar _ _ _ _ _ (record { symbols = symbols-read .ensures .0; tokens = tokens-read .ensures .0; rules = rules-counted .ensures .0 })
+          (decoded .ensures .rules)) (c .before .accepted .ensures .if-yes (c .if3 .taken))),
       record { accepted = λ zero. decoded .ensures; refused = λ other. absurd (other refl) },
     )
 
@@ -72,7 +74,9 @@ returns-4 c =
     let rules-counted = c .before .before .before .before .before .before .rule-count in
     let decoded = c .before .before .before .decode in (
       verdict-two _ (form-checked .ensures .if-no (form-tested .left))
-          (λ h. c .before .accepted .ensures .if-no (c .if3 .left) (subst⁻¹ Accepted (read-grammar _ _ _ _ _ (record { symbols = symbols-read .ensures .0; tokens = tokens-read .ensures .0; rules = rules-counted .ensures .0 }) (decoded .ensures .rules)) h)),
+          (λ h. c .before .accepted .ensures .if-no (c .if3 .left)
+          (subst⁻¹ Accepted (read-grammar _ _ _ _ _ (record { symbols = symbols-read .ensures .0; tokens = tokens-read .ensures .0; rules = rules-counted .ensures .0 })
+          (decoded .ensures .rules)) h)),
       record { accepted = λ zero. absurd (omega arith); refused = λ other. refl },
     )
 

@@ -27,12 +27,12 @@ wide-requires c κs = search needs
 second-requires : tie.Need-second-requires Inv-loop μ-loop
 second-requires c κs =
     let required = c .before .before .before .before .before .before .pre in
+    let looped = c .before .before .before .loop in
     omega (
       arith,
       c .wide .ensures,
       c .before .rule .ensures,
-      required .held .rules (c .before .before .before .loop .p - 1) (omega arith)
-          (omega (arith, c .before .before .before .loop .inv .below)),
+      required .held .rules (looped .p - 1) (omega arith) (omega (arith, looped .inv .below)),
       required .held .few,
     )
 

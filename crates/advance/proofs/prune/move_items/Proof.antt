@@ -26,22 +26,11 @@ add-copy-2 : tie.Need-add-copy-2 Inv-loop μ-loop
 add-copy-2 c = search needs
 
 copy-requires : tie.Need-copy-requires Inv-loop μ-loop
-copy-requires c κs = (
-  omega (
-    arith,
-    moving-length _ _ _ _ (c .before .before .before .before .pre .0) (c .before .before .before .before .pre .1)
-        (c .before .before .before .before .pre .2) _ _
-        (c .before .before .loop .inv),
-    c .before .before .before .before .pre .2,
-  ),
-  omega (
-    arith,
-    moving-length _ _ _ _
-        (c .before .before .before .before .pre .0) (c .before .before .before .before .pre .1) (c .before .before .before .before .pre .2) _ _
-        (c .before .before .loop .inv),
-    c .before .before .before .before .pre .2,
-  ),
-)
+copy-requires c κs =
+    let required = c .before .before .before .before .pre in
+    let looped = c .before .before .loop in
+    let long = moving-length _ _ _ _ (required .0) (required .1) (required .2) _ _ (looped .inv) in
+    (omega (arith, long, required .2), omega (arith, long, required .2))
 
 add-q : tie.Need-add-q Inv-loop μ-loop
 add-q c = search needs
@@ -65,25 +54,14 @@ mul-clear-2 : tie.Need-mul-clear-2 Inv-loop μ-loop
 mul-clear-2 c = search needs
 
 clear-requires : tie.Need-clear-requires Inv-loop μ-loop
-clear-requires c κs = (
-  omega (
-    arith,
-    moving-length _ _ _ _ (c .before .before .before .before .pre .0) (c .before .before .before .before .pre .1)
-        (c .before .before .before .before .pre .2) _ _
-        (c .before .before .loop .inv),
-    c .before .before .before .before .pre .2,
-  ),
-  omega (
-    arith,
-    moving-length _ _ _ _
-        (c .before .before .before .before .pre .0) (c .before .before .before .before .pre .1) (c .before .before .before .before .pre .2) _ _
-        (c .before .before .loop .inv),
-    c .before .before .before .before .pre .2,
-  ),
-  moving-clear _ _ _ _ (c .before .before .before .before .pre .0)
-      (c .before .before .before .before .pre .1) (c .before .before .before .before .pre .2) _ _ (c .before .before .loop .inv)
-      (c .before .before .before .before .pre .3),
-)
+clear-requires c κs =
+    let required = c .before .before .before .before .pre in
+    let looped = c .before .before .loop in
+    let long = moving-length _ _ _ _ (required .0) (required .1) (required .2) _ _ (looped .inv) in (
+      omega (arith, long, required .2),
+      omega (arith, long, required .2),
+      moving-clear _ _ _ _ (required .0) (required .1) (required .2) _ _ (looped .inv) (required .3),
+    )
 
 same-length : tie.Need-same-length Inv-loop μ-loop
 same-length c =

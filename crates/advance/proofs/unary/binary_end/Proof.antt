@@ -32,14 +32,14 @@ wide-requires c κs = search needs
 
 second-requires : tie.Need-second-requires Inv-loop μ-loop
 second-requires c κs =
+    let required = c .before .before .before .before .before .pre in
+    let looped = c .before .before .before .loop in
     omega (
       arith,
       c .wide .ensures,
       c .before .rule .ensures,
-      c .before .before .before .before .before .pre .0 .rules
-          (c .before .before .before .loop .end - 1) (omega arith)
-          (omega (arith, c .before .before .before .loop .inv .below)),
-      c .before .before .before .before .before .pre .0 .few,
+      required .0 .rules (looped .end - 1) (omega arith) (omega (arith, looped .inv .below)),
+      required .0 .few,
     )
 
 returns : tie.Need-returns Inv-loop μ-loop
@@ -47,11 +47,14 @@ returns c =
     let given = c .before .before .before .before .before .before .before .args in
     let required = c .before .before .before .before .before .before .before .pre in
     let items-lent = c .before .before .before .before .before .before .shared-slice-known in
-    let here : secondOf (rulesIn (now (given .rules)) (given .count)) (itemAt (now (given .items)) (c .before .before .before .before .before .loop .end - 1)) ≡ c .before .second .result = second-read _ _ _ _ _ _ (required .0) (omega arith) (omega (arith, c .before .before .before .before .before .loop .inv .below)) _ _ _ (c .before .before .before .rule .ensures) (c .before .before .wide .ensures) (c .before .second .ensures .0) in
+    let looped = c .before .before .before .before .before .loop in
+    let here : secondOf (rulesIn (now (given .rules)) (given .count)) (itemAt (now (given .items)) (looped .end - 1)) ≡ c .before .second .result =
+    second-read _ _ _ _ _ _ (required .0) (omega arith) (omega (arith, looped .inv .below)) _ _ _ (c .before .before .before .rule .ensures)
+    (c .before .before .wide .ensures) (c .before .second .ensures .0) in
     let narrow : Narrow (now (given .items)) = record { fits = λ i. omega (arith, items-lent .given i) } in (
-      (c .before .before .before .before .before .loop .inv .above, c .before .before .before .before .before .loop .inv .below),
+      (looped .inv .above, looped .inv .below),
       dropping-ends _ _ _ _ narrow (required .1) _
-          (c .before .before .before .before .before .loop .inv) (λ l. omega (arith, here, c .before .second .ensures .1, c .if1 .taken)),
+          (looped .inv) (λ l. omega (arith, here, c .before .second .ensures .1, c .if1 .taken)),
     )
 
 sub-end : tie.Need-sub-end Inv-loop μ-loop
@@ -63,9 +66,10 @@ loop-less c = search needs
 loop-again : tie.Need-loop-again Inv-loop μ-loop
 loop-again c =
     let required = c .before .before .before .before .before .before .before .pre in
-    dropping-next _ _ _ _ _ (c .before .before .before .before .before .loop .inv)
+    let looped = c .before .before .before .before .before .loop in
+    dropping-next _ _ _ _ _ (looped .inv)
     (c .before .before .before .before .loop-test .taken) (second-read _ _ _ _ _ _ (required .0)
-    (omega arith) (omega (arith, c .before .before .before .before .before .loop .inv .below)) _ _ _ (c .before .before .before .rule .ensures)
+    (omega arith) (omega (arith, looped .inv .below)) _ _ _ (c .before .before .before .rule .ensures)
     (c .before .before .wide .ensures) (c .before .second .ensures .0) ∙ c .if1 .left)
 
 returns-2 : tie.Need-returns-2 Inv-loop μ-loop

@@ -54,9 +54,10 @@ cast-medial-item-set-range-2 c = record { fits = omega (arith, c .shared-slice-k
 medial-item-set-range-requires : tie.Need-medial-item-set-range-requires Inv-loop μ-loop
 medial-item-set-range-requires c κs =
     let given = c .before .before .before .before .before .args in
+    let required = c .before .before .before .before .before .pre in
     let rs = rulesIn (given .rules .now) (given .count) in
     let s = passOf (given .at) (given .items .now) (given .queue .now) in
-    (c .before .before .before .before .before .pre .0 .0, set-searchable rs (given .starts .now) (given .k) s (c .before .before .before .before .before .pre .0 .1) (c .before .before .before .before .before .pre .1 .0) (c .before .before .before .before .before .pre .1 .1), c .before .before .before .before .before .pre .0 .2)
+    (required .0 .0, set-searchable rs (given .starts .now) (given .k) s (required .0 .1) (required .1 .0) (required .1 .1), required .0 .2)
 
 -- src/medial.rt:88:5
 loop-holds : tie.Need-loop-holds Inv-loop μ-loop
@@ -75,15 +76,17 @@ enqueue-requires : tie.Need-enqueue-requires Inv-loop μ-loop
 enqueue-requires c κs =
     let given = c .before .before .before .before .before .before .before .before .before .args in
     let required = c .before .before .before .before .before .before .before .before .before .pre in
+    let range-found = c .before .before .before .medial-item-set-range in
     let looped = c .before .before .loop in
     let rs = rulesIn (given .rules .now) (given .count) in
     let s = passOf (given .at) (given .items .now) (given .queue .now) in
-    let f = c .before .before .before .medial-item-set-range .ensures in
-    let first = c .before .before .before .medial-item-set-range .result .first in
-    let number = c .before .before .before .medial-item-set-range .result .number in
+    let f = range-found .ensures in
+    let first = range-found .result .first in
+    let number = range-found .result .number in
     let known = queueing-sound first number (looped .i) s (required .1 .0) (omega (arith, f .up-to, required .1 .1 .starts-fit (given .k + 1))) (looped .inv .0) in (
       subst PassFits (sym (looped .inv .1)) (known .0),
-      λ on. subst (λ (u : Pass). first + looped .i < u .at .items) (sym (looped .inv .1)) (omega (arith, known .1, c .before .loop-test .taken, f .up-to, required .1 .1 .starts-fit (given .k + 1))),
+      λ on. subst (λ (u : Pass). first + looped .i < u .at .items) (sym (looped .inv .1))
+          (omega (arith, known .1, c .before .loop-test .taken, f .up-to, required .1 .1 .starts-fit (given .k + 1))),
     )
 
 -- src/medial.rt:88:9

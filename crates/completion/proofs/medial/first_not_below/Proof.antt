@@ -35,8 +35,9 @@ cast-second c = search needs
 second-requires : tie.Need-second-requires Inv-loop μ-loop
 second-requires c κs =
     let given = c .before .before .before .before .args in
+    let required = c .before .before .before .before .pre in
     let rs = rulesIn (given .rules .now) (given .count) in
-    omega (arith, c .rule .ensures, c .before .before .before .before .pre .1 .rules (c .before .before .loop .p) (c .before .before .loop .inv .0) (c .before .loop-test .taken), rules-length (given .rules .now) (given .count), c .before .before .before .before .pre .0)
+    omega (arith, c .rule .ensures, required .1 .rules (c .before .before .loop .p) (c .before .before .loop .inv .0) (c .before .loop-test .taken), rules-length (given .rules .now) (given .count), required .0)
 
 -- src/medial.rt:35:13
 returns : tie.Need-returns Inv-loop μ-loop

@@ -9,7 +9,9 @@ use Rattle.completion.proofs.pass.store.Tie as tie
 
 -- src/pass.rt:21:9
 returns : tie.Need-returns
-returns c = λ q. sym (store-refused (passOf (c .before .before .args .at) (c .before .before .args .items .now) q) (c .before .before .args .origin) (c .before .before .args .rule) (c .if1 .taken))
+returns c =
+    let given = c .before .before .args in
+    λ q. sym (store-refused (passOf (given .at) (given .items .now) q) (given .origin) (given .rule) (c .if1 .taken))
 
 -- src/pass.rt:27:31
 cast-write : tie.Need-cast-write

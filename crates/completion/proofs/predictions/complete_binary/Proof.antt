@@ -21,7 +21,8 @@ returns c =
 -- src/predictions.rt:96:8
 second-requires : tie.Need-second-requires
 second-requires c κs =
-    omega (arith, rules-length (c .before .before .before .before .args .rules .now) (c .before .before .before .before .args .count), c .before .before .before .before .pre .0 .few-rules)
+    let given = c .before .before .before .before .args in
+    omega (arith, rules-length (given .rules .now) (given .count), c .before .before .before .before .pre .0 .few-rules)
 
 -- src/predictions.rt:97:9
 returns-2 : tie.Need-returns-2
@@ -45,7 +46,8 @@ returns-3 c =
     let rs = rulesIn (given .rules .now) (given .count) in
     λ q.
     let s = passOf (given .at) (given .items .now) q in
-    sym (binary-passed rs (given .rows .now) (given .k) (given .x) (given .r) s (c .before .before .before .before .if1 .left) (sym (not-true (c .before .waits .result) (c .if3 .taken)) ∙ c .before .waits .ensures))
+    sym (binary-passed rs (given .rows .now) (given .k) (given .x) (given .r) s (c .before .before .before .before .if1 .left)
+    (sym (not-true (c .before .waits .result) (c .if3 .taken)) ∙ c .before .waits .ensures))
 
 -- src/predictions.rt:102:5
 store-requires : tie.Need-store-requires
@@ -66,12 +68,14 @@ returns-4 c =
     let stop-tested = c .before .before .before .before .before .before .before .before .if1 in
     let second-found = c .before .before .before .before .before .before .before .second in
     let second-tested = c .before .before .before .before .before .before .if2 in
+    let wait-asked = c .before .before .before .before .before .waits in
     let rs = rulesIn (given .rules .now) (given .count) in
     λ q.
     let s = passOf (given .at) (given .items .now) q in
     c .before .before .store .ensures q
     ∙ sym (binary-waits rs (given .rows .now) (given .k) (given .x) (given .r) s (stop-tested .left) (second-found .result)
-    (second-found .ensures .0 ∙ rule-second (given .rules .now) (given .count) (given .r) (required .2)) (second-tested .left) (sym (not-false (c .before .before .before .before .before .waits .result) (c .before .before .before .before .if3 .left)) ∙ c .before .before .before .before .before .waits .ensures))
+    (second-found .ensures .0 ∙ rule-second (given .rules .now) (given .count) (given .r) (required .2)) (second-tested .left)
+    (sym (not-false (wait-asked .result) (c .before .before .before .before .if3 .left)) ∙ wait-asked .ensures))
 
 pub complete-binary-spec : {M : Type 1} → statement M
 complete-binary-spec =

@@ -28,7 +28,9 @@ loop-holds c = (search needs, λ q. over-none _ _, refl)
 
 -- src/predictions.rt:120:9
 complete-binary-requires : tie.Need-complete-binary-requires Inv-loop μ-loop
-complete-binary-requires c κs = (c .before .before .before .before .before .pre .0, c .before .before .before .before .before .pre .1, c .before .loop-test .taken)
+complete-binary-requires c κs =
+    let required = c .before .before .before .before .before .pre in
+    (required .0, required .1, c .before .loop-test .taken)
 
 -- src/predictions.rt:119:9
 add-r : tie.Need-add-r Inv-loop μ-loop
@@ -45,7 +47,8 @@ loop-again c =
     let looped = c .before .before .before .before .before .loop in
     let rs = rulesIn (given .rules .now) (given .count) in (
       search needs,
-      λ q. over-next (looped .r) (completeBinary rs (given .rows .now) (given .k) (given .x)) (passOf (given .at) (given .items .now) q) (passOf (looped .now) (looped .items) q) _ (looped .inv .1 q) (c .before .before .complete-binary .ensures q),
+      λ q. over-next (looped .r) (completeBinary rs (given .rows .now) (given .k) (given .x)) (passOf (given .at) (given .items .now) q)
+          (passOf (looped .now) (looped .items) q) _ (looped .inv .1 q) (c .before .before .complete-binary .ensures q),
       c .before .before .complete-binary .kept .1 .1 .0 ∙ looped .inv .2,
     )
 

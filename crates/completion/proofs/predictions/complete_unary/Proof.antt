@@ -23,7 +23,8 @@ returns c =
 -- src/predictions.rt:44:8
 second-requires : tie.Need-second-requires
 second-requires c κs =
-    omega (arith, rules-length (c .before .before .before .before .before .args .rules .now) (c .before .before .before .before .before .args .count), c .before .before .before .before .before .pre .0 .few-rules)
+    let given = c .before .before .before .before .before .args in
+    omega (arith, rules-length (given .rules .now) (given .count), c .before .before .before .before .before .pre .0 .few-rules)
 
 -- src/predictions.rt:45:9
 returns-2 : tie.Need-returns-2
@@ -45,7 +46,8 @@ returns-3 c =
     let given = c .before .before .before .before .before .before .before .before .before .args in
     let rs = rulesIn (given .rules .now) (given .count) in
     let s = passOf (given .at) (given .items .now) (given .queue .now) in
-    sym (unary-passed rs (given .rows .now) (given .k) (given .x) (given .r) s (c .before .before .before .before .if1 .left) (sym (not-true (c .before .waits .result) (c .if3 .taken)) ∙ c .before .waits .ensures))
+    sym (unary-passed rs (given .rows .now) (given .k) (given .x) (given .r) s (c .before .before .before .before .if1 .left)
+    (sym (not-true (c .before .waits .result) (c .if3 .taken)) ∙ c .before .waits .ensures))
 
 -- src/predictions.rt:51:9
 store-requires : tie.Need-store-requires
@@ -90,7 +92,8 @@ returns-4 c =
     c .before .before .enqueue .ensures
     ∙ ap (λ (u : Pass). andThen u (enqueue (given .at .items))) (item-stored .ensures (given .queue .now))
     ∙ sym (unary-waits rs (given .rows .now) (given .k) (given .x) (given .r) s (stop-tested .left) (second-found .result)
-    (second-found .ensures .0 ∙ rule-second (given .rules .now) (given .count) (given .r) (required .2)) (second-tested .left) (sym (not-false (wait-asked .result) (wait-tested .left)) ∙ wait-asked .ensures))
+    (second-found .ensures .0 ∙ rule-second (given .rules .now) (given .count) (given .r) (required .2)) (second-tested .left)
+    (sym (not-false (wait-asked .result) (wait-tested .left)) ∙ wait-asked .ensures))
 
 pub complete-unary-spec : {M : Type 1} → statement M
 complete-unary-spec =

@@ -33,8 +33,13 @@ complete-unary-requires c κs =
     let given = c .before .before .before .before .before .before .before .args in
     let required = c .before .before .before .before .before .before .before .pre in
     let looped = c .before .before .before .loop in
-    let rs = rulesIn (given .rules .now) (given .count) in
-    (required .0, required .1, c .before .before .loop-test .taken, subst PassFits (sym (looped .inv .1)) (unaries-sound rs (given .rows .now) (given .k) (given .x) (looped .r) (passOf (given .at) (given .items .now) (given .queue .now)) (required .2)))
+    let rs = rulesIn (given .rules .now) (given .count) in (
+      required .0,
+      required .1,
+      c .before .before .loop-test .taken,
+      subst PassFits (sym (looped .inv .1)) (unaries-sound rs (given .rows .now) (given .k) (given .x)
+          (looped .r) (passOf (given .at) (given .items .now) (given .queue .now)) (required .2)),
+    )
 
 -- src/predictions.rt:73:9
 add-r : tie.Need-add-r Inv-loop μ-loop
@@ -49,11 +54,13 @@ loop-again : tie.Need-loop-again Inv-loop μ-loop
 loop-again c =
     let given = c .before .before .before .before .before .before .before .before .before .before .before .before .args in
     let looped = c .before .before .before .before .before .before .before .before .loop in
+    let rule-completed = c .before .before .before .before .complete-unary in
     let rs = rulesIn (given .rules .now) (given .count) in (
       search needs,
-      over-next (looped .r) (completeUnary rs (given .rows .now) (given .k) (given .x)) (passOf (given .at) (given .items .now) (given .queue .now)) (passOf (looped .now) (looped .items) (looped .queue)) _ (looped .inv .1) (c .before .before .before .before .complete-unary .ensures),
-      c .before .before .before .before .complete-unary .kept .1 .1 .0 ∙ looped .inv .2,
-      c .before .before .before .before .complete-unary .kept .1 .1 .1 .1 .0 ∙ looped .inv .3,
+      over-next (looped .r) (completeUnary rs (given .rows .now) (given .k) (given .x)) (passOf (given .at) (given .items .now) (given .queue .now))
+          (passOf (looped .now) (looped .items) (looped .queue)) _ (looped .inv .1) (rule-completed .ensures),
+      rule-completed .kept .1 .1 .0 ∙ looped .inv .2,
+      rule-completed .kept .1 .1 .1 .1 .0 ∙ looped .inv .3,
     )
 
 -- src/predictions.rt:59:1

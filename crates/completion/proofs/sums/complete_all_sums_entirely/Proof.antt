@@ -61,10 +61,11 @@ loop-again c =
     let required = c .before .before .before .before .before .before .before .before .before .before .before .before .before .before .before .before .pre in
     let looped = c .before .before .before .before .before .before .before .before .before .before .before .loop in
     let queue-tested = c .before .before .before .before .before .before .before .before .before .if1 in
-    let stop-tested = c .before .before .before .before .before .before .before .if2 in (
-      remaining-turn (required .0) (looped .inv .0) _ (stop-tested .left) (queue-tested .taken) (c .before .before .before .before .complete-sum .ensures),
-      c .before .before .before .before .complete-sum .kept .1 .1 .0 ∙ looped .inv .1,
-      c .before .before .before .before .complete-sum .kept .1 .1 .1 .1 .1 .0 ∙ looped .inv .2,
+    let stop-tested = c .before .before .before .before .before .before .before .if2 in
+    let sum-completed = c .before .before .before .before .complete-sum in (
+      remaining-turn (required .0) (looped .inv .0) _ (stop-tested .left) (queue-tested .taken) (sum-completed .ensures),
+      sum-completed .kept .1 .1 .0 ∙ looped .inv .1,
+      sum-completed .kept .1 .1 .1 .1 .1 .0 ∙ looped .inv .2,
     )
 
 -- src/sums.rt:100:1

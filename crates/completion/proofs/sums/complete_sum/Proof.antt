@@ -83,6 +83,7 @@ complete-requires c κs =
     let rule-read = c .before .before .before .before .before .before .before .before .before .rule in
     let rule-widened = c .before .before .before .before .before .before .before .before .wide3 in
     let left-read = c .before .before .before .before .before .before .before .left in
+    let sum-popped = c .before .before .before .before .pop-sum in
     let rs = rulesIn (given .rules .now) (given .count) in
     let s = passOf (given .at) (given .items .now) (given .queue .now) in
     let top = getD (given .queue .now) 0 0 in
@@ -90,12 +91,13 @@ complete-requires c κs =
     let rule : rule-widened .result ≡ ruleAt (given .items .now) top = rule-widened .ensures ∙ rule-read .ensures ∙ ap (ruleAt (given .items .now)) (top-read .ensures) in
     let few : ruleAt (given .items .now) top < given .count = omega (arith, required .1 .1 .rules top there, rules-length (given .rules .now) (given .count)) in
     let set : origin-widened .result ≡ originAt (given .items .now) top = origin-widened .ensures ∙ origin-read .ensures ∙ ap (originAt (given .items .now)) (top-read .ensures) in
-    let symbol : left-read .result ≡ getD rs (ruleAt (given .items .now) top) noRule .left = left-read .ensures .0 ∙ ap (leftIn (given .rules .now)) rule ∙ rule-left (given .rules .now) (given .count) (ruleAt (given .items .now) top) few in
+    let symbol : left-read .result ≡ getD rs (ruleAt (given .items .now) top) noRule .left =
+    left-read .ensures .0 ∙ ap (leftIn (given .rules .now)) rule ∙ rule-left (given .rules .now) (given .count) (ruleAt (given .items .now) top) few in
     let popped = steady-pop rs (given .starts .now) s (origin-widened .result) (left-read .result) s (steady-refl rs (given .starts .now) s (required .1 .0) (required .1 .1)) in (
       required .0,
       (
         (subst (IsSet (given .starts .now)) (sym set) (required .1 .1 .origins top there), omega (arith, symbol, required .0 .0 .lefts (ruleAt (given .items .now) top))),
-        (subst PassFits (sym (c .before .before .before .before .pop-sum .ensures)) (popped .sound), subst (Charted rs (given .starts .now)) (sym (c .before .before .before .before .pop-sum .ensures)) (popped .charted)),
+        (subst PassFits (sym (sum-popped .ensures)) (popped .sound), subst (Charted rs (given .starts .now)) (sym (sum-popped .ensures)) (popped .charted)),
       ),
     )
 
@@ -126,7 +128,8 @@ returns c =
     let rule : rule-widened .result ≡ ruleAt (given .items .now) top = rule-widened .ensures ∙ rule-read .ensures ∙ ap (ruleAt (given .items .now)) (top-read .ensures) in
     let few : ruleAt (given .items .now) top < given .count = omega (arith, required .1 .1 .rules top there, rules-length (given .rules .now) (given .count)) in
     let set : origin-widened .result ≡ originAt (given .items .now) top = origin-widened .ensures ∙ origin-read .ensures ∙ ap (originAt (given .items .now)) (top-read .ensures) in
-    let symbol : left-read .result ≡ getD rs (ruleAt (given .items .now) top) noRule .left = left-read .ensures .0 ∙ ap (leftIn (given .rules .now)) rule ∙ rule-left (given .rules .now) (given .count) (ruleAt (given .items .now) top) few in
+    let symbol : left-read .result ≡ getD rs (ruleAt (given .items .now) top) noRule .left =
+    left-read .ensures .0 ∙ ap (leftIn (given .rules .now)) rule ∙ rule-left (given .rules .now) (given .count) (ruleAt (given .items .now) top) few in
     sum-is rs (given .starts .now) (given .rows .now) (origin-widened .result) (left-read .result) s
     (passOf (sum-popped .result) (given .items .now) (sum-popped .last .1 .1 .1 .0)) _ set symbol (sum-popped .ensures) (c .before .before .before .before .complete .ensures)
 

@@ -43,7 +43,8 @@ same-length-2 c = search needs
 returns-2 : tie.Need-returns-2
 returns-2 c =
     let given = c .before .before .before .before .before .before .before .before .before .args in
-    popped-entry (passOf (given .at) (given .items .now) (given .queue .now)) _ _ (c .before .before .before .before .before .pop .last .1 .0) (sym (c .before .before .before .before .before .pop .ensures .0) ∙ c .before .left .given .1) (c .before .before .before .before .before .pop .ensures .1)
+    let popped = c .before .before .before .before .before .pop in
+    popped-entry (passOf (given .at) (given .items .now) (given .queue .now)) _ _ (popped .last .1 .0) (sym (popped .ensures .0) ∙ c .before .left .given .1) (popped .ensures .1)
 
 pub next-summand-spec : {M : Type 1} → statement M
 next-summand-spec =

@@ -52,9 +52,10 @@ unfolding nextSummand
 loop-less c =
     let given = c .before .before .before .before .before .before .before .before .before .before .args in
     let looped = c .before .before .before .before .before .before .before .loop in
+    let end-asked = c .before .before .before .before .before .sum-ends in
     let rs = rulesIn (given .rules .now) (given .count) in
     let u = passOf (looped .now) (given .items .now) (looped .queue) in
-    let on : sumEnds rs (given .k) (given .x) u ≡ false = sym (c .before .before .before .before .before .sum-ends .ensures) ∙ not-true (c .before .before .before .before .before .sum-ends .result) (c .before .before .before .before .if1 .taken) in
+    let on : sumEnds rs (given .k) (given .x) u ≡ false = sym (end-asked .ensures) ∙ not-true (end-asked .result) (c .before .before .before .before .if1 .taken) in
     let some : 0 < looped .now .queued = goes-on-sum rs [] u (given .k) (given .x) u on in
     omega (arith, ap (λ (u : Pass). u .at .queued) (c .before .before .next-summand .ensures))
 
@@ -63,13 +64,15 @@ loop-again : tie.Need-loop-again Inv-loop μ-loop
 loop-again c =
     let given = c .before .before .before .before .before .before .before .before .before .before .args in
     let looped = c .before .before .before .before .before .before .before .loop in
+    let end-asked = c .before .before .before .before .before .sum-ends in
+    let summand-taken = c .before .before .next-summand in
     let rs = rulesIn (given .rules .now) (given .count) in
     let u = passOf (looped .now) (given .items .now) (looped .queue) in
-    let on : sumEnds rs (given .k) (given .x) u ≡ false = sym (c .before .before .before .before .before .sum-ends .ensures) ∙ not-true (c .before .before .before .before .before .sum-ends .result) (c .before .before .before .before .if1 .taken) in
+    let on : sumEnds rs (given .k) (given .x) u ≡ false = sym (end-asked .ensures) ∙ not-true (end-asked .result) (c .before .before .before .before .if1 .taken) in
     let some : 0 < looped .now .queued = goes-on-sum rs [] u (given .k) (given .x) u on in (
-      sum-turn rs (given .k) (given .x) u (passOf (c .before .before .next-summand .result) (given .items .now) (c .before .before .next-summand .last .1 .0)) on some (c .before .before .next-summand .ensures) ∙ looped .inv .0,
-      subst (RulesRead rs) (sym (c .before .before .next-summand .ensures)) (read-next rs u (looped .inv .1) some (next-sound u (looped .inv .1 .sound) some)),
-      c .before .before .next-summand .kept .1 .0 ∙ looped .inv .2,
+      sum-turn rs (given .k) (given .x) u (passOf (summand-taken .result) (given .items .now) (summand-taken .last .1 .0)) on some (summand-taken .ensures) ∙ looped .inv .0,
+      subst (RulesRead rs) (sym (summand-taken .ensures)) (read-next rs u (looped .inv .1) some (next-sound u (looped .inv .1 .sound) some)),
+      summand-taken .kept .1 .0 ∙ looped .inv .2,
     )
 
 -- src/sums.rt:50:1
@@ -83,7 +86,8 @@ returns c =
     let looped = c .before .before .before .loop in
     let rs = rulesIn (given .rules .now) (given .count) in
     let s = passOf (given .at) (given .items .now) (given .queue .now) in
-    sym (until-rests (sumEnds rs (given .k) (given .x)) nextSummand (looped .now .queued) (passOf (looped .now) (given .items .now) (looped .queue)) (sym (c .before .sum-ends .ensures) ∙ not-false (c .before .sum-ends .result) (c .if1 .left))) ∙ looped .inv .0
+    sym (until-rests (sumEnds rs (given .k) (given .x)) nextSummand (looped .now .queued) (passOf (looped .now) (given .items .now) (looped .queue))
+    (sym (c .before .sum-ends .ensures) ∙ not-false (c .before .sum-ends .result) (c .if1 .left))) ∙ looped .inv .0
 
 pub pop-sum-spec : {M : Type 1} → statement M
 pop-sum-spec =

@@ -75,7 +75,8 @@ left-requires c κs =
     let rs = rulesIn (given .rules .now) (given .count) in
     let s = passOf (given .at) (given .items .now) (given .queue .now) in
     let there : getD (given .queue .now) 0 0 < given .at .items = required .sound .entries 0 (nonzero _ (queue-tested .left)) in
-    let rule : c .wide3 .result ≡ ruleAt (given .items .now) (getD (given .queue .now) 0 0) = c .wide3 .ensures ∙ c .before .rule .ensures ∙ ap (ruleAt (given .items .now)) (c .before .before .before .before .before .wide .ensures) in
+    let rule : c .wide3 .result ≡ ruleAt (given .items .now) (getD (given .queue .now) 0 0) =
+    c .wide3 .ensures ∙ c .before .rule .ensures ∙ ap (ruleAt (given .items .now)) (c .before .before .before .before .before .wide .ensures) in
     omega (arith, rule, required .rules (getD (given .queue .now) 0 0) there, required .few-rules)
 
 -- src/sums.rt:26:9
@@ -86,13 +87,17 @@ returns-3 c =
     let queue-tested = c .before .before .before .before .before .before .before .before .before .if1 in
     let top-read = c .before .before .before .before .before .before .before .wide in
     let origin-read = c .before .before .before .before .before .before .origin in
+    let origin-widened = c .before .before .before .before .before .wide2 in
     let rs = rulesIn (given .rules .now) (given .count) in
     let s = passOf (given .at) (given .items .now) (given .queue .now) in
     let there : getD (given .queue .now) 0 0 < given .at .items = required .sound .entries 0 (nonzero _ (queue-tested .left)) in
-    let rule : c .before .before .wide3 .result ≡ ruleAt (given .items .now) (getD (given .queue .now) 0 0) = c .before .before .wide3 .ensures ∙ c .before .before .before .rule .ensures ∙ ap (ruleAt (given .items .now)) (top-read .ensures) in
-    ends-left rs (given .k) (given .x) s (queue-tested .left) (c .before .before .before .before .before .wide2 .result) (c .before .left .result)
-    (c .before .before .before .before .before .wide2 .ensures ∙ origin-read .ensures ∙ ap (originAt (given .items .now)) (top-read .ensures)) (c .before .before .before .before .if2 .left)
-    (c .before .left .ensures .0 ∙ ap (leftIn (given .rules .now)) rule ∙ rule-left (given .rules .now) (given .count) (ruleAt (given .items .now) (getD (given .queue .now) 0 0)) (omega (arith, required .rules (getD (given .queue .now) 0 0) there, rules-length (given .rules .now) (given .count))))
+    let rule : c .before .before .wide3 .result ≡ ruleAt (given .items .now) (getD (given .queue .now) 0 0) =
+    c .before .before .wide3 .ensures ∙ c .before .before .before .rule .ensures ∙ ap (ruleAt (given .items .now)) (top-read .ensures) in
+    ends-left rs (given .k) (given .x) s (queue-tested .left) (origin-widened .result) (c .before .left .result)
+    (origin-widened .ensures ∙ origin-read .ensures ∙ ap (originAt (given .items .now)) (top-read .ensures)) (c .before .before .before .before .if2 .left)
+    (c .before .left .ensures .0 ∙ ap (leftIn (given .rules .now)) rule ∙ rule-left (given .rules .now) (given .count)
+    (ruleAt (given .items .now) (getD (given .queue .now) 0 0))
+    (omega (arith, required .rules (getD (given .queue .now) 0 0) there, rules-length (given .rules .now) (given .count))))
     (c .if3 .taken)
 
 -- src/sums.rt:14:1
@@ -103,13 +108,17 @@ returns-4 c =
     let queue-tested = c .before .before .before .before .before .before .before .before .before .if1 in
     let top-read = c .before .before .before .before .before .before .before .wide in
     let origin-read = c .before .before .before .before .before .before .origin in
+    let origin-widened = c .before .before .before .before .before .wide2 in
     let rs = rulesIn (given .rules .now) (given .count) in
     let s = passOf (given .at) (given .items .now) (given .queue .now) in
     let there : getD (given .queue .now) 0 0 < given .at .items = required .sound .entries 0 (nonzero _ (queue-tested .left)) in
-    let rule : c .before .before .wide3 .result ≡ ruleAt (given .items .now) (getD (given .queue .now) 0 0) = c .before .before .wide3 .ensures ∙ c .before .before .before .rule .ensures ∙ ap (ruleAt (given .items .now)) (top-read .ensures) in
-    ends-not rs (given .k) (given .x) s (queue-tested .left) (c .before .before .before .before .before .wide2 .result) (c .before .left .result)
-    (c .before .before .before .before .before .wide2 .ensures ∙ origin-read .ensures ∙ ap (originAt (given .items .now)) (top-read .ensures)) (c .before .before .before .before .if2 .left)
-    (c .before .left .ensures .0 ∙ ap (leftIn (given .rules .now)) rule ∙ rule-left (given .rules .now) (given .count) (ruleAt (given .items .now) (getD (given .queue .now) 0 0)) (omega (arith, required .rules (getD (given .queue .now) 0 0) there, rules-length (given .rules .now) (given .count))))
+    let rule : c .before .before .wide3 .result ≡ ruleAt (given .items .now) (getD (given .queue .now) 0 0) =
+    c .before .before .wide3 .ensures ∙ c .before .before .before .rule .ensures ∙ ap (ruleAt (given .items .now)) (top-read .ensures) in
+    ends-not rs (given .k) (given .x) s (queue-tested .left) (origin-widened .result) (c .before .left .result)
+    (origin-widened .ensures ∙ origin-read .ensures ∙ ap (originAt (given .items .now)) (top-read .ensures)) (c .before .before .before .before .if2 .left)
+    (c .before .left .ensures .0 ∙ ap (leftIn (given .rules .now)) rule ∙ rule-left (given .rules .now) (given .count)
+    (ruleAt (given .items .now) (getD (given .queue .now) 0 0))
+    (omega (arith, required .rules (getD (given .queue .now) 0 0) there, rules-length (given .rules .now) (given .count))))
     (c .if3 .left)
 
 pub sum-ends-spec : {M : Type 1} → statement M

@@ -25,11 +25,12 @@ room-requires c κs = search needs
 put-units-requires : tie.Need-put-units-requires
 put-units-requires c κs =
     let given = c .before .before .before .before .before .before .args in
-    let w = c .before .before .before .before .width .result in
+    let measured = c .before .before .before .before .width in
+    let w = measured .result in
     let fits : given .p + w ≤ min usableUnits (length (given .store .now)) =
     leb-true (given .p + w) (min usableUnits (length (given .store .now))) (sym (c .before .before .room .ensures)
     ∙ c .before .if2 .taken) in
-    omega (arith, fits, c .before .before .before .before .width .ensures)
+    omega (arith, fits, measured .ensures)
 
 add-behind : tie.Need-add-behind
 add-behind c =
@@ -59,8 +60,9 @@ returns-2 c =
 returns-3 : tie.Need-returns-3
 returns-3 c =
     let given = c .before .before .before .before .before .args in
-    let w = c .before .before .before .width .result in
-    not-wrote (given .store .now) (given .p) (listOf (given .units)) w (c .before .before .if1 .left) (c .before .before .before .width .ensures)
+    let measured = c .before .before .before .width in
+    let w = measured .result in
+    not-wrote (given .store .now) (given .p) (listOf (given .units)) w (c .before .before .if1 .left) (measured .ensures)
     (leb-false (given .p + w) (min usableUnits (length (given .store .now))) (sym (c .before .room .ensures) ∙ c .if2 .left))
 
 pub place-units-spec : {M : Type 1} → statement M

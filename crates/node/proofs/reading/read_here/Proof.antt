@@ -47,11 +47,12 @@ unfolding readHere
 returns-2 c =
     let given = c .before .before .before .before .before .before .before .before .before .args in
     let spelling-read = c .before .before .before .before .before .before .before .spelt in
+    let node-told = c .before .before .before .before .before .node in
     sym (ap (takeNode _ _) (sym (spelling-read .ensures)
-    ∙ c .before .before .before .before .before .node .given .1)
+    ∙ node-told .given .1)
     ∙ take-like _ _ _ _ (c .before .before .before .units-of .ensures) (sym (c .before .before .stand .ensures)
     ∙ c .before .if1 .taken)
-    ∙ ap (λ w. answer done (node (c .before .before .before .before .before .node .given .0 .0)
+    ∙ ap (λ w. answer done (node (node-told .given .0 .0)
     (given .q + w))) (sym (c .width .ensures)))
 
 returns-3 : tie.Need-returns-3

@@ -35,7 +35,8 @@ second-requires c κs = search needs
 returns-3 : tie.Need-returns-3
 returns-3 c =
     let rule-read = c .before .before .before .before .before .before .rule in
-    second-tells _ _ _ _ _ _ (c .before .before .before .before .before .wide .ensures ∙ rule-read .ensures) (c .second .ensures .0) (omega (arith, c .before .before .before .wide2 .ensures, c .before .before .before .before .origin .ensures)) (c .before .if2 .left)
+    second-tells _ _ _ _ _ _ (c .before .before .before .before .before .wide .ensures ∙ rule-read .ensures) (c .second .ensures .0)
+    (omega (arith, c .before .before .before .wide2 .ensures, c .before .before .before .before .origin .ensures)) (c .before .if2 .left)
 
 pub item-fits-spec : {M : Type 1} → statement M
 item-fits-spec =

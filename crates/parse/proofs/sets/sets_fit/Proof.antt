@@ -61,7 +61,8 @@ set-fits-requires c κs =
 told : (c : tie.After-set-fits Inv-loop μ-loop)
     → let given = c .before .before .before .before .before .before .before .before .before .args in
     let looped = c .before .before .before .before .before .before .loop in
-    Decides (c .set-fits .result) (SetFits (rulesIn (given .rules .now) (given .count)) (given .items .now) (looped .k) (getD (given .starts .now) (looped .k) 0) (getD (given .starts .now) (looped .k + 1) 0))
+    Decides (c .set-fits .result) (SetFits (rulesIn (given .rules .now) (given .count)) (given .items .now) (looped .k) (getD (given .starts .now) (looped .k) 0)
+    (getD (given .starts .now) (looped .k + 1) 0))
 told c = decides-of (SetFits _ _ _) (c .before .before .before .wide .ensures) (c .before .wide2 .ensures) (c .set-fits .ensures)
 
 returns : tie.Need-returns Inv-loop μ-loop

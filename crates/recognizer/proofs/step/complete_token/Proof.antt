@@ -42,7 +42,8 @@ returns c =
     let given = c .before .before .before .before .before .before .before .before .before .before .before .before .before .before .before .before .before .before .args in
     let scanned = c .before .before .before .before .before .before .before .before .before .before .before .complete in
     let v = wordsOf (given .items .now) (given .starts .now) (given .rows .now) (given .queue .now) in
-    c .before .before .before .before .complete-all-sums-entirely .ensures ∙ ap (λ (u : Pass). completeAllSums (rulesIn (given .rules .now) (given .sizes .rules)) (given .starts .now) (given .rows .now) u) (scanned .ensures)
+    c .before .before .before .before .complete-all-sums-entirely .ensures ∙ ap
+    (λ (u : Pass). completeAllSums (rulesIn (given .rules .now) (given .sizes .rules)) (given .starts .now) (given .rows .now) u) (scanned .ensures)
 
 pub complete-token-spec : {M : Type 1} → statement M
 complete-token-spec =

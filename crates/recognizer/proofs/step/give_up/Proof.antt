@@ -13,7 +13,8 @@ mul-clear c = search needs
 -- src/step.rt:64:5
 clear-requires : tie.Need-clear-requires
 clear-requires c κs =
-    (c .before .before .before .pre, le-refl (length (c .before .before .before .args .items .now)), record { zero = λ i past. List·getD-eq-default (c .before .before .before .args .items .now) 0 {n = i} past })
+    let given = c .before .before .before .args in
+    (c .before .before .before .pre, le-refl (length (given .items .now)), record { zero = λ i past. List·getD-eq-default (given .items .now) 0 {n = i} past })
 
 -- src/step.rt:66:5
 clear-requires-2 : tie.Need-clear-requires-2

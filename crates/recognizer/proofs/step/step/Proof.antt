@@ -103,15 +103,18 @@ returns-3 c =
     let prediction-tested = c .before .before .before .before .before .before .before .before .before .before .before .before .before .before .before .before .before .before .if2 in
     let passed = c .before .before .before .before .before .before .before .before .before .before .before .before .before .complete-token in
     let stop-tested = c .before .before .before .before .before .before .before .before .if3 in
+    let pass-cleared = c .before .before .before .before .before .give-up in
     let v = wordsOf (given .items .now) (given .starts .now) (given .rows .now) (given .queue .now) in
     let pass : Pass = passOf (passed .result) (passed .last .1 .1 .1 .1 .0) (passed .last .1 .1 .1 .1 .1 .1 .1 .0) in
     let is : pass ≡ completed (grammarFrom (given .rules .now) (given .sizes)) (given .state) v (given .t) = passed .ensures in
     let stops : passed .result .stopped ≡ completed (grammarFrom (given .rules .now) (given .sizes)) (given .state) v (given .t) .at .stopped = ap (λ (u : Pass). u .at .stopped) is in
-    let there : Predicted (given .state) v (given .t) = holds-true (rowOf rowWords (given .rows .now) (given .state .set)) (given .t) (sym (looked-up .ensures) ∙ not-false (looked-up .result) (prediction-tested .left)) in
-    pass-refused (given .rules .now) (given .sizes) (given .table .now) (given .state) v required (given .t) (token-tested .left) there (λ e. stop-tested .taken (stops ∙ e)) _ (c .before .before .before .before .before .give-up .last .0) (c .before .before .before .before .before .give-up .last .1 .0)
+    let there : Predicted (given .state) v (given .t) =
+    holds-true (rowOf rowWords (given .rows .now) (given .state .set)) (given .t) (sym (looked-up .ensures) ∙ not-false (looked-up .result) (prediction-tested .left)) in
+    pass-refused (given .rules .now) (given .sizes) (given .table .now) (given .state) v required (given .t) (token-tested .left) there
+    (λ e. stop-tested .taken (stops ∙ e)) _ (pass-cleared .last .0) (pass-cleared .last .1 .0)
     (c .full .ensures ∙ stops)
-    (c .before .before .before .before .before .give-up .ensures .0 ∙ ap (λ (u : Pass). padded (length (u .items)) (take (itemWords * given .state .items) (u .items))) is)
-    (c .before .before .before .before .before .give-up .ensures .1 ∙ ap (λ (u : Pass). padded (length (u .queue)) (take 0 (u .queue))) is)
+    (pass-cleared .ensures .0 ∙ ap (λ (u : Pass). padded (length (u .items)) (take (itemWords * given .state .items) (u .items))) is)
+    (pass-cleared .ensures .1 ∙ ap (λ (u : Pass). padded (length (u .queue)) (take 0 (u .queue))) is)
 
 -- src/step.rt:108:9
 advance-requires : tie.Need-advance-requires
@@ -165,13 +168,16 @@ returns-4 c =
     let pass : Pass = passOf (passed .result) (passed .last .1 .1 .1 .1 .0) (passed .last .1 .1 .1 .1 .1 .1 .1 .0) in
     let is : pass ≡ completed (grammarFrom (given .rules .now) (given .sizes)) (given .state) v (given .t) = passed .ensures in
     let stops : passed .result .stopped ≡ completed (grammarFrom (given .rules .now) (given .sizes)) (given .state) v (given .t) .at .stopped = ap (λ (u : Pass). u .at .stopped) is in
-    let there : Predicted (given .state) v (given .t) = holds-true (rowOf rowWords (given .rows .now) (given .state .set)) (given .t) (sym (looked-up .ensures) ∙ not-false (looked-up .result) (prediction-tested .left)) in
+    let there : Predicted (given .state) v (given .t) =
+    holds-true (rowOf rowWords (given .rows .now) (given .state .set)) (given .t) (sym (looked-up .ensures) ∙ not-false (looked-up .result) (prediction-tested .left)) in
     let items = moved-on .last .1 .1 .1 .1 .0 in
     let starts = moved-on .last .1 .1 .1 .1 .1 .0 in
     let rows = moved-on .last .1 .1 .1 .1 .1 .1 .0 in
     ap (λ (u : Pass). let o : Outcome = record { number = 9; state = given .state; words = wordsOf items starts rows (u .queue) } in o) is
-    ∙ advance-refused (given .rules .now) (given .sizes) (given .table .now) (given .state) v required (given .t) (sym stops ∙ stop-tested .left) (token-tested .left) there (moved-on .result) items starts rows
-    (subst (λ (u : Pass). Advances (rulesIn (given .rules .now) (given .sizes .rules)) (given .table .now) (given .state) (lent (u .items) (given .starts .now) (given .rows .now)) (u .at .items) (moved-on .result) (lent items starts rows)) is (moved-on .ensures))
+    ∙ advance-refused (given .rules .now) (given .sizes) (given .table .now) (given .state) v required (given .t) (sym stops ∙ stop-tested .left)
+    (token-tested .left) there (moved-on .result) items starts rows
+    (subst (λ (u : Pass). Advances (rulesIn (given .rules .now) (given .sizes .rules)) (given .table .now) (given .state)
+    (lent (u .items) (given .starts .now) (given .rows .now)) (u .at .items) (moved-on .result) (lent items starts rows)) is (moved-on .ensures))
     (c .enum-told .given .1)
 
 -- src/step.rt:81:1
@@ -205,13 +211,16 @@ returns-5 c =
     let pass : Pass = passOf (passed .result) (passed .last .1 .1 .1 .1 .0) (passed .last .1 .1 .1 .1 .1 .1 .1 .0) in
     let is : pass ≡ completed (grammarFrom (given .rules .now) (given .sizes)) (given .state) v (given .t) = passed .ensures in
     let stops : passed .result .stopped ≡ completed (grammarFrom (given .rules .now) (given .sizes)) (given .state) v (given .t) .at .stopped = ap (λ (u : Pass). u .at .stopped) is in
-    let there : Predicted (given .state) v (given .t) = holds-true (rowOf rowWords (given .rows .now) (given .state .set)) (given .t) (sym (looked-up .ensures) ∙ not-false (looked-up .result) (prediction-tested .left)) in
+    let there : Predicted (given .state) v (given .t) =
+    holds-true (rowOf rowWords (given .rows .now) (given .state .set)) (given .t) (sym (looked-up .ensures) ∙ not-false (looked-up .result) (prediction-tested .left)) in
     let items = moved-on .last .1 .1 .1 .1 .0 in
     let starts = moved-on .last .1 .1 .1 .1 .1 .0 in
     let rows = moved-on .last .1 .1 .1 .1 .1 .1 .0 in
     ap (λ (u : Pass). let o : Outcome = record { number = 0; state = c .before .advanced .given .0 .0; words = wordsOf items starts rows (u .queue) } in o) is
-    ∙ advance-done (given .rules .now) (given .sizes) (given .table .now) (given .state) v required (given .t) (sym stops ∙ stop-tested .left) (token-tested .left) there (moved-on .result) items starts rows
-    (subst (λ (u : Pass). Advances (rulesIn (given .rules .now) (given .sizes .rules)) (given .table .now) (given .state) (lent (u .items) (given .starts .now) (given .rows .now)) (u .at .items) (moved-on .result) (lent items starts rows)) is (moved-on .ensures))
+    ∙ advance-done (given .rules .now) (given .sizes) (given .table .now) (given .state) v required (given .t) (sym stops ∙ stop-tested .left) (token-tested .left) there
+    (moved-on .result) items starts rows
+    (subst (λ (u : Pass). Advances (rulesIn (given .rules .now) (given .sizes .rules)) (given .table .now) (given .state)
+    (lent (u .items) (given .starts .now) (given .rows .now)) (u .at .items) (moved-on .result) (lent items starts rows)) is (moved-on .ensures))
     _ (c .before .advanced .given .1)
 
 pub step-spec : {M : Type 1} → statement M
