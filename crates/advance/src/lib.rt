@@ -42,7 +42,10 @@ fn next_set(
     m: usize,
 ) -> State
     requires { ⌜ Followable (now rules) count (now table) e (now items) (now starts) (now rows) from to m ⌝ }
-    ensures { λ r. ⌜ Follows e m (lent (now (items .entry)) (now (starts .entry)) (now (rows .entry))) (itemsFrom (now (items .entry)) from (to - from)) (predictions (rulesIn (now (rules .entry)) count) (now (table .entry)) (itemsFrom (now (items .entry)) from (to - from))) r (lent (now (items .exit)) (now (starts .exit)) (now (rows .exit))) ⌝ }
+    ensures { λ r. ⌜ Follows e m (lent (now (items .entry)) (now (starts .entry)) (now (rows .entry)))
+        (itemsFrom (now (items .entry)) from (to - from))
+        (predictions (rulesIn (now (rules .entry)) count) (now (table .entry)) (itemsFrom (now (items .entry)) from (to - from)))
+        r (lent (now (items .exit)) (now (starts .exit)) (now (rows .exit))) ⌝ }
 {
     let kept = last_kept(e, m);
     let start = remove_unreachable_sets(e, items, starts, rows, from, to, m);
@@ -67,7 +70,9 @@ pub fn advance(
     to: usize,
 ) -> Advanced
     requires { ⌜ Advanceable (now rules) count (now table) state (lent (now items) (now starts) (now rows)) to ⌝ }
-    ensures { λ r. ⌜ Advances (rulesIn (now (rules .entry)) count) (now (table .entry)) state (lent (now (items .entry)) (now (starts .entry)) (now (rows .entry))) to r (lent (now (items .exit)) (now (starts .exit)) (now (rows .exit))) ⌝ }
+    ensures { λ r. ⌜ Advances (rulesIn (now (rules .entry)) count) (now (table .entry)) state
+        (lent (now (items .entry)) (now (starts .entry)) (now (rows .entry))) to r
+        (lent (now (items .exit)) (now (starts .exit)) (now (rows .exit))) ⌝ }
 {
     let e = state.set;
     let from = state.items;

@@ -25,7 +25,9 @@ pub fn prediction_pass(
     k: usize,
 )
     requires { ⌜ Predictable (now rules) count (now table) (now items) (now rows) from to k ⌝ }
-    ensures { λ _. ⌜ now (rows .exit) ≡ withRow rowWords (now (rows .entry)) k (predictions (rulesIn (now (rules .entry)) count) (now (table .entry)) (itemsFrom (now (items .entry)) from (to - from))) ⌝ }
+    ensures { λ _. ⌜ now (rows .exit) ≡ withRow rowWords (now (rows .entry)) k
+        (predictions (rulesIn (now (rules .entry)) count) (now (table .entry))
+        (itemsFrom (now (items .entry)) from (to - from))) ⌝ }
 {
     let mut p = to;
     while p > from {

@@ -63,8 +63,10 @@ fn copy(items: &mut [u32], p: usize, q: usize)
 
 // Moves the items at the places from `from` up to and without `to` down to the place `base`. The words behind them are 0 then.
 fn move_items(items: &mut [u32], from: usize, to: usize, base: usize)
-    requires { ⌜ (base ≤ from) × (from ≤ to) × (itemWords * to ≤ length (now items)) × Clear (now items) (itemWords * to) ⌝ }
-    ensures { λ _. ⌜ now (items .exit) ≡ ending (now (items .entry)) base (itemsFrom (now (items .entry)) from (to - from)) ⌝ }
+    requires { ⌜ (base ≤ from) × (from ≤ to) × (itemWords * to ≤ length (now items)) × Clear (now items)
+        (itemWords * to) ⌝ }
+    ensures { λ _. ⌜ now (items .exit) ≡ ending (now (items .entry)) base
+        (itemsFrom (now (items .entry)) from (to - from)) ⌝ }
 {
     let count = to - from;
     for q in 0..count {
@@ -84,7 +86,9 @@ pub fn remove_unreachable_sets(
     m: usize,
 ) -> usize
     requires { ⌜ Prunable e (now items) (now starts) (now rows) from to m ⌝ }
-    ensures { λ r. ⌜ Pruned e m (now (items .entry)) (now (starts .entry)) (now (rows .entry)) (itemsFrom (now (items .entry)) from (to - from)) r (now (items .exit)) (now (starts .exit)) (now (rows .exit)) ⌝ }
+    ensures { λ r. ⌜ Pruned e m (now (items .entry)) (now (starts .entry)) (now (rows .entry))
+        (itemsFrom (now (items .entry)) from (to - from)) r (now (items .exit)) (now (starts .exit))
+        (now (rows .exit)) ⌝ }
 {
     if e - m <= 1 {
         return from;

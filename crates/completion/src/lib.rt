@@ -36,8 +36,10 @@ pub fn complete(
 ) -> Progress
     requires { ⌜ RulesFit (rulesIn (now rules) count) × Rowed (now starts) (now rows) ⌝ }
     requires { ⌜ IsSet (now starts) k × (x < wordBits * rowWords) ⌝ }
-    requires { ⌜ PassFits (passOf at (now items) (now queue)) × Charted (rulesIn (now rules) count) (now starts) (passOf at (now items) (now queue)) ⌝ }
-    ensures { λ r. ⌜ passOf r (now (items .exit)) (now (queue .exit)) ≡ complete (rulesIn (now (rules .entry)) count) (now (starts .entry)) (now (rows .entry)) k x (passOf at (now (items .entry)) (now (queue .entry))) ⌝ }
+    requires { ⌜ PassFits (passOf at (now items) (now queue)) × Charted (rulesIn (now rules) count) (now starts)
+        (passOf at (now items) (now queue)) ⌝ }
+    ensures { λ r. ⌜ passOf r (now (items .exit)) (now (queue .exit)) ≡ complete (rulesIn (now (rules .entry)) count)
+        (now (starts .entry)) (now (rows .entry)) k x (passOf at (now (items .entry)) (now (queue .entry))) ⌝ }
 {
     if !bits::has_at(rows, k, x) {
         return at;

@@ -49,7 +49,8 @@ pub fn medial_item_set_range(
     x: usize,
 ) -> Range
     requires { ⌜ (count ≤ maxRules) × Searchable (rulesIn (now rules) count) (now items) from to × (x < 65536) ⌝ }
-    ensures { λ r. ⌜ Found (rulesIn (now (rules .entry)) count) (now (items .entry)) from to x (r .first) (r .number) ⌝ }
+    ensures { λ r. ⌜ Found (rulesIn (now (rules .entry)) count) (now (items .entry)) from to x (r .first)
+        (r .number) ⌝ }
 {
     let first = first_not_below(rules, count, items, from, to, x);
     let end = first_not_below(rules, count, items, first, to, x + 1);
@@ -71,8 +72,11 @@ pub fn complete_medial_items(
     at: Progress,
 ) -> Progress
     requires { ⌜ (count ≤ maxRules) × IsSet (now starts) k × (x < 65536) ⌝ }
-    requires { ⌜ PassFits (passOf at (now items) (now queue)) × Charted (rulesIn (now rules) count) (now starts) (passOf at (now items) (now queue)) ⌝ }
-    ensures { λ r. ⌜ passOf r (now (items .entry)) (now (queue .exit)) ≡ completeMedialItems (rulesIn (now (rules .entry)) count) (now (starts .entry)) k x (passOf at (now (items .entry)) (now (queue .entry))) ⌝ }
+    requires { ⌜ PassFits (passOf at (now items) (now queue)) × Charted (rulesIn (now rules) count) (now starts)
+        (passOf at (now items) (now queue)) ⌝ }
+    ensures { λ r. ⌜ passOf r (now (items .entry)) (now (queue .exit))
+        ≡ completeMedialItems (rulesIn (now (rules .entry)) count) (now (starts .entry)) k x
+        (passOf at (now (items .entry)) (now (queue .entry))) ⌝ }
 {
     let range = medial_item_set_range(
         rules,

@@ -37,7 +37,8 @@ pub fn store(items: &mut [u32], origin: usize, rule: usize, at: Progress) -> Pro
 // Queues the place of an item, unless a push was refused before.
 pub fn enqueue(items: &[u32], queue: &mut [u32], place: usize, at: Progress) -> Progress
     requires { ⌜ PassFits (passOf at (now items) (now queue)) × (at .stopped ≡ 0 → place < at .items) ⌝ }
-    ensures { λ r. ⌜ passOf r (now (items .entry)) (now (queue .exit)) ≡ andThen (passOf at (now (items .entry)) (now (queue .entry))) (enqueue place) ⌝ }
+    ensures { λ r. ⌜ passOf r (now (items .entry)) (now (queue .exit))
+        ≡ andThen (passOf at (now (items .entry)) (now (queue .entry))) (enqueue place) ⌝ }
 {
     if at.stopped != 0 {
         return at;

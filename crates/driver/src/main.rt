@@ -84,7 +84,8 @@ fn is_finished(
     rows: &[u64],
     queue: &[u32],
 ) -> bool
-    ensures { λ r. ⌜ SaysFinished (now (file .entry)) state (wordsOf (now (items .entry)) (now (starts .entry)) (now (rows .entry)) (now (queue .entry))) r ⌝ }
+    ensures { λ r. ⌜ SaysFinished (now (file .entry)) state
+        (wordsOf (now (items .entry)) (now (starts .entry)) (now (rows .entry)) (now (queue .entry))) r ⌝ }
 {
     match recognizer::finished(file, state, items, starts, rows, queue) {
         Whether::Yes => true,
@@ -105,7 +106,9 @@ fn follow(
 ) -> usize
     requires { ⌜ textRoom ≤ lengthOf (now out) ⌝ }
     ensures place { λ r. ⌜ Counts r (now (out .exit)) ⌝ }
-    ensures text { λ r. ⌜ Followed (now (file .entry)) state (wordsOf (now (items .entry)) (now (starts .entry)) (now (rows .entry)) (now (queue .entry))) (take r (now (out .exit))) ⌝ }
+    ensures text { λ r. ⌜ Followed (now (file .entry)) state
+        (wordsOf (now (items .entry)) (now (starts .entry)) (now (rows .entry)) (now (queue .entry)))
+        (take r (now (out .exit))) ⌝ }
 {
     let ran = read_tokens(file, state, items, starts, rows, queue);
     let answer = ran.answer;
@@ -125,7 +128,9 @@ fn recognize(
 ) -> usize
     requires { ⌜ textRoom ≤ lengthOf (now out) ⌝ }
     ensures place { λ r. ⌜ Counts r (now (out .exit)) ⌝ }
-    ensures text { λ r. ⌜ Recognized (now (file .entry)) (wordsOf (now (items .entry)) (now (starts .entry)) (now (rows .entry)) (now (queue .entry))) (take r (now (out .exit))) ⌝ }
+    ensures text { λ r. ⌜ Recognized (now (file .entry))
+        (wordsOf (now (items .entry)) (now (starts .entry)) (now (rows .entry)) (now (queue .entry)))
+        (take r (now (out .exit))) ⌝ }
 {
     let fresh = State { set: 0, items: 0 };
     match recognizer::start(file, fresh, items, starts, rows, queue) {

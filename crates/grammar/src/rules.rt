@@ -51,7 +51,8 @@ pub fn second(rules: &Rules, r: usize) -> usize
 
 // The rules of a file that is whole and has few enough.
 pub fn decode(file: &[u8]) -> Rules
-    requires { ⌜ (headerBytes + ruleBytes * ruleCountOf (now file) ≤ length (now file)) × (ruleCountOf (now file) ≤ maxRules) ⌝ }
+    requires { ⌜ (headerBytes + ruleBytes * ruleCountOf (now file) ≤ length (now file))
+        × (ruleCountOf (now file) ≤ maxRules) ⌝ }
     ensures { λ r. ⌜ HoldsRules (now (file .entry)) r ⌝ }
 {
     let mut rules = [0; WORDS];

@@ -88,7 +88,8 @@ pub fn width(units: Units) -> usize
 
 // Units at p, or why not.
 pub fn place_units(store: &mut [u16], p: usize, units: Units) -> Written
-    ensures { λ r. ⌜ record { answer = written r; store = now (store .exit) } ≡ writeUnits (now (store .entry)) p (listOf units) ⌝ }
+    ensures { λ r. ⌜ record { answer = written r; store = now (store .exit) } ≡ writeUnits (now (store .entry)) p
+        (listOf units) ⌝ }
 {
     let count = width(units);
     if count == 0 {

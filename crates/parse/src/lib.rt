@@ -6,6 +6,7 @@ ghost use Rattle.bits.specs.Width.{rowWords};
 ghost use Rattle.grammar.specs.Accepted.{maxRules};
 ghost use Rattle.grammar.specs.inner.Decoded.{rulesIn};
 ghost use Rattle.laws.specs.Decides.{Decides};
+ghost use Rattle.parse.specs.Words.{wordsOf};
 ghost use Rattle.parse.specs.WellFormed.{WellFormed};
 use bits::WIDTH;
 use grammar::rules::Rules;
@@ -37,7 +38,9 @@ pub fn well_formed(
     queue: &[u32],
 ) -> bool
     requires { ⌜ (count ≤ maxRules) × (length (now starts) ≡ length (now rows) / rowWords + 1) ⌝ }
-    ensures { λ r. ⌜ Decides r (WellFormed symbols (rulesIn (now (rules .entry)) count) state (record { items = now (items .entry); starts = now (starts .entry); rows = now (rows .entry); queue = now (queue .entry) })) ⌝ }
+    ensures { λ r. ⌜ Decides r
+        (WellFormed symbols (rulesIn (now (rules .entry)) count) state
+        (wordsOf (now (items .entry)) (now (starts .entry)) (now (rows .entry)) (now (queue .entry)))) ⌝ }
 {
     let set = state.set;
     let held = state.items;

@@ -80,7 +80,8 @@ fn all_fit(rules: &Rules, count: usize, items: &[u32], k: usize, from: usize, to
 // Whether they rise strictly by (second, rule, origin), whatever the number of rules that theirs are among.
 fn rises(rules: &Rules, items: &[u32], from: usize, to: usize) -> bool
     requires { ⌜ ((from ≤ to) × (itemWords * to ≤ length (now items))) × Among (now items) from to maxRules ⌝ }
-    ensures { λ r. ⌜ ((count : ℕ) → Among (now (items .entry)) from to count → Decides r (Rises (rulesIn (now (rules .entry)) count) (now (items .entry)) from to)) ⌝ }
+    ensures { λ r. ⌜ ((count : ℕ) → Among (now (items .entry)) from to count
+        → Decides r (Rises (rulesIn (now (rules .entry)) count) (now (items .entry)) from to)) ⌝ }
 {
     let mut p = from;
     while p + 1 < to {
@@ -105,8 +106,10 @@ fn set_fits(rules: &Rules, count: usize, items: &[u32], k: usize, from: usize, t
 
 // Whether every set up to `e` has items that it may have. The starts are known not to fall, nor to lead past the items.
 pub fn sets_fit(rules: &Rules, count: usize, e: usize, items: &[u32], starts: &[u32]) -> bool
-    requires { ⌜ ((count ≤ maxRules) × (e + 2 ≤ length (now starts))) × ((itemWords * getD (now starts) (e + 1) 0 ≤ length (now items)) × NeverFalls (now starts) e) ⌝ }
-    ensures { λ r. ⌜ Decides r (SetsFit (rulesIn (now (rules .entry)) count) (now (items .entry)) (now (starts .entry)) e) ⌝ }
+    requires { ⌜ ((count ≤ maxRules) × (e + 2 ≤ length (now starts)))
+        × ((itemWords * getD (now starts) (e + 1) 0 ≤ length (now items)) × NeverFalls (now starts) e) ⌝ }
+    ensures { λ r. ⌜ Decides r
+        (SetsFit (rulesIn (now (rules .entry)) count) (now (items .entry)) (now (starts .entry)) e) ⌝ }
 {
     for k in 0..e + 1 {
         if !set_fits(rules, count, items, k, wide(starts[k]), wide(starts[k + 1])) {

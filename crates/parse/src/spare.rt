@@ -5,6 +5,7 @@ ghost use lib.ListN.{length};
 ghost use Rattle.item.specs.Item.{itemWords};
 ghost use Rattle.bits.specs.Width.{rowWords};
 ghost use Rattle.laws.specs.Decides.{Decides};
+ghost use Rattle.parse.specs.Words.{wordsOf};
 ghost use Rattle.parse.specs.inner.Parts.{SpareClear};
 use crate::State;
 use crate::words::is_clear;
@@ -15,7 +16,8 @@ use item::ITEM_WORDS;
 // Whether all spare words are 0.
 pub fn spare_clear(state: State, items: &[u32], starts: &[u32], rows: &[u64], queue: &[u32]) -> bool
     requires { ⌜ (itemWords * state .items ≤ length (now items)) × (rowWords * (state .set + 1) ≤ length (now rows)) ⌝ }
-    ensures { λ r. ⌜ Decides r (SpareClear state (record { items = now (items .entry); starts = now (starts .entry); rows = now (rows .entry); queue = now (queue .entry) })) ⌝ }
+    ensures { λ r. ⌜ Decides r
+        (SpareClear state (wordsOf (now (items .entry)) (now (starts .entry)) (now (rows .entry)) (now (queue .entry)))) ⌝ }
 {
     let set = state.set;
     let held = state.items;

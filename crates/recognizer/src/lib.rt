@@ -69,7 +69,9 @@ pub fn start(
     rows: &mut [u64],
     queue: &mut [u32],
 ) -> Answer
-    ensures calls { λ r. ⌜ Starts (now (file .entry)) state (wordsOf (now (items .entry)) (now (starts .entry)) (now (rows .entry)) (now (queue .entry))) (outcomeOf r (wordsOf (now (items .exit)) (now (starts .exit)) (now (rows .exit)) (now (queue .exit)))) ⌝ }
+    ensures calls { λ r. ⌜ Starts (now (file .entry)) state
+        (wordsOf (now (items .entry)) (now (starts .entry)) (now (rows .entry)) (now (queue .entry)))
+        (outcomeOf r (wordsOf (now (items .exit)) (now (starts .exit)) (now (rows .exit)) (now (queue .exit)))) ⌝ }
 {
     let mut rules = [0; WORDS];
     let sizes = match open(file, &mut rules) {
@@ -95,8 +97,11 @@ pub fn token(
     queue: &mut [u32],
     t: u16,
 ) -> Answer
-    ensures calls { λ r. ⌜ Takes (now (file .entry)) state (wordsOf (now (items .entry)) (now (starts .entry)) (now (rows .entry)) (now (queue .entry))) t (outcomeOf r (wordsOf (now (items .exit)) (now (starts .exit)) (now (rows .exit)) (now (queue .exit)))) ⌝ }
-    ensures sentences { λ r. ⌜ TokenTells (now (file .entry)) state (wordsOf (now (items .entry)) (now (starts .entry)) (now (rows .entry)) (now (queue .entry))) t (numberOf r) ⌝ }
+    ensures calls { λ r. ⌜ Takes (now (file .entry)) state
+        (wordsOf (now (items .entry)) (now (starts .entry)) (now (rows .entry)) (now (queue .entry))) t
+        (outcomeOf r (wordsOf (now (items .exit)) (now (starts .exit)) (now (rows .exit)) (now (queue .exit)))) ⌝ }
+    ensures sentences { λ r. ⌜ TokenTells (now (file .entry)) state
+        (wordsOf (now (items .entry)) (now (starts .entry)) (now (rows .entry)) (now (queue .entry))) t (numberOf r) ⌝ }
 {
     let mut rules = [0; WORDS];
     let sizes = match ready(file, state, items, starts, rows, queue, &mut rules) {
@@ -127,8 +132,14 @@ pub fn run(
     queue: &mut [u32],
     tokens: &[u16],
 ) -> Ran
-    ensures calls { λ r. ⌜ Runs (now (file .entry)) state (wordsOf (now (items .entry)) (now (starts .entry)) (now (rows .entry)) (now (queue .entry))) (now (tokens .entry)) (endedOf r (wordsOf (now (items .exit)) (now (starts .exit)) (now (rows .exit)) (now (queue .exit)))) ⌝ }
-    ensures sentences { λ r. ⌜ RunTells (now (file .entry)) state (wordsOf (now (items .entry)) (now (starts .entry)) (now (rows .entry)) (now (queue .entry))) (now (tokens .entry)) (endedOf r (wordsOf (now (items .exit)) (now (starts .exit)) (now (rows .exit)) (now (queue .exit)))) ⌝ }
+    ensures calls { λ r. ⌜ Runs (now (file .entry)) state
+        (wordsOf (now (items .entry)) (now (starts .entry)) (now (rows .entry)) (now (queue .entry)))
+        (now (tokens .entry))
+        (endedOf r (wordsOf (now (items .exit)) (now (starts .exit)) (now (rows .exit)) (now (queue .exit)))) ⌝ }
+    ensures sentences { λ r. ⌜ RunTells (now (file .entry)) state
+        (wordsOf (now (items .entry)) (now (starts .entry)) (now (rows .entry)) (now (queue .entry)))
+        (now (tokens .entry))
+        (endedOf r (wordsOf (now (items .exit)) (now (starts .exit)) (now (rows .exit)) (now (queue .exit)))) ⌝ }
 {
     let mut rules = [0; WORDS];
     let sizes = match ready(file, state, items, starts, rows, queue, &mut rules) {
@@ -161,8 +172,12 @@ pub fn finished(
     rows: &[u64],
     queue: &[u32],
 ) -> Whether
-    ensures calls { λ r. ⌜ Finishes (now (file .entry)) state (wordsOf (now (items .entry)) (now (starts .entry)) (now (rows .entry)) (now (queue .entry))) (finishedNumber r) (saysYes r) ⌝ }
-    ensures sentences { λ r. ⌜ FinishedTells (now (file .entry)) state (wordsOf (now (items .entry)) (now (starts .entry)) (now (rows .entry)) (now (queue .entry))) (finishedNumber r) (saysYes r) ⌝ }
+    ensures calls { λ r. ⌜ Finishes (now (file .entry)) state
+        (wordsOf (now (items .entry)) (now (starts .entry)) (now (rows .entry)) (now (queue .entry))) (finishedNumber r)
+        (saysYes r) ⌝ }
+    ensures sentences { λ r. ⌜ FinishedTells (now (file .entry)) state
+        (wordsOf (now (items .entry)) (now (starts .entry)) (now (rows .entry)) (now (queue .entry))) (finishedNumber r)
+        (saysYes r) ⌝ }
 {
     let mut rules = [0; WORDS];
     match ready(file, state, items, starts, rows, queue, &mut rules) {
@@ -185,7 +200,9 @@ pub fn latest_set<'a>(
     queue: &[u32],
     number: &mut u32,
 ) -> &'a [u32]
-    ensures calls { λ r. ⌜ Reports (now (file .entry)) state (wordsOf (now (items .entry)) (now (starts .entry)) (now (rows .entry)) (now (queue .entry))) (now (number .exit)) (now r) ⌝ }
+    ensures calls { λ r. ⌜ Reports (now (file .entry)) state
+        (wordsOf (now (items .entry)) (now (starts .entry)) (now (rows .entry)) (now (queue .entry)))
+        (now (number .exit)) (now r) ⌝ }
 {
     let mut rules = [0; WORDS];
     match ready(file, state, items, starts, rows, queue, &mut rules) {

@@ -31,8 +31,11 @@ fn complete_token(
     queue: &mut [u32],
     t: usize,
 ) -> Progress
-    requires { ⌜ Steppable (grammarFrom (now rules) sizes) (now table) state (wordsOf (now items) (now starts) (now rows) (now queue)) × (t < sizes .tokens) ⌝ }
-    ensures { λ r. ⌜ passOf r (now (items .exit)) (now (queue .exit)) ≡ completed (grammarFrom (now (rules .entry)) sizes) state (wordsOf (now (items .entry)) (now (starts .entry)) (now (rows .entry)) (now (queue .entry))) t ⌝ }
+    requires { ⌜ Steppable (grammarFrom (now rules) sizes) (now table) state
+        (wordsOf (now items) (now starts) (now rows) (now queue)) × (t < sizes .tokens) ⌝ }
+    ensures { λ r. ⌜ passOf r (now (items .exit)) (now (queue .exit))
+        ≡ completed (grammarFrom (now (rules .entry)) sizes) state
+        (wordsOf (now (items .entry)) (now (starts .entry)) (now (rows .entry)) (now (queue .entry))) t ⌝ }
 {
     let count = sizes.rules;
     let begun = Progress {
@@ -57,7 +60,8 @@ fn complete_token(
 // Clears what a refused pass stored and queued.
 fn give_up(items: &mut [u32], queue: &mut [u32], stored: usize)
     requires { ⌜ itemWords * stored ≤ length (now items) ⌝ }
-    ensures items { λ _. ⌜ now (items .exit) ≡ padded (length (now (items .entry))) (take (itemWords * stored) (now (items .entry))) ⌝ }
+    ensures items { λ _. ⌜ now (items .exit) ≡ padded (length (now (items .entry)))
+        (take (itemWords * stored) (now (items .entry))) ⌝ }
     ensures queue { λ _. ⌜ now (queue .exit) ≡ padded (length (now (queue .entry))) (take 0 (now (queue .entry))) ⌝ }
 {
     let item_words = items.len();
@@ -89,8 +93,12 @@ pub fn step(
     queue: &mut [u32],
     t: usize,
 ) -> Answer
-    requires { ⌜ Steppable (grammarFrom (now rules) sizes) (now table) state (wordsOf (now items) (now starts) (now rows) (now queue)) ⌝ }
-    ensures { λ r. ⌜ outcomeOf r (wordsOf (now (items .exit)) (now (starts .exit)) (now (rows .exit)) (now (queue .exit))) ≡ stepped (grammarFrom (now (rules .entry)) sizes) (now (table .entry)) state (wordsOf (now (items .entry)) (now (starts .entry)) (now (rows .entry)) (now (queue .entry))) t ⌝ }
+    requires { ⌜ Steppable (grammarFrom (now rules) sizes) (now table) state
+        (wordsOf (now items) (now starts) (now rows) (now queue)) ⌝ }
+    ensures { λ r. ⌜ outcomeOf r
+        (wordsOf (now (items .exit)) (now (starts .exit)) (now (rows .exit)) (now (queue .exit)))
+        ≡ stepped (grammarFrom (now (rules .entry)) sizes) (now (table .entry)) state
+        (wordsOf (now (items .entry)) (now (starts .entry)) (now (rows .entry)) (now (queue .entry))) t ⌝ }
 {
     if t >= sizes.tokens {
         return Answer::Refused(Refusal::NoToken, state);

@@ -42,7 +42,9 @@ pub fn well_formed(
     queue: &[u32],
 ) -> bool
     requires { ⌜ sizes .rules ≤ maxRules ⌝ }
-    ensures { λ r. ⌜ Decides r (WellFormed (sizes .symbols) (rulesIn (now (rules .entry)) (sizes .rules)) state (within (wordsOf (now (items .entry)) (now (starts .entry)) (now (rows .entry)) (now (queue .entry))))) ⌝ }
+    ensures { λ r. ⌜ Decides r
+        (WellFormed (sizes .symbols) (rulesIn (now (rules .entry)) (sizes .rules)) state
+        (within (wordsOf (now (items .entry)) (now (starts .entry)) (now (rows .entry)) (now (queue .entry))))) ⌝ }
 {
     let sets = set_room(starts, rows);
     if sets == 0 {
@@ -76,8 +78,13 @@ pub fn step_within(
     queue: &mut [u32],
     t: usize,
 ) -> Answer
-    requires { ⌜ Steppable (grammarFrom (now rules) sizes) (now table) state (within (wordsOf (now items) (now starts) (now rows) (now queue))) ⌝ }
-    ensures { λ r. ⌜ outcomeOf r (wordsOf (now (items .exit)) (now (starts .exit)) (now (rows .exit)) (now (queue .exit))) ≡ inPlace (wordsOf (now (items .entry)) (now (starts .entry)) (now (rows .entry)) (now (queue .entry))) (stepped (grammarFrom (now (rules .entry)) sizes) (now (table .entry)) state (within (wordsOf (now (items .entry)) (now (starts .entry)) (now (rows .entry)) (now (queue .entry)))) t) ⌝ }
+    requires { ⌜ Steppable (grammarFrom (now rules) sizes) (now table) state
+        (within (wordsOf (now items) (now starts) (now rows) (now queue))) ⌝ }
+    ensures { λ r. ⌜ outcomeOf r
+        (wordsOf (now (items .exit)) (now (starts .exit)) (now (rows .exit)) (now (queue .exit)))
+        ≡ inPlace (wordsOf (now (items .entry)) (now (starts .entry)) (now (rows .entry)) (now (queue .entry)))
+        (stepped (grammarFrom (now (rules .entry)) sizes) (now (table .entry)) state
+        (within (wordsOf (now (items .entry)) (now (starts .entry)) (now (rows .entry)) (now (queue .entry)))) t) ⌝ }
 {
     let item_end = ITEM_WORDS * item_room(items);
     let sets = set_room(starts, rows);
@@ -109,8 +116,14 @@ pub fn run_within(
     queue: &mut [u32],
     tokens: &[u16],
 ) -> Ran
-    requires { ⌜ Steppable (grammarFrom (now rules) sizes) (now table) state (within (wordsOf (now items) (now starts) (now rows) (now queue))) × Predicts (grammarFrom (now rules) sizes) rowWords (now table) ⌝ }
-    ensures { λ r. ⌜ endedOf r (wordsOf (now (items .exit)) (now (starts .exit)) (now (rows .exit)) (now (queue .exit))) ≡ inPlaceEnded (wordsOf (now (items .entry)) (now (starts .entry)) (now (rows .entry)) (now (queue .entry))) (ran (grammarFrom (now (rules .entry)) sizes) (now (table .entry)) state (within (wordsOf (now (items .entry)) (now (starts .entry)) (now (rows .entry)) (now (queue .entry)))) (now (tokens .entry))) ⌝ }
+    requires { ⌜ Steppable (grammarFrom (now rules) sizes) (now table) state
+        (within (wordsOf (now items) (now starts) (now rows) (now queue))) × Predicts (grammarFrom (now rules) sizes)
+        rowWords (now table) ⌝ }
+    ensures { λ r. ⌜ endedOf r (wordsOf (now (items .exit)) (now (starts .exit)) (now (rows .exit)) (now (queue .exit)))
+        ≡ inPlaceEnded (wordsOf (now (items .entry)) (now (starts .entry)) (now (rows .entry)) (now (queue .entry)))
+        (ran (grammarFrom (now (rules .entry)) sizes) (now (table .entry)) state
+        (within (wordsOf (now (items .entry)) (now (starts .entry)) (now (rows .entry)) (now (queue .entry))))
+        (now (tokens .entry))) ⌝ }
 {
     let mut now = state;
     let mut taken = 0;
@@ -134,7 +147,9 @@ pub fn run_within(
 // Clears words, and puts a row into row 0.
 fn clear_all(row: &Row, items: &mut [u32], starts: &mut [u32], rows: &mut [u64], queue: &mut [u32])
     requires { ⌜ (rowWords ≤ length (now rows)) × (length (now row) ≡ rowWords) ⌝ }
-    ensures { λ _. ⌜ wordsOf (now (items .exit)) (now (starts .exit)) (now (rows .exit)) (now (queue .exit)) ≡ clearedWords (now (row .entry)) (wordsOf (now (items .entry)) (now (starts .entry)) (now (rows .entry)) (now (queue .entry))) ⌝ }
+    ensures { λ _. ⌜ wordsOf (now (items .exit)) (now (starts .exit)) (now (rows .exit)) (now (queue .exit))
+        ≡ clearedWords (now (row .entry))
+        (wordsOf (now (items .entry)) (now (starts .entry)) (now (rows .entry)) (now (queue .entry))) ⌝ }
 {
     let item_end = items.len();
     clear(items, 0, item_end);
@@ -150,7 +165,9 @@ fn clear_all(row: &Row, items: &mut [u32], starts: &mut [u32], rows: &mut [u64],
 // Clears the words within the capacities, and puts a row into row 0. The words past them stay.
 pub fn begin(row: &Row, items: &mut [u32], starts: &mut [u32], rows: &mut [u64], queue: &mut [u32])
     requires { ⌜ (0 < setRoomOf (now starts) (now rows)) × (length (now row) ≡ rowWords) ⌝ }
-    ensures { λ _. ⌜ wordsOf (now (items .exit)) (now (starts .exit)) (now (rows .exit)) (now (queue .exit)) ≡ begunWords (now (row .entry)) (wordsOf (now (items .entry)) (now (starts .entry)) (now (rows .entry)) (now (queue .entry))) ⌝ }
+    ensures { λ _. ⌜ wordsOf (now (items .exit)) (now (starts .exit)) (now (rows .exit)) (now (queue .exit))
+        ≡ begunWords (now (row .entry))
+        (wordsOf (now (items .entry)) (now (starts .entry)) (now (rows .entry)) (now (queue .entry))) ⌝ }
 {
     let item_end = ITEM_WORDS * item_room(items);
     let sets = set_room(starts, rows);
