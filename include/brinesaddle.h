@@ -7,7 +7,9 @@
  * elements. Slices and words that a call may write overlap nothing else that the same call takes. A slice that is `const` here is not
  * written. Any contents are taken: no call needs its words prepared but for what a start does.
  *
- * Answers. Each call returns a number: 0 is done; the others tell why nothing was done, in this order of precedence.
+ * Answers. Each call returns a number: 0 is done; the others are refusals, in this order of precedence. What a refused call leaves is said
+ * at each call. In short: a run keeps the tokens before the refused one and tells how many they are; a walk tells the nodes before the
+ * units that are none; finished and latest_set put 0 into their words; every other refused call leaves everything as it was.
  */
 #ifndef BRINESADDLE_H
 #define BRINESADDLE_H
@@ -48,47 +50,57 @@ enum {
     BRINESADDLE_MAX_UNITS = 32768 /* of a node store */
 };
 
-/* Checks a grammar file of version 1. Answers 0, 1 or 2. */
+/* The bytes of stack that a call needs, its arguments among them: measured on x86-64 at release (bench/stack), and rounded up. A program
+ * whose symbols are bound late needs up to 4 KiB more at its first call, for the linker. */
+enum {
+    BRINESADDLE_PARSE_STACK = 12288,  /* start, token, run */
+    BRINESADDLE_REPORT_STACK = 10240, /* check, finished, latest_set */
+    BRINESADDLE_NODE_STACK = 512      /* node_write, node_read, node_walk */
+};
+
+/* Checks a grammar file of version 1. Answers 0, 1 or 2, and writes nothing. */
 uint32_t brinesaddle_check(const uint8_t *file, size_t file_len);
 
 /* Starts a parse. `set` and `held` hold an old state, of any value.
  * Answers 0, 1, 2 or 3. Done: the state is fresh (both words 0), the words within capacity are cleared and row 0 holds what the wrapper
- * begins with. Refused: all as it was, the old state too. */
+ * begins with. Refused: words and old state as they were. */
 uint32_t brinesaddle_start(const uint8_t *file, size_t file_len, size_t *set, size_t *held, uint32_t *items, size_t items_len,
                            uint32_t *starts, size_t starts_len, uint64_t *rows, size_t rows_len, uint32_t *queue, size_t queue_len);
 
 /* Reads one token. Any number is taken; T and above is answered 5.
- * Answers 0, 1, 2, 4, 5, 6, 7, 8 or 9. Done: the state and the words are those after the token. Refused: all as it was. */
+ * Answers 0, 1, 2, 4, 5, 6, 7, 8 or 9. Done: the state and the words are those after the token. Refused: state and words as they were. */
 uint32_t brinesaddle_token(const uint8_t *file, size_t file_len, size_t *set, size_t *held, uint32_t *items, size_t items_len,
                            uint32_t *starts, size_t starts_len, uint64_t *rows, size_t rows_len, uint32_t *queue, size_t queue_len,
                            uint32_t token);
 
 /* Reads tokens up to the first that is refused. The same as one call a token, but grammar and state are checked once; they are checked
  * for an empty run too.
- * Answers as a token does, for the first refusal. `taken` is the number of tokens that were taken, 0 where the answer is 1, 2 or 4. State
- * and words are those after the tokens taken. */
+ * Answers as a token does, for the first refusal. Done or refused, `taken` is the number of tokens that were taken, and state and words are
+ * those after them: a run that is refused at a later token has moved on. With 1, 2 and 4 none was taken, and all is as it was. */
 uint32_t brinesaddle_run(const uint8_t *file, size_t file_len, size_t *set, size_t *held, uint32_t *items, size_t items_len,
                          uint32_t *starts, size_t starts_len, uint64_t *rows, size_t rows_len, uint32_t *queue, size_t queue_len,
                          const uint16_t *tokens, size_t tokens_len, size_t *taken);
 
 /* Whether the tokens taken since the start are a sentence.
- * Answers 0, 1, 2 or 4. `yes` is 1 or 0; refused, it is 0. */
+ * Answers 0, 1, 2 or 4. Done: `yes` is 1 or 0. Refused: `yes` is 0. */
 uint32_t brinesaddle_finished(const uint8_t *file, size_t file_len, size_t set, size_t held, const uint32_t *items, size_t items_len,
                               const uint32_t *starts, size_t starts_len, const uint64_t *rows, size_t rows_len, const uint32_t *queue,
                               size_t queue_len, uint32_t *yes);
 
-/* Where the latest set stands: items[first] up to items[first + count - 1], two words an item.
- * Answers 0, 1, 2 or 4. Refused, `first` and `count` are 0. At the start the set is empty. */
+/* Where the latest set stands: items[first] up to items[first + count - 1], two words an item. At the start the set is empty.
+ * Answers 0, 1, 2 or 4. Refused: `first` and `count` are 0. */
 uint32_t brinesaddle_latest_set(const uint8_t *file, size_t file_len, size_t set, size_t held, const uint32_t *items, size_t items_len,
                                 const uint32_t *starts, size_t starts_len, const uint64_t *rows, size_t rows_len, const uint32_t *queue,
                                 size_t queue_len, size_t *first, size_t *count);
 
 /* A node of a forest is five numbers: its kind, and
  *   Sum          count, nonterminal, 0, 0
- *   Product      action, left factor, 1 and the right factor; or 0 and 0 where there is none
+ *   Product      action, left factor, flag, right factor
  *   NullingLeaf  symbol, 0, 0, 0
  *   Evaluated    symbol, 0, 0, 0
- * Factors are positions in the same store. A writer may leave anything in numbers that its kind has no use for. */
+ * Factors are positions in the same store. A Product's flag tells whether there is a right factor: what is read has 1, or 0 and a right
+ * factor of 0; in what is written any number but 0 counts as 1. A writer may leave anything in numbers that its node has no use for, so in
+ * the right factor too where the flag is 0. */
 enum {
     BRINESADDLE_SUM = 0,
     BRINESADDLE_PRODUCT = 1,
@@ -108,7 +120,8 @@ uint32_t brinesaddle_node_write(uint16_t *store, size_t store_len, size_t p, con
 uint32_t brinesaddle_node_read(const uint16_t *store, size_t store_len, size_t p, uint32_t node[5], size_t *behind);
 
 /* Reads on from p to the end or the first 12.
- * Answers 0 or 12. `count` is the number of nodes read, and `behind` the position behind the last one, p if there is none. */
+ * Answers 0 or 12. Either way `count` is the number of nodes read, and `behind` the position behind the last one, p if there is none: 12 is
+ * the answer of a read from `behind`. */
 uint32_t brinesaddle_node_walk(const uint16_t *store, size_t store_len, size_t p, size_t *count, size_t *behind);
 
 #ifdef __cplusplus

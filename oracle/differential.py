@@ -386,7 +386,7 @@ def refused_run(case, before, answers, items, sets, queue, refusal):
 KINDS = [(a_parse, 50), (a_forged_state, 12), (a_damaged_state, 22), (some_nodes, 6)]
 ASKED = [f"start {n}" for n in (0, 1, 2, 3)] + [f"{call} {n}" for call in ("token", "run") for n in (0, 1, 2, 4, 5, 6, 7, 8, 9)] + \
         [f"{call} {n}" for call in ("finished", "latest set") for n in (0, 1, 2, 4)] + [f"damaged: {way}" for way in WAYS] + \
-        ["node write 0", "node write 10", "node write 11", "node read 0", "node read 12", "node read 0 end", "node walk 0", "node walk 12"]
+        ["node write 0", "node write 10", "node write 11", "node read 0", "node read 12", "node read 0 end", "node walk 0", "node walk 12", "Rust: runs", "Rust: token 0", "Rust: token 6"]
 
 
 def refusals(number):
@@ -407,7 +407,7 @@ def main():
         return 1
     for name in sorted(met):
         print(f"{name}: {met[name]}")
-    rare = [f"refusal {n}" for n in range(3, 10) if refusals(n) < least] + [name for name in ASKED if met[name] < least // 20]
+    rare = [f"refusal {n}" for n in range(3, 10) if refusals(n) < least] + [name for name in ASKED if met[name] < max(1, least // 20)]
     if rare:
         print("met too rarely: " + ", ".join(rare))
         return 1

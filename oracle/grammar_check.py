@@ -10,6 +10,8 @@ import random
 import struct
 import sys
 
+import asserting  # noqa: F401
+
 NONE = 0xFFFF
 HERE = os.path.dirname(os.path.abspath(__file__))
 PROGRAM = os.path.join(HERE, "..", "crates", "replay_grammar")
@@ -335,8 +337,8 @@ def main(words):
         else:
             with open(path, "rb") as file:
                 same = file.read() == data
-            print(part, "same" if same else "DIFFERS")
-            failed += not same
+            print(f"{part}: {len(data)} bytes, {'same' if same else 'DIFFERS'}")
+            failed += not same or not data
     return 1 if failed else 0
 
 

@@ -134,7 +134,7 @@ def main():
     for failure in failures:
         print(failure)
     print(f"{count} numbers, {len(failures)} failed")
-    return 1 if failures else 0
+    return 1 if failures or not count else 0
 
 
 if __name__ == "__main__":

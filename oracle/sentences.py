@@ -183,6 +183,9 @@ def main():
         counts = {"grammars": 0, "files refused by the check": 0, "accepted": 0, "refused 6": 0, "sentences": 0}
         work(counts)
         print(f"{name}: " + ", ".join(f"{what} {count}" for what, count in counts.items() if count))
+        missing = [what for what in ("grammars", "accepted", "refused 6", "sentences") if not counts[what]]
+        if missing:
+            raise SystemExit(f"{name}: nothing was compared of: {', '.join(missing)}")
 
 
 if __name__ == "__main__":

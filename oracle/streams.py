@@ -14,7 +14,7 @@ FROM_START, FROM_WELL_FORMED, FROM_ANY_SHAPE = 0, 1, 2
 RESET = 0xFFFFFFFF
 PUSH, POP = 0, 1
 
-# A whole state. items: (origin, rule) each; rows: one number each, symbol s being bit s.
+# A whole state. finished: 1 or 0; items: (origin, rule) each; rows: one number each, symbol s being bit s.
 Chart = namedtuple("Chart", "set_number finished items starts rows")
 # The answer to a token. room: the most items and queued entries at a time; sums: (origin, left side, places in pop order).
 # Refused, there is only the number.
@@ -105,7 +105,7 @@ def chart_numbers(chart):
 def read_chart(numbers):
     set_number, finished = numbers.list(2)
     items = numbers.items(numbers.next())
-    return Chart(set_number, bool(finished), items, numbers.list(set_number + 2), numbers.rows(set_number + 1))
+    return Chart(set_number, finished, items, numbers.list(set_number + 2), numbers.rows(set_number + 1))
 
 
 def read_answers(numbers, case):
@@ -115,15 +115,15 @@ def read_answers(numbers, case):
     for token in case.tokens:
         if token == RESET:
             answers.append(Answer(0, chart=read_chart(numbers)))
-        elif numbers.next() == 0:
+        elif number := numbers.next():
+            answers.append(Answer(number))
+        else:
             room = tuple(numbers.list(2))
             sums = []
             for _ in range(numbers.next()):
                 origin, left = numbers.list(2)
                 sums.append((origin, left, numbers.list(numbers.next())))
             answers.append(Answer(0, room, sums, read_chart(numbers)))
-        else:
-            answers.append(Answer(6))
     return before, answers
 
 

@@ -1,5 +1,6 @@
 //! A host in Rust: what examples/host.c does, through the safe wrapper. `tests/host` builds and runs it.
 use brinesaddle::{check, read_node, walk_nodes, write_node, Node, Parse, Refusal, State, Words};
+use std::error::Error;
 
 /// Document 01's grammar A: S ::= S P | num, P ::= plus S.
 const GRAMMAR: [u8; 35] = [
@@ -10,33 +11,33 @@ fn number(answer: Result<(), Refusal>) -> u32 {
     answer.map_or_else(Refusal::number, |()| 0)
 }
 
-fn show(words: &mut Words, tokens: &[u16]) -> State {
-    let mut parse = Parse::start(&GRAMMAR, words.lend()).expect("grammar A is accepted");
+fn show(words: &mut Words, tokens: &[u16]) -> Result<State, Refusal> {
+    let mut parse = Parse::start(&GRAMMAR, words.lend())?;
     let ran = parse.run(tokens);
-    let finished = if parse.finished().expect("well formed") { "yes" } else { "no" };
-    let items: String = parse.latest_set().expect("well formed").chunks(2).map(|item| format!(" ({}, {})", item[0], item[1])).collect();
+    let finished = if parse.finished()? { "yes" } else { "no" };
+    let items: String = parse.latest_set()?.chunks(2).map(|item| format!(" ({}, {})", item[0], item[1])).collect();
     println!("start 0, read {}, stopped {}, finished {finished}, set {}:{items}", ran.taken, number(ran.answer), parse.state().set);
-    parse.state()
+    Ok(parse.state())
 }
 
-fn main() {
+fn main() -> Result<(), Box<dyn Error>> {
     println!("check {}", number(check(&GRAMMAR)));
     let mut words = Words::new(64, 16, 16);
-    show(&mut words, &[0, 1, 0]);
-    let state = show(&mut words, &[0, 0]);
+    show(&mut words, &[0, 1, 0])?;
+    let state = show(&mut words, &[0, 0])?;
     println!("token 70000: {}", number(Parse::resume(&GRAMMAR, words.lend(), state).token(70000)));
     words.starts[0] = 1;
     println!("damaged: {}", number(Parse::resume(&GRAMMAR, words.lend(), state).token(1)));
 
     let mut store = [0xFFFF; 48];
     let product = Node::Product { action: 9, left: 20, right: Some(35) };
-    let behind = write_node(&mut store, 40, product).expect("it fits");
+    let behind = write_node(&mut store, 40, product)?;
     println!("write 0, behind {behind}, units {:04X} {:04X}", store[40], store[41]);
-    let (node, behind) = read_node(&store, 0).expect("a node").expect("not the end");
-    let Node::Product { action, left, right: Some(right) } = node else { panic!("another node: {node:?}") };
+    let Some((Node::Product { action, left, right: Some(right) }, behind)) = read_node(&store, 0)? else { Err("another node")? };
     println!("read 0, kind 1, action {action}, left {left}, right {right}, behind {behind}");
     let walked = walk_nodes(&store, 0);
     println!("walk {}, nodes {}, behind {}", number(walked.answer), walked.nodes, walked.behind);
-    let end = read_node(&store, behind).expect("the end").is_none();
+    let end = read_node(&store, behind)?.is_none();
     println!("read on 0, end {}", if end { "yes" } else { "no" });
+    Ok(())
 }

@@ -1,16 +1,29 @@
 //! The rule reader of the load balancer, over its proved static library. Safe: no call here can be made in a way that the library does
-//! not take. Nothing is allocated but by the caller.
+//! not take. Nothing is allocated but by the caller. A call needs up to 12 KiB of stack, one on nodes 512 bytes (include/brinesaddle.h).
 //!
-//! ```text
+//! ```
+//! use brinesaddle::{Parse, Refusal, Words};
+//!
+//! // S ::= S P | num, P ::= plus S; num is token 0, plus token 1.
+//! let grammar = [1, 0, 0, 0, 35, 0, 6, 0, 2, 0, 4, 0, 4, 0, 2, 0, 5, 0, 2, 0, 2, 0, 3, 0, 2, 0, 0, 255, 255, 0, 3, 0, 1, 0, 2];
 //! let mut words = Words::largest();
-//! let mut parse = Parse::start(grammar, words.lend())?;
+//! let mut parse = Parse::start(&grammar, words.lend())?;
 //! parse.run(&[0, 1, 0]).answer?;
 //! assert!(parse.finished()?);
+//! assert_eq!(parse.token(0), Err(Refusal::NotPredicted));
+//! # Ok::<(), Refusal>(())
 //! ```
+//!
+//! The build script looks for `libhost.a` in the folder that the environment variable BRINESADDLE_LIB_DIR names, and without one in the
+//! repository's target/staticlib, where `rt staticlib host` writes it.
 
 mod raw;
 
-/// Why a call did nothing: document 01's numbers 1 to 12.
+use std::error::Error;
+use std::fmt;
+
+/// Why a call was refused: document 01's numbers 1 to 12. A refused run has taken the tokens before the refused one, and a refused walk
+/// tells the nodes before; every other refused call leaves all as it was.
 #[derive(Clone, Copy, Debug, PartialEq, Eq)]
 #[repr(u32)]
 pub enum Refusal {
@@ -48,7 +61,33 @@ impl Refusal {
     pub fn number(self) -> u32 {
         self as u32
     }
+
+    fn sentence(self) -> &'static str {
+        match self {
+            Refusal::Malformed => "the file is no grammar file of version 1, or its length is not what it says",
+            Refusal::Broken => "the grammar breaks a rule for grammars",
+            Refusal::NoSets => "there is no room for a set",
+            Refusal::IllFormed => "the state is not well formed in these words under this grammar",
+            Refusal::NoToken => "the grammar has no such token",
+            Refusal::NotPredicted => "no sentence goes on with this token",
+            Refusal::ItemsFull => "there is no room for another item",
+            Refusal::QueueFull => "there is no room for another queue entry",
+            Refusal::SetsFull => "there is no room for another set",
+            Refusal::Unfit => "a value is too large for a node",
+            Refusal::NoRoom => "the node does not fit the store from its position",
+            Refusal::NoNode => "the units at the position are no node",
+        }
+    }
 }
+
+/// A sentence for a person, and the number.
+impl fmt::Display for Refusal {
+    fn fmt(&self, f: &mut fmt::Formatter<'_>) -> fmt::Result {
+        write!(f, "{} (refusal {})", self.sentence(), self.number())
+    }
+}
+
+impl Error for Refusal {}
 
 fn answer(number: u32) -> Result<(), Refusal> {
     match number.checked_sub(1) {
@@ -57,7 +96,7 @@ fn answer(number: u32) -> Result<(), Refusal> {
     }
 }
 
-/// Checks a grammar file of version 1.
+/// Checks a grammar file of version 1: refused 1 or 2.
 pub fn check(file: &[u8]) -> Result<(), Refusal> {
     answer(unsafe { raw::brinesaddle_check(file.as_ptr(), file.len()) })
 }
@@ -102,7 +141,8 @@ pub struct State {
     pub items: usize,
 }
 
-/// What a run came to: how many tokens were taken, and the first refusal if there was one.
+/// What a run came to: how many tokens were taken, and the first refusal if there was one. The parse stands behind the tokens taken either
+/// way.
 #[derive(Clone, Copy, Debug, PartialEq, Eq)]
 pub struct Ran {
     pub taken: usize,
@@ -148,17 +188,17 @@ impl<'a> Parse<'a> {
         Parse { file, words, state }
     }
 
-    /// Starts anew in the same words.
+    /// Starts anew in the same words. Refused, state and words are as they were.
     pub fn restart(&mut self) -> Result<(), Refusal> {
         answer(write_call!(brinesaddle_start, self))
     }
 
-    /// Reads one token. Refused, all is as it was.
+    /// Reads one token. Refused, state and words are as they were.
     pub fn token(&mut self, token: u32) -> Result<(), Refusal> {
         answer(write_call!(brinesaddle_token, self, token))
     }
 
-    /// Reads tokens up to the first that is refused.
+    /// Reads tokens up to the first that is refused. Those before it stay taken; with 1, 2 and 4 none was, and all is as it was.
     pub fn run(&mut self, tokens: &[u16]) -> Ran {
         let mut taken = 0;
         let number = write_call!(brinesaddle_run, self, tokens.as_ptr(), tokens.len(), &mut taken);
@@ -184,7 +224,8 @@ impl<'a> Parse<'a> {
     }
 }
 
-/// A node of a forest. Factors are positions in the same store.
+/// A node of a forest. Factors are positions in the same store. Whether a Product has a right factor is a flag at the library's door, where
+/// any number but 0 counts as 1; here it is an option.
 #[derive(Clone, Copy, Debug, PartialEq, Eq)]
 pub enum Node {
     Sum { count: u32, nonterminal: u32 },
@@ -217,7 +258,7 @@ impl Node {
     }
 }
 
-/// What a walk came to: the nodes read, the position behind the last, and 12 if that ended it.
+/// What a walk came to: the nodes read, the position behind the last, and 12 if that ended it. Nodes and position are told either way.
 #[derive(Clone, Copy, Debug, PartialEq, Eq)]
 pub struct Walked {
     pub nodes: usize,
@@ -225,14 +266,14 @@ pub struct Walked {
     pub answer: Result<(), Refusal>,
 }
 
-/// Writes a node at a position, and answers the position behind it.
+/// Writes a node at a position, and answers the position behind it. Refused 10 or 11, the store is as it was.
 pub fn write_node(store: &mut [u16], position: usize, node: Node) -> Result<usize, Refusal> {
     let mut behind = position;
     answer(unsafe { raw::brinesaddle_node_write(store.as_mut_ptr(), store.len(), position, &node.numbers(), &mut behind) })?;
     Ok(behind)
 }
 
-/// The first node from a position on, with the position behind it; none at the end.
+/// The first node from a position on, with the position behind it; none at the end; refused 12 where the units are no node.
 pub fn read_node(store: &[u16], position: usize) -> Result<Option<(Node, usize)>, Refusal> {
     let (mut numbers, mut behind) = ([END, 0, 0, 0, 0], position);
     answer(unsafe { raw::brinesaddle_node_read(store.as_ptr(), store.len(), position, &mut numbers, &mut behind) })?;

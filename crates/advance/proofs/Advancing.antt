@@ -13,16 +13,17 @@ use Rattle.bits.specs.Width.{rowWords}
 use Rattle.item.specs.Item.{Item, itemWords, itemAt, flat}
 use Rattle.grammar.specs.Rules.{Rule, none}
 use Rattle.grammar.specs.Accepted.{maxSymbols}
-use Rattle.grammar.specs.Decoded.{secondIn, rulesIn}
+use Rattle.grammar.specs.inner.Decoded.{secondIn, rulesIn}
 use Rattle.parse.specs.declared.State.{State}
-use Rattle.parse.specs.Tells.{Clear}
-use Rattle.parse.specs.Words.{Words, startOf}
+use Rattle.parse.specs.inner.Parts.{Clear}
+use Rattle.parse.specs.Words.{Words, startOf, padded}
 use Rattle.parse.specs.WellFormed.{secondOf}
 use Rattle.advance.specs.declared.Advanced.{Advanced}
 use Rattle.advance.specs.NewItems.{itemsFrom, sorted, binary, newItems}
-use Rattle.advance.specs.Order.{All}
-use Rattle.advance.specs.Advance.{highest, greatestOrigin, lastKept, predictions, padded, ending, nextState, nextWords, Follows, newOf, reachOf, keptOf, hasRoom, advanceAnswer, advanceWords, withoutNew, Advances}
-use Rattle.advance.specs.Ready.{Followable, Ready}
+use Rattle.advance.specs.inner.Order.{All}
+use Rattle.advance.specs.inner.Advances.{Follows, newOf, reachOf, keptOf, hasRoom, advanceAnswer, withoutNew, advanceWords, Advances}
+use Rattle.advance.specs.Advance.{highest, greatestOrigin, lastKept, predictions, ending, nextState, nextWords}
+use Rattle.advance.specs.inner.Ready.{Followable, Advanceable}
 use Rattle.advance.proofs.Placed.{noItem, items-count}
 use Rattle.advance.proofs.Placing.{second-in}
 use Rattle.advance.proofs.Ordering.{all-at, all-both, sorted-length, sorted-all}
@@ -111,7 +112,7 @@ module _ (rs : List Rule) (table : List (List ℕ)) (s : State) (v : Words) (to 
   unfolding advanceWords
   words-refused e = rw (advanceWords, e) refl
 
-module _ (rules : List ℕ) (count : ℕ) (table : List (List ℕ)) (s : State) (v : Words) (to : ℕ) (h : Ready rules count table s v to) where
+module _ (rules : List ℕ) (count : ℕ) (table : List (List ℕ)) (s : State) (v : Words) (to : ℕ) (h : Advanceable rules count table s v to) where
   abbrev rs : List Rule
   rs = rulesIn rules count
 

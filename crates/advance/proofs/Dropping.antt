@@ -9,16 +9,16 @@ use lib.Seq.{ext-getD, length-take-le, getD-take, take-append-le, take-take}
 use borrow.Author.Tests.{eq-eqb, ne-eqb}
 use Rattle.item.specs.Item.{Item, itemWords, itemAt, ruleAt, flat}
 use Rattle.grammar.specs.Rules.{Rule, none}
-use Rattle.grammar.specs.Decoded.{secondIn, rulesIn}
-use Rattle.parse.specs.Tells.{Clear}
+use Rattle.grammar.specs.inner.Decoded.{secondIn, rulesIn}
+use Rattle.parse.specs.inner.Parts.{Clear}
 use Rattle.parse.specs.WellFormed.{secondOf, placing}
 use Rattle.advance.specs.NewItems.{itemsFrom, placed, sorted, binary, newItems}
-use Rattle.advance.specs.Order.{All, NeverFalls, Stored}
-use Rattle.advance.specs.Advance.{padded, ending}
-use Rattle.advance.proofs.Placed.{noItem, items-count, items-at, placed-length, placed-at, placed-above, items-placed}
+use Rattle.advance.specs.inner.Order.{All, NeverFalls, Stored}
+use Rattle.parse.specs.Words.{padded}
+use Rattle.advance.specs.Advance.{ending}
+use Rattle.advance.proofs.Placed.{noItem, items-count, items-at, placed-length, placed-at, placed-above, items-placed, take-items}
 use Rattle.advance.proofs.Placing.{Narrow, narrow-item, second-in}
 use Rattle.advance.proofs.Ordering.{all-at, sorted-length, sorted-all, sorted-never-falls, never-falls-at, second-never-falls}
-use Rattle.advance.proofs.Padded.{take-items}
 use Rattle.advance.proofs.Sorting.{items-all}
 
 -- Where the items with a second are the first, they are what is left.

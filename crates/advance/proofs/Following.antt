@@ -15,17 +15,19 @@ use Rattle.item.specs.Item.{Item, itemWords, itemAt, flat}
 use Rattle.item.proofs.Words.{flat-length, item-of-flat}
 use Rattle.grammar.specs.Rules.{Rule}
 use Rattle.grammar.specs.Accepted.{maxSymbols}
-use Rattle.grammar.specs.Decoded.{secondIn, rulesIn}
-use Rattle.parse.specs.Words.{Words, maxItems}
+use Rattle.grammar.specs.inner.Decoded.{secondIn, rulesIn}
+use Rattle.parse.specs.Words.{Words, maxItems, padded}
 use Rattle.parse.specs.WellFormed.{secondOf}
 use Rattle.advance.specs.NewItems.{itemsFrom}
-use Rattle.advance.specs.Order.{All}
-use Rattle.advance.specs.Advance.{lastKept, keptRows, predictions, padded, ending, Pruned, Follows}
-use Rattle.advance.specs.Ready.{Shape, Predictable, Followable}
+use Rattle.advance.specs.inner.Order.{All}
+use Rattle.advance.specs.inner.Advances.{Pruned, Follows}
+use Rattle.advance.specs.Advance.{lastKept, keptRows, predictions, ending}
+use Rattle.advance.specs.inner.Ready.{Predictable, Followable}
+use Rattle.prediction.specs.inner.Tables.{Shape}
 use Rattle.advance.proofs.Placed.{noItem, items-count, items-at, items-are, item-eq, behind-words}
 use Rattle.advance.proofs.Placing.{second-in}
 use Rattle.laws.proofs.Lists.{zeros-word}
-use Rattle.advance.proofs.Padded.{padded-length, padded-word, padded-set}
+use Rattle.parse.proofs.Padded.{padded-length, padded-word, padded-set}
 use Rattle.advance.proofs.Pruning.{kept-pruned, kept-all, rows-pruned, rows-all, start-below}
 use Rattle.advance.proofs.Sorting.{items-all}
 
@@ -98,12 +100,12 @@ module _ (width size : ℕ) (rows : List ℕ) (k : ℕ) (long : length rows ≡ 
       outside j (inr l) = List·getD-eq-default (rows ++ row) 0 {n = j} (omega (arith, both)) ∙ sym (List·getD-eq-default rows 0 {n = j} (omega arith))
 
 -- The union of rows is a row.
-pub predictions-wide : (rs : List Rule) (table : List (List ℕ)) (is : List Item) → Shape table → All (λ (i : Item). secondOf rs i < maxSymbols) is
+pub predictions-wide : (rs : List Rule) (table : List (List ℕ)) (is : List Item) → Shape rowWords table → All (λ (i : Item). secondOf rs i < maxSymbols) is
     → length (predictions rs table is) ≡ rowWords
 unfolding predictions
 predictions-wide rs table [] s All.empty = refl
 predictions-wide rs table (i ∷ is) s (All.also h hs) =
-    union-wide rowWords (predictions rs table is) (getD table (secondOf rs i) []) (predictions-wide rs table is s hs) (s .wide (secondOf rs i) h)
+    union-wide rowWords (predictions rs table is) (getD table (secondOf rs i) []) (predictions-wide rs table is s hs) (s .row (secondOf rs i) h .width-is)
 
 -- No set behind the latest is kept.
 pub kept-low : (e m : ℕ) → m ≤ e → lastKept e m ≤ e

@@ -14,8 +14,9 @@ use Rattle.grammar.specs.Rules.{Rule, none}
 use Rattle.parse.specs.declared.State.{State}
 use Rattle.parse.specs.Words.{Words, startOf}
 use Rattle.parse.specs.WellFormed.{secondOf, placing, Fits, InSet, WellFormed}
-use Rattle.advance.specs.Order.{All}
-use Rattle.advance.specs.Advance.{highest, greatestOrigin, lastKept, nextState, nextWords, withoutNew}
+use Rattle.advance.specs.inner.Order.{All}
+use Rattle.advance.specs.inner.Advances.{withoutNew}
+use Rattle.advance.specs.Advance.{highest, greatestOrigin, lastKept, nextState, nextWords}
 use Rattle.advance.proofs.Placed.{noItem, item-eq}
 use Rattle.advance.proofs.Ordering.{Rises, all-at, all-map, rises-at}
 use Rattle.advance.proofs.Pruning.{kept-pruned, kept-all, last-greatest}

@@ -4,7 +4,6 @@ pub mod Ordering
 pub mod Placing
 pub mod Inserting
 pub mod Sorting
-pub mod Padded
 pub mod Dropping
 pub mod Pruning
 pub mod Predicting

@@ -17,7 +17,7 @@ use Rattle.parse.proofs.Capacities.{SameSizes}
 use Rattle.advance.specs.Advance.{lastKept, keptRows, nextWords}
 use Rattle.advance.proofs.Placed.{noItem, item-eq}
 use Rattle.laws.proofs.Lists.{zeros-word}
-use Rattle.advance.proofs.Padded.{padded-length, padded-word}
+use Rattle.parse.proofs.Padded.{padded-length, padded-word}
 use Rattle.advance.proofs.Pruning.{kept-pruned, rows-pruned, rows-all}
 use Rattle.advance.proofs.Following.{ending-length, ending-at, ending-before, kept-low, kept-rows-length}
 

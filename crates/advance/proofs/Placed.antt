@@ -1,11 +1,11 @@
 -- Items at a stretch of places.
 use mathlib.Core.Path.{_≡_, refl, sym, ap, _∙_}
-use mathlib.Core.List.{List, [], _∷_, _++_}
+use mathlib.Core.List.{List, [], _∷_, _++_, append-assoc}
 use Prim.Native.Nat.{ℕ, zero, suc, _+_, _-_, _*_, _/_, _%_, _≤_, _<_}
 use native.Mathlib.Decide.{decLt, ℕ-discrete}
 use native.Mathlib.Omega.{arith}
 use lib.ListN.{length, getD, set, take, drop, length-append, length-drop, length-set, List·getD-append}
-use lib.Seq.{ext-getD, length-take-le, getD-take, getD-drop, getD-append-add, getD-set-same, getD-set-other, getD-at}
+use lib.Seq.{ext-getD, length-take-le, getD-take, getD-drop, getD-append-add, getD-set-same, getD-set-other, getD-at, take-at}
 use Rattle.item.specs.Item.{Item, itemWords, itemAt, originAt, ruleAt, flat, stored}
 use Rattle.item.proofs.Words.{flat-length, item-of-flat, stored-length, stored-other, stored-item, stored-item-other}
 use Rattle.advance.specs.NewItems.{itemsFrom, placed}
@@ -198,3 +198,12 @@ items-down words p to l m =
 pub items-none : (words : List ℕ) (from n : ℕ) → n ≡ 0 → itemsFrom words from n ≡ []
 unfolding itemsFrom
 items-none words from n e = ap (itemsFrom words from) e
+
+-- The first words, up to a place, are those before a stretch of items and the items.
+pub take-items : (words : List ℕ) (from n : ℕ) → itemWords * (from + n) ≤ length words
+    → take (itemWords * (from + n)) words ≡ take (itemWords * from) words ++ flat (itemsFrom words from n)
+take-items words from n l =
+    ap (take (itemWords * (from + n))) (placed-self words from (from + n) (omega arith) l ∙ sym (append-assoc (take (itemWords * from) words) (flat (itemsFrom words from (from + n - from))) (drop (itemWords * (from + n)) words)))
+    ∙ take-at (take (itemWords * from) words ++ flat (itemsFrom words from (from + n - from))) (drop (itemWords * (from + n)) words) (itemWords * (from + n))
+    (omega (arith, length-append (take (itemWords * from) words) (flat (itemsFrom words from (from + n - from))), length-take-le (itemWords * from) words (omega arith), flat-length (itemsFrom words from (from + n - from)), items-count words from (from + n - from)))
+    ∙ ap (λ (k : ℕ). take (itemWords * from) words ++ flat (itemsFrom words from k)) (omega arith)

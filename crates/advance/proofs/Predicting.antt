@@ -12,11 +12,11 @@ use Rattle.bits.specs.Width.{rowWords}
 use Rattle.item.specs.Item.{itemAt, ruleAt}
 use Rattle.grammar.specs.Rules.{Rule}
 use Rattle.grammar.specs.Accepted.{maxSymbols}
-use Rattle.grammar.specs.Decoded.{secondIn, rulesIn}
+use Rattle.grammar.specs.inner.Decoded.{secondIn, rulesIn}
 use Rattle.parse.specs.WellFormed.{secondOf}
 use Rattle.advance.specs.NewItems.{itemsFrom}
 use Rattle.advance.specs.Advance.{predictions}
-use Rattle.advance.specs.Ready.{Predictable}
+use Rattle.advance.specs.inner.Ready.{Predictable}
 use Rattle.advance.proofs.Placed.{items-down, items-none}
 use Rattle.advance.proofs.Dropping.{second-read}
 
@@ -84,7 +84,7 @@ module _ (rules : List ℕ) (count : ℕ) (table : List (List ℕ)) (w rows₀ :
         predicting-symbol = omega (arith, h .seconds (p - 1) (omega arith) (omega (arith, s .below)), g ∙ ap (secondIn rules) (f ∙ e))
 
         pub predicting-wide : length (getD table symbol []) ≡ rowWords
-        predicting-wide = h .shape .wide symbol predicting-symbol
+        predicting-wide = h .shape .row symbol predicting-symbol .width-is
 
         -- Its row is joined.
         pub predicting-next : {rows′ : List ℕ} → rows′ ≡ withRow rowWords rows k (union (rowOf rowWords rows k) (getD table symbol [])) → Predicting (p - 1) rows′

@@ -9,13 +9,15 @@ use borrow.Author.Tests.{lt-ltb, le-ltb}
 use Rattle.bits.specs.Width.{rowWords}
 use Rattle.item.specs.Item.{Item, itemWords, itemAt, stored, flat}
 use Rattle.item.proofs.Words.{flat-length}
-use Rattle.parse.specs.Tells.{Clear}
+use Rattle.parse.specs.inner.Parts.{Clear}
 use Rattle.advance.specs.NewItems.{itemsFrom, placed}
-use Rattle.advance.specs.Advance.{highest, greatestOrigin, lastKept, keptRows, padded, ending, Pruned}
-use Rattle.advance.specs.Ready.{Prunable}
+use Rattle.parse.specs.Words.{padded}
+use Rattle.advance.specs.inner.Advances.{Pruned}
+use Rattle.advance.specs.Advance.{highest, greatestOrigin, lastKept, keptRows, ending}
+use Rattle.advance.specs.inner.Ready.{Prunable}
 use Rattle.advance.proofs.Placed.{items-count, items-down, items-none, item-eq, placed-self, placed-length, placed-above, placed-more}
 use Rattle.advance.proofs.Inserting.{items-more}
-use Rattle.advance.proofs.Padded.{clear-padded, padded-zeros}
+use Rattle.parse.proofs.Padded.{clear-padded, padded-zeros}
 use Rattle.advance.proofs.Dropping.{cut-ending}
 
 -- From the last item down, the greatest origin so far.

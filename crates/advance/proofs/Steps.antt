@@ -15,21 +15,23 @@ use Rattle.item.specs.Item.{Item, itemWords, itemAt, originAt}
 use Rattle.item.proofs.Order.{Words as U32}
 use Rattle.grammar.specs.Rules.{Rule, none}
 use Rattle.grammar.specs.Accepted.{maxSymbols}
-use Rattle.grammar.specs.Decoded.{secondIn, rulesIn}
+use Rattle.grammar.specs.inner.Decoded.{secondIn, rulesIn}
 use Rattle.grammar.proofs.Decoding.{in-count}
 use Rattle.parse.specs.declared.State.{State}
-use Rattle.parse.specs.Tells.{Clear}
-use Rattle.parse.specs.Words.{Words, maxItems, maxSets}
+use Rattle.parse.specs.inner.Parts.{Clear}
+use Rattle.parse.specs.Words.{Words, maxItems, maxSets, padded}
 use Rattle.parse.specs.WellFormed.{secondOf, WellFormed}
 use Rattle.advance.specs.declared.Advanced.{Advanced}
 use Rattle.advance.specs.NewItems.{itemsFrom, sorted, binary}
-use Rattle.advance.specs.Order.{All, Stored}
-use Rattle.advance.specs.Advance.{predictions, padded, nextState, nextWords, newOf, reachOf, keptOf, lent, hasRoom, withoutNew, advanceAnswer, advanceWords, Advances}
-use Rattle.advance.specs.Ready.{Shape, Ready}
+use Rattle.advance.specs.inner.Order.{All, Stored}
+use Rattle.advance.specs.inner.Advances.{lent, newOf, reachOf, keptOf, hasRoom, advanceAnswer, withoutNew, advanceWords, Advances}
+use Rattle.advance.specs.Advance.{predictions, nextState, nextWords}
+use Rattle.advance.specs.inner.Ready.{Advanceable}
+use Rattle.prediction.specs.inner.Tables.{Shape}
 use Rattle.advance.proofs.Placing.{second-in}
 use Rattle.advance.proofs.Ordering.{Rises, Differ, all-both, sorted-rises, differ-apart}
 use Rattle.laws.proofs.Lists.{zeros-word}
-use Rattle.advance.proofs.Padded.{clear-padded}
+use Rattle.parse.proofs.Padded.{clear-padded}
 use Rattle.advance.proofs.Sorting.{items-all}
 use Rattle.advance.proofs.Pruning.{kept-pruned, kept-all}
 use Rattle.advance.proofs.Following.{predictions-wide}
@@ -50,8 +52,8 @@ without-new s v₀ v fits c long same =
 pub ready : (n : ℕ) (rules : List ℕ) (count : ℕ) (table : List (List ℕ)) (s : State) (v : Words) (to : ℕ)
     → WellFormed n (rulesIn rules count) s (withoutNew s v) → length (v .starts) ≡ length (v .rows) / rowWords + 1
     → Stored count (v .items) (s .items) to → to ≤ maxItems → ((p : ℕ) → s .items ≤ p → p < to → originAt (v .items) p ≤ s .set) → Clear (v .items) (itemWords * to)
-    → ((r : ℕ) → r < count → (secondIn rules r ≡ none → ⊥) → secondIn rules r < maxSymbols) → Shape table
-    → Ready rules count table s v to
+    → ((r : ℕ) → r < count → (secondIn rules r ≡ none → ⊥) → secondIn rules r < maxSymbols) → Shape rowWords table
+    → Advanceable rules count table s v to
 ready n rules count table s v to w fit held room origins c seconds shape = record {
   set-fits = w .set-fits;
   starts-fit = fit;
@@ -72,7 +74,7 @@ module _ (rules : List ℕ) (count : ℕ) (table : List (List ℕ)) (s : State) 
   abbrev part : Words
   part = lent (v .items) (v .starts) (v .rows)
 
-  pub ready-lent : Ready rules count table s v to → Ready rules count table s part to
+  pub ready-lent : Advanceable rules count table s v to → Advanceable rules count table s part to
   ready-lent h = record {
     set-fits = h .set-fits;
     starts-fit = h .starts-fit;
@@ -121,7 +123,7 @@ module _ (rules : List ℕ) (count : ℕ) (table : List (List ℕ)) (s : State) 
           )
 
 -- Where there is no room for the new set no set was to be dropped.
-pub full-keeps-all : (rules : List ℕ) (count : ℕ) (table : List (List ℕ)) (s : State) (v : Words) (to : ℕ) → Ready rules count table s v to
+pub full-keeps-all : (rules : List ℕ) (count : ℕ) (table : List (List ℕ)) (s : State) (v : Words) (to : ℕ) → Advanceable rules count table s v to
     → hasRoom (rulesIn rules count) s v to ≡ false → keptOf (rulesIn rules count) s v to ≡ s .set
 full-keeps-all rules count table s v to h e = elim (decLt 1 (s .set - m)) [
   | yes a ↦ absurd (omega (arith, kept-pruned (s .set) m a, ltb-false (keptOf (rulesIn rules count) s v to + 1) (length (v .rows) / rowWords) e, h .set-fits))
@@ -159,7 +161,7 @@ predictions-below n rs table h (All.also {i} {is} l ls) =
     union-below n (predictions rs table is) (getD table (secondOf rs i) []) (predictions-below n rs table h ls) (h (secondOf rs i) l)
 
 module _ (n : ℕ) (rules : List ℕ) (count : ℕ) (table : List (List ℕ)) (s : State) (v : Words) (to : ℕ)
-    (sets : WellFormed n (rulesIn rules count) s (withoutNew s v)) (h : Ready rules count table s v to)
+    (sets : WellFormed n (rulesIn rules count) s (withoutNew s v)) (h : Advanceable rules count table s v to)
     (few : length (v .rows) / rowWords ≤ maxSets) (distinct : Distinct (v .items) (s .items) to)
     (bits : (k : ℕ) → k < maxSymbols → Below n (getD table k [])) where
   abbrev rs : List Rule

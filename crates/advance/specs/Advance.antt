@@ -1,8 +1,7 @@
 -- Steps 5 and 6: sets that nothing can reach are dropped, and the new items become the latest set.
-use mathlib.Core.Path.{_≡_}
 use mathlib.Core.Bool.{Bool, true, false}
 use mathlib.Core.List.{List, [], _∷_, _++_}
-use Prim.Native.Nat.{ℕ, _+_, _-_, _*_, _/_, max}
+use Prim.Native.Nat.{ℕ, _+_, _-_, _*_, max}
 use lib.ListN.{length, getD, take, replicate}
 use lib.Dec.{ltb}
 use Rattle.laws.specs.Bits.{union}
@@ -10,9 +9,7 @@ use Rattle.bits.specs.Width.{rowWords}
 use Rattle.item.specs.Item.{Item, itemWords, flat}
 use Rattle.grammar.specs.Rules.{Rule}
 use Rattle.parse.specs.declared.State.{State}
-use Rattle.advance.specs.declared.Advanced.{Advanced}
-use Rattle.advance.specs.NewItems.{newItems}
-use Rattle.parse.specs.Words.{Words, startOf}
+use Rattle.parse.specs.Words.{Words, padded, startOf}
 use Rattle.parse.specs.WellFormed.{secondOf}
 
 -- m: the greatest origin of the new items, or `e` if there are none.
@@ -42,24 +39,9 @@ unfoldable pub predictions : List Rule → List (List ℕ) → List Item → Lis
 predictions rs table [] = replicate rowWords 0
 predictions rs table (i ∷ is) = union (predictions rs table is) (getD table (secondOf rs i) [])
 
--- Words, and 0 behind them up to `size` words.
-abbrev pub padded : ℕ → List ℕ → List ℕ
-padded size words = words ++ replicate (size - length words) 0
-
 -- The words before the place `from`, then items, then 0.
 abbrev pub ending : List ℕ → ℕ → List Item → List ℕ
 ending words from is = padded (length words) (take (itemWords * from) words ++ flat is)
-
--- The lent words that steps 4 to 6 touch. The queue is empty by then.
-abbrev pub lent : List ℕ → List ℕ → List ℕ → Words
-lent items starts rows = record { items = items; starts = starts; rows = rows; queue = [] }
-
--- Step 5, of sets 0..e: the new items `new` stand from `start` on, behind the sets that are kept, and every other word is 0.
-pub record Pruned (e m : ℕ) (items starts rows : List ℕ) (new : List Item) (start : ℕ) (items′ starts′ rows′ : List ℕ) : Type 0 where
-  pub start-is : start ≡ getD starts (lastKept e m + 1) 0
-  pub items-are : items′ ≡ ending items start new
-  pub starts-are : starts′ ≡ padded (length starts) (take (lastKept e m + 2) starts)
-  pub rows-are : rows′ ≡ padded (length rows) (keptRows e m rows)
 
 -- The state and the words when `new` is the latest set, behind the sets up to `kept`, with the row `row`.
 abbrev pub nextState : ℕ → Words → List Item → State
@@ -73,45 +55,3 @@ nextWords e m v new row =
       rows = padded (length (v .rows)) (keptRows e m (v .rows) ++ row);
       queue = replicate (length (v .queue)) 0;
     }
-
--- Steps 5 and 6 put the new items behind the sets that are kept.
-pub record Follows (e m : ℕ) (v : Words) (new : List Item) (row : List ℕ) (s : State) (v′ : Words) : Type 0 where
-  pub state-is : s ≡ nextState (lastKept e m) v new
-  pub items-are : v′ .items ≡ nextWords e m v new row .items
-  pub starts-are : v′ .starts ≡ nextWords e m v new row .starts
-  pub rows-are : v′ .rows ≡ nextWords e m v new row .rows
-
--- Steps 4 to 6, where step 3 has stored new items up to the place `to`: the new items, and m of step 5.
-abbrev pub newOf : List Rule → State → Words → ℕ → List Item
-newOf rs s v to = newItems rs (v .items) (s .items) to
-
-abbrev pub reachOf : List Rule → State → Words → ℕ → ℕ
-reachOf rs s v to = greatestOrigin (s .set) (newOf rs s v to)
-
-abbrev pub keptOf : List Rule → State → Words → ℕ → ℕ
-keptOf rs s v to = lastKept (s .set) (reachOf rs s v to)
-
--- The new set number is below E. Otherwise the answer is 9.
-abbrev pub hasRoom : List Rule → State → Words → ℕ → Bool
-hasRoom rs s v to = ltb (keptOf rs s v to + 1) (length (v .rows) / rowWords)
-
-unfoldable pub advanceAnswer : List Rule → State → Words → ℕ → Advanced
-advanceAnswer rs s v to =
-    elim (hasRoom rs s v to) [ true ↦ Advanced.Done (nextState (keptOf rs s v to) v (newOf rs s v to)) | false ↦ Advanced.Refused ]
-
--- The words of the sets 0..e alone.
-abbrev pub withoutNew : State → Words → Words
-withoutNew s v = record { items = ending (v .items) (s .items) []; starts = v .starts; rows = v .rows; queue = v .queue }
-
-unfoldable pub advanceWords : List Rule → List (List ℕ) → State → Words → ℕ → Words
-advanceWords rs table s v to =
-    elim (hasRoom rs s v to) [
-      | true ↦ nextWords (s .set) (reachOf rs s v to) v (newOf rs s v to) (predictions rs table (newOf rs s v to))
-      | false ↦ withoutNew s v
-    ]
-
-pub record Advances (rs : List Rule) (table : List (List ℕ)) (s : State) (v : Words) (to : ℕ) (r : Advanced) (v′ : Words) : Type 0 where
-  pub answer-is : r ≡ advanceAnswer rs s v to
-  pub items-are : v′ .items ≡ advanceWords rs table s v to .items
-  pub starts-are : v′ .starts ≡ advanceWords rs table s v to .starts
-  pub rows-are : v′ .rows ≡ advanceWords rs table s v to .rows

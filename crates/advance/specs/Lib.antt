@@ -1,5 +1,4 @@
 -- Steps 4 to 6: the new items become a set.
 pub mod NewItems
-pub mod Order
 pub mod Advance
-pub mod Ready
+pub mod inner

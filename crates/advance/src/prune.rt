@@ -3,15 +3,16 @@ ghost use mathlib.Core.Path.{_≡_};
 ghost use Prim.Native.Nat.{_+_, _-_, _*_, _≤_, max};
 ghost use lib.ListN.{length};
 ghost use Rattle.item.specs.Item.{itemWords, HasPlace, itemAt, stored};
-ghost use Rattle.parse.specs.Tells.{Clear};
+ghost use Rattle.parse.specs.inner.Parts.{Clear};
 ghost use Rattle.advance.specs.NewItems.{itemsFrom};
-ghost use Rattle.advance.specs.Advance.{greatestOrigin, lastKept, ending, Pruned};
-ghost use Rattle.advance.specs.Ready.{Prunable};
-use crate::words::clear_rows;
-use crate::words::clear_words;
+ghost use Rattle.advance.specs.inner.Advances.{Pruned};
+ghost use Rattle.advance.specs.Advance.{greatestOrigin, lastKept, ending};
+ghost use Rattle.advance.specs.inner.Ready.{Prunable};
 use bits::WIDTH;
 use item::ITEM_WORDS;
 use item::wide;
+use parse::words::clear;
+use parse::words::clear_rows;
 
 fn larger(a: usize, b: usize) -> usize
     ensures { λ r. ⌜ r ≡ max a b ⌝ }
@@ -62,14 +63,16 @@ fn copy(items: &mut [u32], p: usize, q: usize)
 
 // Moves the items at the places from `from` up to and without `to` down to the place `base`. The words behind them are 0 then.
 fn move_items(items: &mut [u32], from: usize, to: usize, base: usize)
-    requires { ⌜ (base ≤ from) × (from ≤ to) × (itemWords * to ≤ length (now items)) × Clear (now items) (itemWords * to) ⌝ }
-    ensures { λ _. ⌜ now (items .exit) ≡ ending (now (items .entry)) base (itemsFrom (now (items .entry)) from (to - from)) ⌝ }
+    requires { ⌜ (base ≤ from) × (from ≤ to) × (itemWords * to ≤ length (now items)) × Clear (now items)
+        (itemWords * to) ⌝ }
+    ensures { λ _. ⌜ now (items .exit) ≡ ending (now (items .entry)) base
+        (itemsFrom (now (items .entry)) from (to - from)) ⌝ }
 {
     let count = to - from;
     for q in 0..count {
         copy(items, from + q, base + q);
     }
-    clear_words(items, ITEM_WORDS * (base + count), ITEM_WORDS * to);
+    clear(items, ITEM_WORDS * (base + count), ITEM_WORDS * to);
 }
 
 // Keeps the sets 0..m+1, or all, with the new items, at the places from `from` up to and without `to`, behind them. Answers where those stand.
@@ -83,7 +86,9 @@ pub fn remove_unreachable_sets(
     m: usize,
 ) -> usize
     requires { ⌜ Prunable e (now items) (now starts) (now rows) from to m ⌝ }
-    ensures { λ r. ⌜ Pruned e m (now (items .entry)) (now (starts .entry)) (now (rows .entry)) (itemsFrom (now (items .entry)) from (to - from)) r (now (items .exit)) (now (starts .exit)) (now (rows .exit)) ⌝ }
+    ensures { λ r. ⌜ Pruned e m (now (items .entry)) (now (starts .entry)) (now (rows .entry))
+        (itemsFrom (now (items .entry)) from (to - from)) r (now (items .exit)) (now (starts .exit))
+        (now (rows .exit)) ⌝ }
 {
     if e - m <= 1 {
         return from;
@@ -91,7 +96,7 @@ pub fn remove_unreachable_sets(
     // The items of set m+1 end at start m+2. Its row is cleared with those behind it.
     let base = wide(starts[m + 2]);
     move_items(items, from, to, base);
-    clear_words(starts, m + 3, e + 2);
+    clear(starts, m + 3, e + 2);
     clear_rows(rows, WIDTH * (m + 1), WIDTH * (e + 1));
     base
 }

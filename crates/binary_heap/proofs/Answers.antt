@@ -1,4 +1,4 @@
--- What an answer of push, peek or pop tells.
+-- What an answer of push or pop tells.
 use mathlib.Core.Path.{_≡_}
 use mathlib.Core.List.{List}
 use Prim.Native.Nat.{ℕ, _+_, _-_, _≤_, _<_}
@@ -7,9 +7,8 @@ use lib.Dec.{ltb}
 use borrow.Author.Tests.{ltb-true, ltb-false}
 use Rattle.laws.proofs.Tests.{either-way}
 use Rattle.binary_heap.specs.Heap.{top}
-use Rattle.binary_heap.specs.Words.{pushAnswer, peekAnswer, popAnswer}
+use Rattle.binary_heap.specs.Words.{pushAnswer, popAnswer}
 use Rattle.binary_heap.specs.declared.Pushed.the-variants.{Full, Count}
-use Rattle.binary_heap.specs.declared.Peeked.the-variants as peeks
 use Rattle.binary_heap.specs.declared.Popped.the-variants as pops
 
 -- Full: the queue has its capacity.
@@ -37,16 +36,6 @@ count-tells capacity n m count =
     absurd (omega arith))
 
 -- Empty: there is no entry.
-pub peek-empty-tells : (q : List ℕ) (n : ℕ) → peekAnswer q n ≡ peeks.Empty → n ≡ 0
-unfolding peekAnswer
-peek-empty-tells q n empty =
-    either-way (ltb 0 n)
-    (λ e.
-    let answer : peeks.Entry (top q) ≡ peeks.Empty = rw (peekAnswer, e) at empty in
-    let never : _≡_ {A = ℕ} 0 1 = cc in
-    absurd (omega arith))
-    (λ e. omega (arith, ltb-false 0 n e))
-
 pub pop-empty-tells : (q : List ℕ) (n : ℕ) → popAnswer q n ≡ pops.Empty → n ≡ 0
 unfolding popAnswer
 pop-empty-tells q n empty =
@@ -58,18 +47,6 @@ pop-empty-tells q n empty =
     (λ e. omega (arith, ltb-false 0 n e))
 
 -- An entry: it is the one at the root.
-pub peek-entry-tells : (q : List ℕ) (n entry : ℕ) → peekAnswer q n ≡ peeks.Entry entry → (0 < n) × (entry ≡ top q)
-unfolding peekAnswer
-peek-entry-tells q n entry there =
-    either-way (ltb 0 n)
-    (λ e.
-    let answer : peeks.Entry (top q) ≡ peeks.Entry entry = rw (peekAnswer, e) at there in
-    (ltb-true 0 n e, cc))
-    (λ e.
-    let answer : peeks.Empty ≡ peeks.Entry entry = rw (peekAnswer, e) at there in
-    let never : _≡_ {A = ℕ} 0 1 = cc in
-    absurd (omega arith))
-
 pub pop-entry-tells : (q : List ℕ) (n entry left : ℕ) → popAnswer q n ≡ pops.Entry entry left
     → (0 < n) × (entry ≡ top q) × (left ≡ n - 1)
 unfolding popAnswer

@@ -55,7 +55,8 @@ pub fn join(a: &Row, b: &Row) -> Row
 // Row `k` of words that hold rows one behind the other becomes its union with `row`.
 pub fn join_at(rows: &mut [u64], k: usize, row: &Row)
     requires { ⌜ (rowWords * k + rowWords ≤ length (now rows)) × (length (now row) ≡ rowWords) ⌝ }
-    ensures { λ r. ⌜ now (rows .exit) ≡ withRow rowWords (now (rows .entry)) k (union (rowOf rowWords (now (rows .entry)) k) (now (row .entry))) ⌝ }
+    ensures { λ r. ⌜ now (rows .exit) ≡ withRow rowWords (now (rows .entry)) k
+        (union (rowOf rowWords (now (rows .entry)) k) (now (row .entry))) ⌝ }
 {
     for i in 0..WIDTH {
         rows[WIDTH * k + i] = rows[WIDTH * k + i] | row[i];

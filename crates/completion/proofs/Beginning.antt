@@ -16,10 +16,10 @@ use Rattle.parse.specs.declared.State.{State}
 use Rattle.parse.specs.Words.{Words, startOf, maxItems, maxSets, within, itemRoom, setRoom}
 use Rattle.parse.specs.WellFormed.{WellFormed, InSet, Fits, secondOf}
 use Rattle.completion.specs.Pass.{Pass, passOf}
-use Rattle.completion.specs.Ready.{RulesFit, IsSet, Rowed}
+use Rattle.completion.specs.inner.Ready.{RulesFit, IsSet, Rowed}
 use Rattle.completion.proofs.Onward.{SpareQueue}
 use Rattle.completion.proofs.Through.{Inside}
-use Rattle.completion.specs.Pending.{Grounds, Pending}
+use Rattle.completion.specs.inner.Pending.{Grounds, Pending}
 
 -- The rules of an accepted grammar fit.
 pub accepted-rules-fit : (g : Grammar) → Accepted g → RulesFit (g .rules)

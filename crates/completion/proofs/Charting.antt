@@ -16,7 +16,7 @@ use Rattle.parse.specs.WellFormed.{leftOf, secondOf}
 use Rattle.completion.specs.Pass.{Pass, andThen, store, enqueue}
 use Rattle.completion.specs.Complete.{completeMedial, completeMedialItems, completeUnary, completeUnaryPredictions, completeBinary, completeBinaryPredictions, complete}
 use Rattle.completion.specs.Sums.{greatest, sumEnds, nextSummand, popSum, completeSum, rests, completeAllSums}
-use Rattle.completion.specs.Ready.{IsSet, Sound, Charted}
+use Rattle.completion.specs.inner.Ready.{IsSet, PassFits, Charted}
 use Rattle.completion.proofs.Soundness.{store-sound, enqueue-sound}
 use Rattle.completion.proofs.Waiting.{store-place}
 use Rattle.completion.proofs.Searching.{enqueue-count}
@@ -26,8 +26,8 @@ use Rattle.completion.proofs.Onward.{Onward, onward-refl, onward-trans,
 use Rattle.completion.proofs.Through.{Inside, medial-keeps, medial-items-keep, unary-goes, unary-predictions-go, binary-goes, binary-predictions-go, complete-cases}
 
 -- Popping the greatest entry keeps a pass sound.
-pub next-sound : (s : Pass) → Sound s → 0 < s .at .queued → Sound (nextSummand s)
-next-sound s sound some = next-is Sound s some done
+pub next-sound : (s : Pass) → PassFits s → 0 < s .at .queued → PassFits (nextSummand s)
+next-sound s sound some = next-is PassFits s some done
   where
     places : Every (λ v. v < s .at .items) (entriesOf (poppedPass s))
     places =
@@ -38,7 +38,7 @@ next-sound s sound some = next-is Sound s some done
     fits : poppedPass s .at .queued ≤ length (poppedPass s .queue)
     fits = omega (arith, popped-words s (sound .queued-fit) some, sound .queued-fit)
 
-    done : Sound (poppedPass s)
+    done : PassFits (poppedPass s)
     done =
         record {
           few-items = sound .few-items;
@@ -78,7 +78,7 @@ onward-charted {rs} {starts} {s} {t} charted onward new =
         ]
 
 -- The items behind those of `s` after `origin` and `rule` were stored: that one, or none.
-pub stored-new : (origin rule : ℕ) (s : Pass) → Sound s → (p : ℕ) → s .at .items ≤ p → p < store origin rule s .at .items
+pub stored-new : (origin rule : ℕ) (s : Pass) → PassFits s → (p : ℕ) → s .at .items ≤ p → p < store origin rule s .at .items
     → itemAt (store origin rule s .items) p ≡ record { origin = origin; rule = rule }
 stored-new origin rule s sound p from =
     store-cases (λ (t : Pass). p < t .at .items → itemAt (t .items) p ≡ record { origin = origin; rule = rule }) s origin rule
@@ -91,10 +91,10 @@ stored-new origin rule s sound p from =
 -- A pass behind `s` that is sound and charted.
 pub record Steady (rs : List Rule) (starts : List ℕ) (s t : Pass) : Type 0 where
   pub onward : Onward s t
-  pub sound : Sound t
+  pub sound : PassFits t
   pub charted : Charted rs starts t
 
-pub steady-refl : (rs : List Rule) (starts : List ℕ) (s : Pass) → Sound s → Charted rs starts s → Steady rs starts s s
+pub steady-refl : (rs : List Rule) (starts : List ℕ) (s : Pass) → PassFits s → Charted rs starts s → Steady rs starts s s
 steady-refl rs starts s sound charted = record { onward = onward-refl s; sound = sound; charted = charted }
 
 module _ (rs : List Rule) (starts : List ℕ) (s : Pass) where

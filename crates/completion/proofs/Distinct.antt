@@ -14,7 +14,7 @@ use Rattle.parse.specs.WellFormed.{leftOf, ruleOf}
 use Rattle.completion.specs.Pass.{Pass, store, enqueue}
 use Rattle.completion.specs.Complete.{completeMedialItems, completeUnaryPredictions, completeBinaryPredictions, complete}
 use Rattle.completion.specs.Sums.{greatest, popSum, completeSum, rests, completeAllSums}
-use Rattle.completion.specs.Ready.{IsSet, Sound}
+use Rattle.completion.specs.inner.Ready.{IsSet, PassFits}
 use Rattle.completion.proofs.Waiting.{store-place}
 use Rattle.completion.proofs.Searching.{enqueue-count}
 use Rattle.completion.proofs.Turning.{pop-items, not-resting}
@@ -23,7 +23,7 @@ use Rattle.completion.proofs.Onward.{Onward, onward-store, onward-enque
 use Rattle.completion.proofs.Through.{Begins, medial-items-keep, unary-predictions-go, binary-predictions-go, complete-cases}
 use Rattle.completion.proofs.Charting.{Charts, Steady, stored-new, steady-store, steady-enqueue, steady-medial-items, greatest-charts}
 use Rattle.completion.proofs.Heaped.{Heaped}
-use Rattle.completion.specs.Pending.{Grounds, Pending}
+use Rattle.completion.specs.inner.Pending.{Grounds, Pending}
 use Rattle.completion.proofs.Pending.{Lower, lower-down, lower-other, pending-steady, pending-sum, pop-lower, complete-lower, first-pending}
 use Rattle.completion.proofs.Once.{AllLower, heaped-all, greatest-lower}
 
@@ -65,7 +65,7 @@ module _ (rs : List Rule) (k x from : ℕ) where
       item p there = onward .same-items p (omega arith)
 
   -- A rule that begins with the symbol and was not used is stored.
-  of-pair-store : (Used Used′ : ℕ → Type 0) (r : ℕ) (t : Pass) → Sound t → from ≤ t .at .items → getD rs r noRule .first ≡ x
+  of-pair-store : (Used Used′ : ℕ → Type 0) (r : ℕ) (t : Pass) → PassFits t → from ≤ t .at .items → getD rs r noRule .first ≡ x
       → ((q : ℕ) → Used q → Used′ q) → Used′ r → (Used r → ⊥) → OfPair rs k x Used from t → OfPair rs k x Used′ from (store k r t)
   of-pair-store Used Used′ r t sound has first more now before of =
       record {

@@ -16,7 +16,7 @@ use Rattle.parse.specs.WellFormed.{secondOf}
 use Rattle.completion.specs.Pass.{Pass, andThen, store, enqueue}
 use Rattle.completion.specs.Complete.{completeMedialItems, completeUnaryPredictions, completeBinaryPredictions, complete}
 use Rattle.completion.specs.Sums.{sumEnds, nextSummand, popSum}
-use Rattle.completion.specs.Ready.{IsSet, Sound, Charted}
+use Rattle.completion.specs.inner.Ready.{IsSet, PassFits, Charted}
 use Rattle.completion.proofs.Waiting.{store-place}
 use Rattle.completion.proofs.Turning.{sum-goes}
 use Rattle.completion.proofs.Entries.{entriesOf, queuedPass, poppedPass, store-cases, enqueue-cases, then-cases, next-is, every-entry, some-entries, queued-entries, popped-entries}
@@ -31,7 +31,7 @@ heap-same-keys key key′ h same heap = record {
 }
 
 -- The entries of a sound pass are places of its items.
-pub sound-entries : (s : Pass) → Sound s → Every (λ v. v < s .at .items) (entriesOf s)
+pub sound-entries : (s : Pass) → PassFits s → Every (λ v. v < s .at .items) (entriesOf s)
 sound-entries s sound = every-entry s (sound .queued-fit) (λ v. v < s .at .items) (sound .entries)
 
 -- The entries are a heap by the items' keys, and the item of each has `Q`.
@@ -39,7 +39,7 @@ pub record Ordered (Q : Item → Type 0) (s : Pass) : Type 0 where
   pub heap : Heap (keyAt (s .items)) (entriesOf s)
   pub each : Every (λ v. Q (itemAt (s .items) v)) (entriesOf s)
 
-module _ (Q : Item → Type 0) (s : Pass) (sound : Sound s) (ordered : Ordered Q s) where
+module _ (Q : Item → Type 0) (s : Pass) (sound : PassFits s) (ordered : Ordered Q s) where
   -- Items stored behind change no entry's key.
   pub ordered-store : (origin rule : ℕ) → Ordered Q (store origin rule s)
   ordered-store origin rule = record { heap = heap; each = each }

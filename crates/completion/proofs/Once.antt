@@ -16,12 +16,12 @@ use Rattle.parse.specs.WellFormed.{leftOf}
 use Rattle.completion.specs.Pass.{Pass}
 use Rattle.completion.specs.Complete.{complete}
 use Rattle.completion.specs.Sums.{greatest, completeSum, rests}
-use Rattle.completion.specs.Ready.{IsSet}
+use Rattle.completion.specs.inner.Ready.{IsSet}
 use Rattle.completion.proofs.Turning.{not-resting}
 use Rattle.completion.proofs.Entries.{entriesOf, each-entry}
 use Rattle.completion.proofs.Charting.{Charts, greatest-charts}
 use Rattle.completion.proofs.Heaped.{Heaped}
-use Rattle.completion.specs.Pending.{Grounds, Pending}
+use Rattle.completion.specs.inner.Pending.{Grounds, Pending}
 use Rattle.completion.proofs.Pending.{Lower, lower-down, lower-other, pending-steady, pending-sum, sum-lower, first-lower, first-pending}
 
 -- A set and a symbol.

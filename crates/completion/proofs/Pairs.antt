@@ -12,7 +12,7 @@ use Rattle.grammar.specs.Rules.{Rule}
 use Rattle.parse.specs.WellFormed.{secondOf}
 use Rattle.completion.specs.Pass.{Pass, enqueue}
 use Rattle.completion.specs.Complete.{predicted, completeMedial, completeMedialItems, completeUnaryPredictions, completeBinaryPredictions, complete}
-use Rattle.completion.specs.Ready.{IsSet, HasRow, Rowed, Sound, Charted}
+use Rattle.completion.specs.inner.Ready.{IsSet, HasRow, Rowed, PassFits, Charted}
 use Rattle.completion.proofs.Soundness.{then-sound, enqueue-sound}
 use Rattle.completion.proofs.Searching.{then-next-count, enqueue-count}
 
@@ -32,15 +32,15 @@ pub has-row : (starts rows : List ℕ) (k : ℕ) → Rowed starts rows → IsSet
 has-row starts rows k rowed is = record { few-sets = rowed .few-sets; row = omega (arith, rowed .sets, is .there) }
 
 -- A place is queued, or not: the pass stays sound, and so does the number of its items.
-medial-keeps : (rs : List Rule) (x p n : ℕ) (s : Pass) → p < n → Sound s × (s .at .items ≡ n)
-    → Sound (completeMedial rs x p s) × (completeMedial rs x p s .at .items ≡ n)
+medial-keeps : (rs : List Rule) (x p n : ℕ) (s : Pass) → p < n → PassFits s × (s .at .items ≡ n)
+    → PassFits (completeMedial rs x p s) × (completeMedial rs x p s .at .items ≡ n)
 unfolding completeMedial
 medial-keeps rs x p n s there known = (
   then-sound s _ (known .0) (λ on. by-second-sound (eqb (secondOf rs (itemAt (s .items) p)) x)),
   then-next-count s _ (by-second-count (eqb (secondOf rs (itemAt (s .items) p)) x)) ∙ known .1,
 )
   where
-    by-second-sound : (b : Bool) → Sound (elim b [ true ↦ enqueue p s | false ↦ s ])
+    by-second-sound : (b : Bool) → PassFits (elim b [ true ↦ enqueue p s | false ↦ s ])
     by-second-sound true = enqueue-sound p s (known .0) (omega (arith, known .1))
     by-second-sound false = known .0
 
@@ -49,8 +49,8 @@ medial-keeps rs x p n s there known = (
     by-second-count false = refl
 
 -- Completing the items of a set keeps a pass sound.
-pub medials-sound : (rs : List Rule) (starts : List ℕ) (k x : ℕ) (s : Pass) → Sound s → Charted rs starts s → Sound (completeMedialItems rs starts k x s)
+pub medials-sound : (rs : List Rule) (starts : List ℕ) (k x : ℕ) (s : Pass) → PassFits s → Charted rs starts s → PassFits (completeMedialItems rs starts k x s)
 unfolding completeMedialItems
 medials-sound rs starts k x s sound chart =
-    over-keeps (λ (u : Pass). Sound u × (u .at .items ≡ s .at .items)) (getD starts (k + 1) 0 - getD starts k 0) (λ i. completeMedial rs x (getD starts k 0 + i))
+    over-keeps (λ (u : Pass). PassFits u × (u .at .items ≡ s .at .items)) (getD starts (k + 1) 0 - getD starts k 0) (λ i. completeMedial rs x (getD starts k 0 + i))
     (λ i u h known. medial-keeps rs x (getD starts k 0 + i) (s .at .items) u (omega (arith, chart .starts-fit (k + 1))) known) s (sound, refl) .0

@@ -13,10 +13,10 @@ use Rattle.parse.specs.WellFormed.{WellFormed, placing}
 use Rattle.completion.specs.Pass.{Pass}
 use Rattle.completion.specs.Complete.{complete}
 use Rattle.completion.specs.Sums.{completeAllSums}
-use Rattle.completion.specs.Ready.{IsSet, Rowed, Sound, Charted}
+use Rattle.completion.specs.inner.Ready.{IsSet, Rowed, PassFits, Charted}
 use Rattle.completion.proofs.Onward.{Onward, SpareQueue}
 use Rattle.completion.proofs.Charting.{Steady, steady-all-sums}
-use Rattle.completion.specs.Pending.{Grounds, Pending}
+use Rattle.completion.specs.inner.Pending.{Grounds, Pending}
 use Rattle.completion.proofs.Pending.{first-lower, first-pending}
 use Rattle.completion.proofs.Distinct.{Fresh, pass-fresh}
 use Rattle.completion.proofs.Refusals.{Ends, on, stops-complete, all-sums-end}
@@ -26,7 +26,7 @@ use Rattle.completion.proofs.Beginning.{beginning, accepted-grounds, be
 pub record Passed (rs : List Rule) (starts : List ℕ) (e : ℕ) (s t : Pass) : Type 0 where
   -- nothing that was there is touched; counts and entries are in bounds; items are of rules and sets
   pub onward : Onward s t
-  pub sound : Sound t
+  pub sound : PassFits t
   pub charted : Charted rs starts t
   -- the new items are distinct, and of sets up to the latest
   pub origins : (p : ℕ) → s .at .items ≤ p → p < t .at .items → originAt (t .items) p ≤ e

@@ -20,8 +20,8 @@ use Rattle.parse.specs.WellFormed.{leftOf}
 use Rattle.completion.specs.Pass.{Pass}
 use Rattle.completion.specs.Complete.{complete}
 use Rattle.completion.specs.Sums.{greatest, sumEnds, nextSummand, popSum, completeSum, rests, completeAllSums}
-use Rattle.completion.specs.Ready.{IsSet}
-use Rattle.completion.specs.Pending.{Grounds, Pending}
+use Rattle.completion.specs.inner.Ready.{IsSet}
+use Rattle.completion.specs.inner.Pending.{Grounds, Pending}
 use Rattle.completion.proofs.Turning.{sum-goes, sum-ended, not-resting, goes}
 use Rattle.completion.proofs.Entries.{entriesOf, entries-length, entry-at, each-entry}
 use Rattle.completion.proofs.Through.{Begins}

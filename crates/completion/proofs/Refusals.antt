@@ -19,7 +19,7 @@ use Rattle.completion.proofs.Waiting.{unary-stopped, binary-stopped}
 use Rattle.completion.proofs.Entries.{then-cases}
 use Rattle.completion.proofs.Through.{medial-items-keep, unary-predictions-go, binary-predictions-go, complete-cases}
 use Rattle.completion.proofs.Turning.{pop-stopped, not-resting, rests-stopped, rest-empty}
-use Rattle.completion.specs.Pending.{Grounds, Pending}
+use Rattle.completion.specs.inner.Pending.{Grounds, Pending}
 use Rattle.completion.proofs.Pending.{all-sums-rest}
 
 -- How a step left a pass: going on, or refused by full items, or by a full queue.

@@ -6,7 +6,7 @@ use Prim.Native.Nat.{ℕ, _<_}
 use Rattle.grammar.specs.Rules.{Rule}
 use Rattle.completion.specs.Pass.{Pass}
 use Rattle.completion.specs.Sums.{completeSum, rests, completeAllSums}
-use Rattle.completion.specs.Pending.{Grounds, Pending}
+use Rattle.completion.specs.inner.Pending.{Grounds, Pending}
 use Rattle.completion.proofs.Turning.{rests-stopped, rests-empty}
 use Rattle.completion.proofs.Pending.{left, left-falls, pending-sum, all-sums-turn, all-sums-done}
 

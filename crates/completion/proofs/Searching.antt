@@ -11,12 +11,12 @@ use Rattle.laws.specs.Turns.{over}
 use Rattle.laws.proofs.Turns.{over-same, over-still, over-keeps, over-split}
 use Rattle.item.specs.Item.{itemAt, ruleAt}
 use Rattle.grammar.specs.Rules.{Rule}
-use Rattle.grammar.specs.Decoded.{secondIn, rulesIn}
+use Rattle.grammar.specs.inner.Decoded.{secondIn, rulesIn}
 use Rattle.parse.specs.WellFormed.{secondOf}
 use Rattle.completion.specs.Pass.{Pass, andThen, enqueue}
 use Rattle.completion.specs.Complete.{completeMedial, completeMedialItems}
-use Rattle.completion.specs.Search.{secondAt, Searchable, Below, Found}
-use Rattle.completion.specs.Ready.{IsSet, Sound, Charted}
+use Rattle.completion.specs.inner.Search.{secondAt, Searchable, FirstNotBelow, Found}
+use Rattle.completion.specs.inner.Ready.{IsSet, PassFits, Charted}
 use Rattle.completion.proofs.Soundness.{has-place, then-sound, enqueue-sound}
 use Rattle.completion.proofs.Waiting.{rule-second}
 use Rattle.completion.proofs.Pushes.{enqueue-done, enqueue-refused, goes-on, stays}
@@ -34,7 +34,7 @@ module _ (rs : List Rule) (items : List ℕ) (from to : ℕ) (search : Searchabl
       subst (λ (m : ℕ). secondAt rs items p ≤ secondAt rs items m) (omega arith) (later p (q - p) low (omega arith))
 
   -- The first place not below a symbol, and the first behind it not below the next symbol, bound the items of the symbol.
-  pub found : (x first end : ℕ) → Below rs items from to x first → Below rs items first to (x + 1) end → Found rs items from to x first (end - first)
+  pub found : (x first end : ℕ) → FirstNotBelow rs items from to x first → FirstNotBelow rs items first to (x + 1) end → Found rs items from to x first (end - first)
   found x first end one two =
       record {
         from-on = one .from-on;
@@ -169,7 +169,7 @@ searchable-from rs items from to f search low high =
     }
 
 -- The items of a set can be searched.
-pub set-searchable : (rs : List Rule) (starts : List ℕ) (k : ℕ) (s : Pass) → IsSet starts k → Sound s → Charted rs starts s
+pub set-searchable : (rs : List Rule) (starts : List ℕ) (k : ℕ) (s : Pass) → IsSet starts k → PassFits s → Charted rs starts s
     → Searchable rs (s .items) (getD starts k 0) (getD starts (k + 1) 0)
 set-searchable rs starts k s is sound chart =
     let end : getD starts (k + 1) 0 ≤ s .at .items = chart .starts-fit (k + 1) in
@@ -187,7 +187,38 @@ second-read words count items p r second rule there read =
     read ∙ ap (λ (q : ℕ). secondIn words q) rule ∙ rule-second words count (ruleAt items p) there
 
 -- Queueing places of items keeps a pass sound, and its items.
-pub queueing-sound : (first number n : ℕ) (s : Pass) → Sound s → first + number ≤ s .at .items → n ≤ number → Sound (over n (queueing first) s) × (over n (queueing first) s .at .items ≡ s .at .items)
+pub queueing-sound : (first number n : ℕ) (s : Pass) → PassFits s → first + number ≤ s .at .items → n ≤ number → PassFits (over n (queueing first) s) × (over n (queueing first) s .at .items ≡ s .at .items)
 queueing-sound first number n s sound there few =
-    over-keeps (λ (u : Pass). Sound u × (u .at .items ≡ s .at .items)) n (queueing first)
+    over-keeps (λ (u : Pass). PassFits u × (u .at .items ≡ s .at .items)) n (queueing first)
     (λ i u h known. (then-sound u (enqueue (first + i)) (known .0) (λ on. enqueue-sound (first + i) u (known .0) (omega (arith, known .1))), then-next-count u (enqueue (first + i)) (enqueue-count (first + i) u) ∙ known .1)) s (sound, refl)
+
+-- One stretch of places is found and no other, also where no item has the symbol behind its dot.
+module _ {rs : List Rule} {items : List ℕ} {from to x first number first′ number′ : ℕ} (a : Found rs items from to x first number) (b : Found rs items from to x first′ number′) where
+  not-later : first < first′ → ⊥
+  not-later l =
+      let lower : secondAt rs items first < x = b .before first (a .from-on) l in
+      elim (decLt 0 number) [
+        | yes some ↦ omega (arith, lower, a .there first (omega arith) (omega arith))
+        | no none ↦ omega (arith, lower, a .behind first (omega arith) (omega (arith, b .up-to)))
+      ]
+
+  not-more : first ≡ first′ → number < number′ → ⊥
+  not-more same l =
+      let here : secondAt rs items (first + number) ≡ x = b .there (first + number) (omega arith) (omega arith) in
+      omega (arith, here, a .behind (first + number) (omega arith) (omega (arith, b .up-to)))
+
+pub found-unique : {rs : List Rule} {items : List ℕ} {from to x first number first′ number′ : ℕ}
+    → Found rs items from to x first number → Found rs items from to x first′ number′ → (first ≡ first′) × (number ≡ number′)
+found-unique {first = first} {number} {first′} {number′} a b = (places, counts)
+  where
+    places : first ≡ first′
+    places = elim (decLt first first′) [
+      | yes l ↦ absurd (not-later a b l)
+      | no m ↦ elim (decLt first′ first) [ yes l ↦ absurd (not-later b a l) | no n ↦ omega arith ]
+    ]
+
+    counts : number ≡ number′
+    counts = elim (decLt number number′) [
+      | yes l ↦ absurd (not-more a b places l)
+      | no m ↦ elim (decLt number′ number) [ yes l ↦ absurd (not-more b a (sym places) l) | no n ↦ omega arith ]
+    ]

@@ -15,43 +15,43 @@ use Rattle.binary_heap.specs.Words.{Places, pushWords}
 use Rattle.binary_heap.proofs.PushLaws.{pushed-length, pushed-every}
 use Rattle.completion.specs.declared.Progress.{Progress}
 use Rattle.completion.specs.Pass.{Pass, passOf, refused, andThen, store, enqueue}
-use Rattle.completion.specs.Ready.{Sound}
+use Rattle.completion.specs.inner.Ready.{PassFits}
 use Rattle.completion.proofs.Pushes.{store-done, store-refused, enqueue-done, enqueue-refused, goes-on, stays}
 
 -- The words have every place below the number of items.
-pub has-place : (s : Pass) → Sound s → (p : ℕ) → p < s .at .items → HasPlace (s .items) p
+pub has-place : (s : Pass) → PassFits s → (p : ℕ) → p < s .at .items → HasPlace (s .items) p
 has-place s sound p there = omega (arith, sound .items-fit)
 
 -- The entries of a sound pass are places of items.
-pub sound-places : (s : Pass) → Sound s → Places (s .items) (s .queue) (s .at .queued)
+pub sound-places : (s : Pass) → PassFits s → Places (s .items) (s .queue) (s .at .queued)
 sound-places s sound =
     record { within = sound .queued-fit; places = λ i there. has-place s sound (getD (s .queue) i 0) (sound .entries i there) }
 
 -- A refusal keeps a pass sound.
-pub refused-sound : (n : ℕ) (s : Pass) → Sound s → Sound (refused n s)
+pub refused-sound : (n : ℕ) (s : Pass) → PassFits s → PassFits (refused n s)
 refused-sound n s sound =
     record { few-items = sound .few-items; items-fit = sound .items-fit; queued-fit = sound .queued-fit; entries = sound .entries }
 
 -- What goes on from a sound pass that was not refused, if it stays sound.
-pub then-sound : (s : Pass) (next : Pass → Pass) → Sound s → (s .at .stopped ≡ 0 → Sound (next s)) → Sound (andThen s next)
+pub then-sound : (s : Pass) (next : Pass → Pass) → PassFits s → (s .at .stopped ≡ 0 → PassFits (next s)) → PassFits (andThen s next)
 then-sound s next sound on =
     elim (ℕ-discrete (s .at .stopped) 0) [
-      | yes e ↦ subst Sound (sym (goes-on s next e)) (on e)
-      | no ne ↦ subst Sound (sym (stays s next ne)) sound
+      | yes e ↦ subst PassFits (sym (goes-on s next e)) (on e)
+      | no ne ↦ subst PassFits (sym (stays s next ne)) sound
     ]
 
 -- Storing an item keeps a pass sound.
-pub store-sound : (origin rule : ℕ) (s : Pass) → Sound s → Sound (store origin rule s)
+pub store-sound : (origin rule : ℕ) (s : Pass) → PassFits s → PassFits (store origin rule s)
 store-sound origin rule s sound =
     elim (decLt (s .at .items) (length (s .items) / itemWords)) [
-      | yes place ↦ subst Sound (sym (store-done s origin rule place)) (done place)
-      | no full ↦ subst Sound (sym (store-refused s origin rule (omega arith))) (refused-sound 7 s sound)
+      | yes place ↦ subst PassFits (sym (store-done s origin rule place)) (done place)
+      | no full ↦ subst PassFits (sym (store-refused s origin rule (omega arith))) (refused-sound 7 s sound)
     ]
   where
     long : length (stored (s .items) (s .at .items) (record { origin = origin; rule = rule })) ≡ length (s .items)
     long = stored-length (s .items) (s .at .items) (record { origin = origin; rule = rule })
 
-    done : s .at .items < length (s .items) / itemWords → Sound (passOf (record { stopped = 0; items = s .at .items + 1; queued = s .at .queued }) (stored (s .items) (s .at .items) (record { origin = origin; rule = rule })) (s .queue))
+    done : s .at .items < length (s .items) / itemWords → PassFits (passOf (record { stopped = 0; items = s .at .items + 1; queued = s .at .queued }) (stored (s .items) (s .at .items) (record { origin = origin; rule = rule })) (s .queue))
     done place =
         record {
           few-items = omega (arith, long, sound .few-items);
@@ -66,11 +66,11 @@ unfolding pushWords
 push-into key q n entry free = rw (pushWords, lt-ltb n (length q) free) refl
 
 -- Queueing a place of an item keeps a pass sound.
-pub enqueue-sound : (place : ℕ) (s : Pass) → Sound s → place < s .at .items → Sound (enqueue place s)
+pub enqueue-sound : (place : ℕ) (s : Pass) → PassFits s → place < s .at .items → PassFits (enqueue place s)
 enqueue-sound place s sound there =
     elim (decLt (s .at .queued) (length (s .queue))) [
-      | yes free ↦ subst Sound (sym (enqueue-done s place free)) (subst (λ (w : List ℕ). Sound (passOf at′ (s .items) w)) (sym (push-into key q n place free)) (done free))
-      | no full ↦ subst Sound (sym (enqueue-refused s place (omega arith))) (refused-sound 8 s sound)
+      | yes free ↦ subst PassFits (sym (enqueue-done s place free)) (subst (λ (w : List ℕ). PassFits (passOf at′ (s .items) w)) (sym (push-into key q n place free)) (done free))
+      | no full ↦ subst PassFits (sym (enqueue-refused s place (omega arith))) (refused-sound 8 s sound)
     ]
   where
     key : ℕ → ℕ
@@ -85,7 +85,7 @@ enqueue-sound place s sound there =
     at′ : Progress
     at′ = record { stopped = 0; items = s .at .items; queued = s .at .queued + 1 }
 
-    done : n < length q → Sound (passOf at′ (s .items) (pushed key (take n q) place ++ drop (n + 1) q))
+    done : n < length q → PassFits (passOf at′ (s .items) (pushed key (take n q) place ++ drop (n + 1) q))
     done free =
         let first-n : length (take n q) ≡ n = length-take-le n q (omega arith) in
         let long : length (pushed key (take n q) place) ≡ n + 1 = pushed-length key (take n q) place ∙ ap (λ (m : ℕ). m + 1) first-n in

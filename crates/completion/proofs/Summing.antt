@@ -15,7 +15,7 @@ use Rattle.binary_heap.proofs.Answers.{pop-entry-tells}
 use Rattle.grammar.specs.Rules.{Rule}
 use Rattle.parse.specs.WellFormed.{leftOf}
 use Rattle.completion.specs.Pass.{Pass, passOf}
-use Rattle.completion.specs.Ready.{Sound, RulesRead}
+use Rattle.completion.specs.inner.Ready.{PassFits, RulesRead}
 use Rattle.completion.specs.Complete.{complete}
 use Rattle.completion.specs.Sums.{greatest, sumEnds, nextSummand, popSum, completeSum}
 
@@ -73,7 +73,7 @@ sum-turn rs k x s next on some step =
     ∙ ap (λ (n : ℕ). until n (sumEnds rs k x) nextSummand s) fewer
 
 -- Rules are read as before: the items stay.
-pub read-next : (rs : List Rule) (s : Pass) → RulesRead rs s → 0 < s .at .queued → Sound (nextSummand s) → RulesRead rs (nextSummand s)
+pub read-next : (rs : List Rule) (s : Pass) → RulesRead rs s → 0 < s .at .queued → PassFits (nextSummand s) → RulesRead rs (nextSummand s)
 unfolding nextSummand
 read-next rs s read some sound = record { sound = sound; few-rules = read .few-rules; rules = read .rules }
 

@@ -12,11 +12,11 @@ use Rattle.laws.specs.Turns.{over}
 use Rattle.laws.proofs.Turns.{over-keeps}
 use Rattle.item.specs.Item.{itemWords}
 use Rattle.grammar.specs.Rules.{Rule, none, noRule}
-use Rattle.grammar.specs.Decoded.{leftIn, firstIn, secondIn, rulesIn}
+use Rattle.grammar.specs.inner.Decoded.{leftIn, firstIn, secondIn, rulesIn}
 use Rattle.grammar.proofs.Decoding.{in-count, in-rule}
 use Rattle.completion.specs.Pass.{Pass, andThen, store, enqueue}
 use Rattle.completion.specs.Complete.{waits, predicted, completeUnary, completeBinary}
-use Rattle.completion.specs.Ready.{Sound}
+use Rattle.completion.specs.inner.Ready.{PassFits}
 use Rattle.completion.proofs.Pushes.{store-done, store-refused, goes-on, stays}
 use Rattle.completion.proofs.Soundness.{then-sound, store-sound, enqueue-sound}
 
@@ -109,28 +109,28 @@ store-place origin rule s on =
           absurd (omega arith)
     ]
 
-module _ (rs : List Rule) (rows : List ℕ) (k x r : ℕ) (s : Pass) (sound : Sound s) where
+module _ (rs : List Rule) (rows : List ℕ) (k x r : ℕ) (s : Pass) (sound : PassFits s) where
   -- Completing a rule keeps a pass sound.
-  pub unary-sound : Sound (completeUnary rs rows k x r s)
+  pub unary-sound : PassFits (completeUnary rs rows k x r s)
   unfolding completeUnary
   unary-sound =
       then-sound s _ sound (λ on. by-fit (eqb (getD rs r noRule .second) none && waits rs rows k x r))
     where
-      stored-sound : Sound (store k r s)
+      stored-sound : PassFits (store k r s)
       stored-sound = store-sound k r s sound
 
-      by-fit : (b : Bool) → Sound (elim b [ true ↦ andThen (store k r s) (enqueue (s .at .items)) | false ↦ s ])
+      by-fit : (b : Bool) → PassFits (elim b [ true ↦ andThen (store k r s) (enqueue (s .at .items)) | false ↦ s ])
       by-fit true = then-sound (store k r s) _ stored-sound (λ on. enqueue-sound (s .at .items) (store k r s) stored-sound (store-place k r s on))
       by-fit false = sound
 
-  pub binary-sound : Sound (completeBinary rs rows k x r s)
+  pub binary-sound : PassFits (completeBinary rs rows k x r s)
   unfolding completeBinary
   binary-sound = then-sound s _ sound (λ on. by-fit (not (eqb (getD rs r noRule .second) none) && waits rs rows k x r))
     where
-      by-fit : (b : Bool) → Sound (elim b [ true ↦ store k r s | false ↦ s ])
+      by-fit : (b : Bool) → PassFits (elim b [ true ↦ store k r s | false ↦ s ])
       by-fit true = store-sound k r s sound
       by-fit false = sound
 
 -- Completing rule after rule keeps a pass sound.
-pub unaries-sound : (rs : List Rule) (rows : List ℕ) (k x n : ℕ) (s : Pass) → Sound s → Sound (over n (completeUnary rs rows k x) s)
-unaries-sound rs rows k x n s sound = over-keeps Sound n (completeUnary rs rows k x) (λ r s h sound. unary-sound rs rows k x r s sound) s sound
+pub unaries-sound : (rs : List Rule) (rows : List ℕ) (k x n : ℕ) (s : Pass) → PassFits s → PassFits (over n (completeUnary rs rows k x) s)
+unaries-sound rs rows k x n s sound = over-keeps PassFits n (completeUnary rs rows k x) (λ r s h sound. unary-sound rs rows k x r s sound) s sound

@@ -2,6 +2,4 @@
 pub mod Pass
 pub mod Complete
 pub mod Sums
-pub mod Ready
-pub mod Search
-pub mod Pending
+pub mod inner

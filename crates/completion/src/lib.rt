@@ -8,9 +8,9 @@ ghost use mathlib.Core.Path.{_≡_};
 ghost use Prim.Native.Nat.{_*_, _+_, _<_, _≤_};
 ghost use Rattle.laws.specs.Bits.{wordBits};
 ghost use Rattle.bits.specs.Width.{rowWords};
-ghost use Rattle.grammar.specs.Decoded.{rulesIn};
+ghost use Rattle.grammar.specs.inner.Decoded.{rulesIn};
 ghost use Rattle.completion.specs.Pass.{passOf};
-ghost use Rattle.completion.specs.Ready.{RulesFit, IsSet, Rowed, Sound, Charted};
+ghost use Rattle.completion.specs.inner.Ready.{RulesFit, IsSet, Rowed, PassFits, Charted};
 ghost use Rattle.completion.specs.Complete.{complete};
 use grammar::rules::Rules;
 
@@ -36,8 +36,10 @@ pub fn complete(
 ) -> Progress
     requires { ⌜ RulesFit (rulesIn (now rules) count) × Rowed (now starts) (now rows) ⌝ }
     requires { ⌜ IsSet (now starts) k × (x < wordBits * rowWords) ⌝ }
-    requires { ⌜ Sound (passOf at (now items) (now queue)) × Charted (rulesIn (now rules) count) (now starts) (passOf at (now items) (now queue)) ⌝ }
-    ensures { λ r. ⌜ passOf r (now (items .exit)) (now (queue .exit)) ≡ complete (rulesIn (now (rules .entry)) count) (now (starts .entry)) (now (rows .entry)) k x (passOf at (now (items .entry)) (now (queue .entry))) ⌝ }
+    requires { ⌜ PassFits (passOf at (now items) (now queue)) × Charted (rulesIn (now rules) count) (now starts)
+        (passOf at (now items) (now queue)) ⌝ }
+    ensures { λ r. ⌜ passOf r (now (items .exit)) (now (queue .exit)) ≡ complete (rulesIn (now (rules .entry)) count)
+        (now (starts .entry)) (now (rows .entry)) k x (passOf at (now (items .entry)) (now (queue .entry))) ⌝ }
 {
     if !bits::has_at(rows, k, x) {
         return at;

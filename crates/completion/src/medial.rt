@@ -2,10 +2,10 @@
 ghost use mathlib.Core.Path.{_≡_};
 ghost use Prim.Native.Nat.{_+_, _≤_, _<_};
 ghost use Rattle.grammar.specs.Accepted.{maxRules};
-ghost use Rattle.grammar.specs.Decoded.{rulesIn};
+ghost use Rattle.grammar.specs.inner.Decoded.{rulesIn};
 ghost use Rattle.completion.specs.Pass.{passOf};
-ghost use Rattle.completion.specs.Search.{Searchable, Below, Found};
-ghost use Rattle.completion.specs.Ready.{IsSet, Sound, Charted};
+ghost use Rattle.completion.specs.inner.Search.{Searchable, FirstNotBelow, Found};
+ghost use Rattle.completion.specs.inner.Ready.{IsSet, PassFits, Charted};
 ghost use Rattle.completion.specs.Complete.{completeMedialItems};
 use crate::Progress;
 use crate::pass;
@@ -27,7 +27,7 @@ fn first_not_below(
     x: usize,
 ) -> usize
     requires { ⌜ (count ≤ maxRules) × Searchable (rulesIn (now rules) count) (now items) from to ⌝ }
-    ensures { λ r. ⌜ Below (rulesIn (now (rules .entry)) count) (now (items .entry)) from to x r ⌝ }
+    ensures { λ r. ⌜ FirstNotBelow (rulesIn (now (rules .entry)) count) (now (items .entry)) from to x r ⌝ }
 {
     let mut p = from;
     while p < to {
@@ -49,7 +49,8 @@ pub fn medial_item_set_range(
     x: usize,
 ) -> Range
     requires { ⌜ (count ≤ maxRules) × Searchable (rulesIn (now rules) count) (now items) from to × (x < 65536) ⌝ }
-    ensures { λ r. ⌜ Found (rulesIn (now (rules .entry)) count) (now (items .entry)) from to x (r .first) (r .number) ⌝ }
+    ensures { λ r. ⌜ Found (rulesIn (now (rules .entry)) count) (now (items .entry)) from to x (r .first)
+        (r .number) ⌝ }
 {
     let first = first_not_below(rules, count, items, from, to, x);
     let end = first_not_below(rules, count, items, first, to, x + 1);
@@ -71,8 +72,11 @@ pub fn complete_medial_items(
     at: Progress,
 ) -> Progress
     requires { ⌜ (count ≤ maxRules) × IsSet (now starts) k × (x < 65536) ⌝ }
-    requires { ⌜ Sound (passOf at (now items) (now queue)) × Charted (rulesIn (now rules) count) (now starts) (passOf at (now items) (now queue)) ⌝ }
-    ensures { λ r. ⌜ passOf r (now (items .entry)) (now (queue .exit)) ≡ completeMedialItems (rulesIn (now (rules .entry)) count) (now (starts .entry)) k x (passOf at (now (items .entry)) (now (queue .entry))) ⌝ }
+    requires { ⌜ PassFits (passOf at (now items) (now queue)) × Charted (rulesIn (now rules) count) (now starts)
+        (passOf at (now items) (now queue)) ⌝ }
+    ensures { λ r. ⌜ passOf r (now (items .entry)) (now (queue .exit))
+        ≡ completeMedialItems (rulesIn (now (rules .entry)) count) (now (starts .entry)) k x
+        (passOf at (now (items .entry)) (now (queue .entry))) ⌝ }
 {
     let range = medial_item_set_range(
         rules,

@@ -3,7 +3,7 @@ ghost use mathlib.Core.Path.{_≡_};
 ghost use mathlib.Core.List.{List};
 ghost use Prim.Native.Nat.{ℕ, _<_, _^_};
 ghost use Rattle.completion.specs.Pass.{passOf, andThen, store, enqueue};
-ghost use Rattle.completion.specs.Ready.{Sound};
+ghost use Rattle.completion.specs.inner.Ready.{PassFits};
 use crate::Progress;
 use binary_heap::Pushed;
 
@@ -36,8 +36,9 @@ pub fn store(items: &mut [u32], origin: usize, rule: usize, at: Progress) -> Pro
 
 // Queues the place of an item, unless a push was refused before.
 pub fn enqueue(items: &[u32], queue: &mut [u32], place: usize, at: Progress) -> Progress
-    requires { ⌜ Sound (passOf at (now items) (now queue)) × (at .stopped ≡ 0 → place < at .items) ⌝ }
-    ensures { λ r. ⌜ passOf r (now (items .entry)) (now (queue .exit)) ≡ andThen (passOf at (now (items .entry)) (now (queue .entry))) (enqueue place) ⌝ }
+    requires { ⌜ PassFits (passOf at (now items) (now queue)) × (at .stopped ≡ 0 → place < at .items) ⌝ }
+    ensures { λ r. ⌜ passOf r (now (items .entry)) (now (queue .exit))
+        ≡ andThen (passOf at (now (items .entry)) (now (queue .entry))) (enqueue place) ⌝ }
 {
     if at.stopped != 0 {
         return at;

@@ -3,9 +3,9 @@ ghost use mathlib.Core.Path.{_≡_};
 ghost use mathlib.Core.List.{List};
 ghost use Prim.Native.Nat.{ℕ, _<_};
 ghost use lib.ListN.{length};
-ghost use Rattle.grammar.specs.Decoded.{rulesIn};
+ghost use Rattle.grammar.specs.inner.Decoded.{rulesIn};
 ghost use Rattle.completion.specs.Pass.{passOf};
-ghost use Rattle.completion.specs.Ready.{RulesFit, HasRow, Sound};
+ghost use Rattle.completion.specs.inner.Ready.{RulesFit, HasRow, PassFits};
 ghost use Rattle.completion.specs.Complete.{waits, completeUnary, completeUnaryPredictions, completeBinary, completeBinaryPredictions};
 use crate::Progress;
 use crate::pass;
@@ -35,8 +35,11 @@ fn complete_unary(
     r: usize,
     at: Progress,
 ) -> Progress
-    requires { ⌜ RulesFit (rulesIn (now rules) count) × HasRow (now rows) k × (r < count) × Sound (passOf at (now items) (now queue)) ⌝ }
-    ensures { λ s. ⌜ passOf s (now (items .exit)) (now (queue .exit)) ≡ completeUnary (rulesIn (now (rules .entry)) count) (now (rows .entry)) k x r (passOf at (now (items .entry)) (now (queue .entry))) ⌝ }
+    requires { ⌜ RulesFit (rulesIn (now rules) count) × HasRow (now rows) k × (r < count)
+        × PassFits (passOf at (now items) (now queue)) ⌝ }
+    ensures { λ s. ⌜ passOf s (now (items .exit)) (now (queue .exit))
+        ≡ completeUnary (rulesIn (now (rules .entry)) count) (now (rows .entry)) k x r
+        (passOf at (now (items .entry)) (now (queue .entry))) ⌝ }
 {
     if at.stopped != 0 {
         return at;
@@ -63,8 +66,11 @@ pub fn complete_unary_predictions(
     x: usize,
     at: Progress,
 ) -> Progress
-    requires { ⌜ RulesFit (rulesIn (now rules) count) × HasRow (now rows) k × Sound (passOf at (now items) (now queue)) ⌝ }
-    ensures { λ r. ⌜ passOf r (now (items .exit)) (now (queue .exit)) ≡ completeUnaryPredictions (rulesIn (now (rules .entry)) count) (now (rows .entry)) k x (passOf at (now (items .entry)) (now (queue .entry))) ⌝ }
+    requires { ⌜ RulesFit (rulesIn (now rules) count) × HasRow (now rows) k
+        × PassFits (passOf at (now items) (now queue)) ⌝ }
+    ensures { λ r. ⌜ passOf r (now (items .exit)) (now (queue .exit))
+        ≡ completeUnaryPredictions (rulesIn (now (rules .entry)) count) (now (rows .entry)) k x
+        (passOf at (now (items .entry)) (now (queue .entry))) ⌝ }
 {
     let mut now = at;
     for r in 0..count {
@@ -85,7 +91,8 @@ fn complete_binary(
     at: Progress,
 ) -> Progress
     requires { ⌜ RulesFit (rulesIn (now rules) count) × HasRow (now rows) k × (r < count) ⌝ }
-    ensures { λ s. ⌜ ((q : List ℕ) → passOf s (now (items .exit)) q ≡ completeBinary (rulesIn (now (rules .entry)) count) (now (rows .entry)) k x r (passOf at (now (items .entry)) q)) ⌝ }
+    ensures { λ s. ⌜ ((q : List ℕ) → passOf s (now (items .exit)) q ≡ completeBinary
+        (rulesIn (now (rules .entry)) count) (now (rows .entry)) k x r (passOf at (now (items .entry)) q)) ⌝ }
 {
     if at.stopped != 0 {
         return at;
@@ -110,7 +117,8 @@ pub fn complete_binary_predictions(
     at: Progress,
 ) -> Progress
     requires { ⌜ RulesFit (rulesIn (now rules) count) × HasRow (now rows) k ⌝ }
-    ensures { λ r. ⌜ ((q : List ℕ) → passOf r (now (items .exit)) q ≡ completeBinaryPredictions (rulesIn (now (rules .entry)) count) (now (rows .entry)) k x (passOf at (now (items .entry)) q)) ⌝ }
+    ensures { λ r. ⌜ ((q : List ℕ) → passOf r (now (items .exit)) q ≡ completeBinaryPredictions
+        (rulesIn (now (rules .entry)) count) (now (rows .entry)) k x (passOf at (now (items .entry)) q)) ⌝ }
 {
     let mut now = at;
     for r in 0..count {

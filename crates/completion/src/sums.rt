@@ -1,10 +1,10 @@
 // Completed items by origin and left side: greatest first, and each pair is completed when its last summand has come off.
 ghost use mathlib.Core.Path.{_≡_};
 ghost use Prim.Native.Nat.{ℕ, _<_};
-ghost use Rattle.grammar.specs.Decoded.{rulesIn};
+ghost use Rattle.grammar.specs.inner.Decoded.{rulesIn};
 ghost use Rattle.completion.specs.Pass.{passOf};
-ghost use Rattle.completion.specs.Ready.{RulesFit, Rowed, Sound, Charted, RulesRead};
-ghost use Rattle.completion.specs.Pending.{Grounds, Pending};
+ghost use Rattle.completion.specs.inner.Ready.{RulesFit, Rowed, PassFits, Charted, RulesRead};
+ghost use Rattle.completion.specs.inner.Pending.{Grounds, Pending};
 ghost use Rattle.completion.specs.Sums.{sumEnds, nextSummand, popSum, completeSum, completeAllSums};
 use crate::Progress;
 use crate::complete;
@@ -23,7 +23,8 @@ fn sum_ends(
     at: Progress,
 ) -> bool
     requires { ⌜ RulesRead (rulesIn (now rules) count) (passOf at (now items) (now queue)) ⌝ }
-    ensures { λ r. ⌜ r ≡ sumEnds (rulesIn (now (rules .entry)) count) k x (passOf at (now (items .entry)) (now (queue .entry))) ⌝ }
+    ensures { λ r. ⌜ r ≡ sumEnds (rulesIn (now (rules .entry)) count) k x
+        (passOf at (now (items .entry)) (now (queue .entry))) ⌝ }
 {
     if at.queued == 0 {
         return true;
@@ -40,8 +41,9 @@ fn sum_ends(
 
 // Takes the greatest entry off the queue.
 fn next_summand(items: &[u32], queue: &mut [u32], at: Progress) -> Progress
-    requires { ⌜ Sound (passOf at (now items) (now queue)) × (0 < at .queued) ⌝ }
-    ensures { λ r. ⌜ passOf r (now (items .entry)) (now (queue .exit)) ≡ nextSummand (passOf at (now (items .entry)) (now (queue .entry))) ⌝ }
+    requires { ⌜ PassFits (passOf at (now items) (now queue)) × (0 < at .queued) ⌝ }
+    ensures { λ r. ⌜ passOf r (now (items .entry)) (now (queue .exit))
+        ≡ nextSummand (passOf at (now (items .entry)) (now (queue .entry))) ⌝ }
 {
     let stopped = at.stopped;
     let stored = at.items;
@@ -67,7 +69,8 @@ fn pop_sum(
     at: Progress,
 ) -> Progress
     requires { ⌜ RulesRead (rulesIn (now rules) count) (passOf at (now items) (now queue)) ⌝ }
-    ensures { λ r. ⌜ passOf r (now (items .entry)) (now (queue .exit)) ≡ popSum (rulesIn (now (rules .entry)) count) k x (passOf at (now (items .entry)) (now (queue .entry))) ⌝ }
+    ensures { λ r. ⌜ passOf r (now (items .entry)) (now (queue .exit)) ≡ popSum (rulesIn (now (rules .entry)) count) k x
+        (passOf at (now (items .entry)) (now (queue .entry))) ⌝ }
 {
     let mut now = at;
     while !sum_ends(rules, count, items, queue, k, x, now) {
@@ -87,8 +90,10 @@ fn complete_sum(
     at: Progress,
 ) -> Progress
     requires { ⌜ RulesFit (rulesIn (now rules) count) × Rowed (now starts) (now rows) ⌝ }
-    requires { ⌜ Sound (passOf at (now items) (now queue)) × Charted (rulesIn (now rules) count) (now starts) (passOf at (now items) (now queue)) × (0 < at .queued) ⌝ }
-    ensures { λ r. ⌜ passOf r (now (items .exit)) (now (queue .exit)) ≡ completeSum (rulesIn (now (rules .entry)) count) (now (starts .entry)) (now (rows .entry)) (passOf at (now (items .entry)) (now (queue .entry))) ⌝ }
+    requires { ⌜ PassFits (passOf at (now items) (now queue)) × Charted (rulesIn (now rules) count) (now starts)
+        (passOf at (now items) (now queue)) × (0 < at .queued) ⌝ }
+    ensures { λ r. ⌜ passOf r (now (items .exit)) (now (queue .exit)) ≡ completeSum (rulesIn (now (rules .entry)) count)
+        (now (starts .entry)) (now (rows .entry)) (passOf at (now (items .entry)) (now (queue .entry))) ⌝ }
 {
     let top = wide(queue[0]);
     let k = wide(item::origin(items, top));
@@ -107,8 +112,11 @@ pub fn complete_all_sums_entirely(
     queue: &mut [u32],
     at: Progress,
 ) -> Progress
-    requires { ⌜ Grounds (rulesIn (now rules) count) (now starts) (now rows) × Pending (rulesIn (now rules) count) (now starts) (passOf at (now items) (now queue)) ⌝ }
-    ensures { λ r. ⌜ passOf r (now (items .exit)) (now (queue .exit)) ≡ completeAllSums (rulesIn (now (rules .entry)) count) (now (starts .entry)) (now (rows .entry)) (passOf at (now (items .entry)) (now (queue .entry))) ⌝ }
+    requires { ⌜ Grounds (rulesIn (now rules) count) (now starts) (now rows) × Pending (rulesIn (now rules) count)
+        (now starts) (passOf at (now items) (now queue)) ⌝ }
+    ensures { λ r. ⌜ passOf r (now (items .exit)) (now (queue .exit))
+        ≡ completeAllSums (rulesIn (now (rules .entry)) count) (now (starts .entry)) (now (rows .entry))
+        (passOf at (now (items .entry)) (now (queue .entry))) ⌝ }
 {
     let mut now = at;
     while now.queued > 0 {

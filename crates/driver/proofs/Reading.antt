@@ -1,52 +1,110 @@
 -- Parts read one after another: they are one run, the lent slices keep their lengths, and the count of tokens stays a word.
-use mathlib.Core.Path.{_≡_, refl, subst, _∙_}
-use mathlib.Core.List.{List, _++_}
-use Prim.Native.Nat.{ℕ, _+_, _*_, _≤_, _<_}
+use mathlib.Core.Path.{_≡_, refl, sym, subst, _∙_}
+use mathlib.Core.List.{List, [], _++_, append-nil, append-assoc}
+use Prim.Native.Nat.{ℕ, suc, _+_, _-_, _*_, _≤_, _<_}
 use native.Mathlib.Omega.{arith}
 use lib.ListN.{length}
 use Rattle.parse.specs.declared.State.{State}
-use Rattle.parse.specs.Words.{Words}
+use Rattle.parse.specs.Words.{Words, wordsOf}
 use Rattle.recognizer.specs.declared.Answer.{Answer}
-use Rattle.recognizer.specs.declared.Answer.the-variants.{Done}
+use Rattle.recognizer.specs.declared.Answer.the-variants.{Done, Refused}
 use Rattle.recognizer.specs.declared.Ran.{Ran}
-use Rattle.recognizer.specs.Answers.{outcomeOf, endedOf}
-use Rattle.recognizer.specs.Steps.{Ended}
-use Rattle.recognizer.specs.Calls.{asItWas, Runs}
-use Rattle.recognizer.specs.Steppable.{wordsOf}
-use Rattle.recognizer.proofs.Singles.{further, runs-join}
-use Rattle.driver.specs.Parts.{partTokens}
-use Rattle.driver.specs.Writes.{RunsOver}
-
--- As many parts as a word counts, and their tokens.
-abbrev pub mostParts : ℕ
-mostParts = 4503599627370495
+use Rattle.recognizer.specs.declared.Refusal.{Refusal}
+use Rattle.recognizer.specs.Answers.{numberOf, outcomeOf, endedOf}
+use Rattle.demands.specs.Steps.{Ended}
+use Rattle.demands.specs.Calls.{asItWas, Runs}
+use Rattle.demands.proofs.Singles.{further, runs-join}
+use Rattle.recognizer.proofs.Turning.{number-some}
+use Rattle.driver.specs.Parts.{partTokens, mostParts, InParts}
+use Rattle.driver.specs.Writes.{RunsPart, RunsOver}
+use Rattle.driver.proofs.Running.{runs-all}
 
 abbrev pub mostTokens : ℕ
 mostTokens = partTokens * mostParts
 
--- No part was read yet, or those read were taken whole and are one run.
+-- Tokens of full parts, with so many left to read: whatever parts come behind them, all are in parts.
+pub record Full (before : List ℕ) (left : ℕ) : Type 0 where
+  pub behind : (number : ℕ) (tokens : List ℕ) → InParts number left tokens → InParts number mostParts (before ++ tokens)
+
+full-none : Full [] mostParts
+full-none = record { behind = λ number tokens parts. parts }
+
+full-more : {before : List ℕ} (part : List ℕ) {parts left : ℕ} → Full before parts → length part ≡ partTokens → parts ≡ suc left → Full (before ++ part) left
+full-more {before} part {parts} {left} f long one = record {
+  behind = λ number tokens rest.
+      subst (InParts number mostParts) (sym (append-assoc before part tokens))
+      (f .behind number (part ++ tokens) (subst (λ (n : ℕ). InParts number n (part ++ tokens)) (sym one) (InParts.full part long rest)));
+}
+
+-- No part is left: those before are all.
+full-all : {before : List ℕ} (number : ℕ) → Full before 0 → InParts number mostParts before
+full-all {before} number f = subst (InParts number mostParts) (append-nil before) (f .behind number [] InParts.none-left)
+
+-- No part was read yet; or those read were full, taken whole and are one run; or the last was read.
 pub data SoFar (file : List ℕ) (s₀ : State) (w₀ : Words) : State → Words → ℕ → ℕ → Type 0 where
   none : SoFar file s₀ w₀ s₀ w₀ 0 mostParts
-  some : {s : State} {w : Words} {taken parts : ℕ} → RunsOver file s₀ w₀ (record { outcome = asItWas 0 s w; taken = taken }) → SoFar file s₀ w₀ s w taken parts
+  going :
+      {s : State} {w : Words} {taken left : ℕ} {before : List ℕ} → Full before left
+      → Runs file s₀ w₀ before (record { outcome = asItWas 0 s w; taken = taken }) → SoFar file s₀ w₀ s w taken left
+  over : {s : State} {w : Words} {taken : ℕ} → RunsOver file s₀ w₀ (record { outcome = asItWas 0 s w; taken = taken }) → SoFar file s₀ w₀ s w taken 0
+
+-- One more part as the last.
+one-left : {number parts : ℕ} {part : List ℕ} → 0 < parts → InParts number (suc (parts - 1)) part → InParts number parts part
+one-left {number} {parts} {part} some last =
+    let same : suc (parts - 1) ≡ parts = omega (arith, some) in
+    subst (λ (n : ℕ). InParts number n part) same last
 
 module _ {file : List ℕ} {s₀ : State} {w₀ : Words} where
-  -- One part more is one run more.
-  one-more : {s : State} {w : Words} {taken parts : ℕ} {e : Ended} → SoFar file s₀ w₀ s w taken parts → RunsOver file s w e → RunsOver file s₀ w₀ (further taken e)
-  one-more {e = e} SoFar.none part =
-      record { tokens = part .tokens; runs = subst (λ (n : ℕ). Runs file s₀ w₀ (part .tokens) (record { outcome = e .outcome; taken = n })) (omega arith) (part .runs) }
-  one-more {e = e} (SoFar.some before) part =
-      record { tokens = before .tokens ++ part .tokens; runs = runs-join file (part .tokens) e (before .tokens) (before .runs) refl (part .runs) }
+  -- The tokens before a part and its own are one run,
+  part-more : {s : State} {w : Words} {taken : ℕ} {before part : List ℕ} {e : Ended} → Runs file s₀ w₀ before (record { outcome = asItWas 0 s w; taken = taken })
+      → Runs file s w part e → Runs file s₀ w₀ (before ++ part) (further taken e)
+  part-more {before = before} {part = part} {e = e} runs more = runs-join file part e before runs refl more
 
-  -- The same by the answer of the last part.
-  pub ended-by : {s : State} {w v : Words} {taken parts : ℕ} (r : Ran) (a : Answer) → SoFar file s₀ w₀ s w taken parts → RunsOver file s w (endedOf r v) → r .answer ≡ a
-      → RunsOver file s₀ w₀ (record { outcome = outcomeOf a v; taken = taken + r .taken })
-  ended-by {v = v} {taken = taken} r a before part is =
-      subst (λ (b : Answer). RunsOver file s₀ w₀ (record { outcome = outcomeOf b v; taken = taken + r .taken })) is (one-more before part)
+  -- and so are those of the first alone.
+  part-first : {part : List ℕ} {e : Ended} → Runs file s₀ w₀ part e → Runs file s₀ w₀ part (further 0 e)
+  part-first {part} {e} runs = subst (λ (n : ℕ). Runs file s₀ w₀ part (record { outcome = e .outcome; taken = n })) (omega arith) runs
 
-  -- Where no parts are left, some were read.
+  -- The last part ends the run.
+  one-last : {s : State} {w : Words} {taken parts : ℕ} {e : Ended} → SoFar file s₀ w₀ s w taken parts → 0 < parts → (r : RunsPart file s w e)
+      → InParts (e .outcome .number) parts (r .part) → RunsOver file s₀ w₀ (further taken e)
+  one-last SoFar.none some r last = record { tokens = r .part; in-parts = last; runs = part-first (r .runs) }
+  one-last {e = e} (SoFar.going {before = before} f runs) some r last =
+      record { tokens = before ++ r .part; in-parts = f .behind (e .outcome .number) (r .part) last; runs = part-more runs (r .runs) }
+  one-last (SoFar.over all) some r last = absurd (omega (arith, some))
+
+  -- A full part leaves the next to be read.
+  one-full : {s s′ : State} {w w′ : Words} {taken taken′ parts left : ℕ} → SoFar file s₀ w₀ s w taken parts → parts ≡ suc left
+      → (r : RunsPart file s w (record { outcome = asItWas 0 s′ w′; taken = taken′ })) → length (r .part) ≡ partTokens
+      → SoFar file s₀ w₀ s′ w′ (taken + taken′) left
+  one-full SoFar.none one r long = SoFar.going (full-more (r .part) full-none long one) (part-first (r .runs))
+  one-full (SoFar.going f runs) one r long = SoFar.going (full-more (r .part) f long one) (part-more runs (r .runs))
+  one-full (SoFar.over all) one r long = absurd (omega (arith, one))
+
+  module _ {s : State} {w v : Words} {taken parts : ℕ} (r : Ran) (before : SoFar file s₀ w₀ s w taken parts) (some : 0 < parts) (part : RunsPart file s w (endedOf r v)) where
+    part-is : {a : Answer} → r .answer ≡ a → RunsPart file s w (record { outcome = outcomeOf a v; taken = r .taken })
+    part-is is = subst (λ (b : Answer). RunsPart file s w (record { outcome = outcomeOf b v; taken = r .taken })) is part
+
+    -- A refused token ends the run,
+    pub refused-by : {why : Refusal} {kept : State} → r .answer ≡ Refused why kept
+        → RunsOver file s₀ w₀ (record { outcome = outcomeOf (Refused why kept) v; taken = taken + r .taken })
+    refused-by {why} is = one-last before some (part-is is) (one-left some (InParts.refused (part-is is .few) (number-some why)))
+
+    module _ {next : State} (is : r .answer ≡ Done next) where
+      -- and so does a part that is not full; a full one does not.
+      last-by : r .taken < partTokens → SoFar file s₀ w₀ next v (taken + r .taken) 0
+      last-by few =
+          SoFar.over (one-last before some (part-is is) (one-left some (InParts.not-full (omega (arith, few, runs-all (part-is is .runs) refl)))))
+
+      full-by : partTokens ≤ r .taken → {left : ℕ} → parts ≡ suc left → SoFar file s₀ w₀ next v (taken + r .taken) left
+      full-by many one = one-full before one (part-is is) (omega (arith, many, runs-all (part-is is .runs) refl, part-is is .few))
+
+  -- Where no parts are left, all were read.
   pub all-read : {s : State} {w : Words} {taken parts : ℕ} → SoFar file s₀ w₀ s w taken parts → parts ≤ 0 → RunsOver file s₀ w₀ (record { outcome = asItWas 0 s w; taken = taken })
-  all-read SoFar.none over = absurd (omega arith)
-  all-read (SoFar.some before) over = before
+  all-read SoFar.none nothing = absurd (omega (arith, nothing))
+  all-read {parts = parts} (SoFar.going {before = before} f runs) nothing =
+      let zero : parts ≡ 0 = omega (arith, nothing) in
+      record { tokens = before; in-parts = full-all 0 (subst (Full before) zero f); runs = runs }
+  all-read (SoFar.over all) nothing = all
 
 pub record Reading (file : List ℕ) (s₀ : State) (items₀ starts₀ rows₀ queue₀ : List ℕ) (s : State) (items starts rows queue : List ℕ) (taken parts : ℕ) : Type 0 where
   pub so-far : SoFar file s₀ (wordsOf items₀ starts₀ rows₀ queue₀) s (wordsOf items starts rows queue) taken parts
@@ -60,19 +118,26 @@ pub reading-start : (file : List ℕ) (s : State) (items starts rows queue : Lis
 reading-start file s items starts rows queue =
     record { so-far = SoFar.none; few = omega arith; items-long = refl; starts-long = refl; rows-long = refl; queue-long = refl }
 
--- One part more, with fewer parts left.
-pub reading-next :
-    {file : List ℕ} {s₀ s : State} {items₀ starts₀ rows₀ queue₀ items starts rows queue : List ℕ} {taken parts : ℕ} (items′ starts′ rows′ queue′ : List ℕ) (r : Ran) (next : State) (left : ℕ)
-    → Reading file s₀ items₀ starts₀ rows₀ queue₀ s items starts rows queue taken parts
-    → RunsOver file s (wordsOf items starts rows queue) (endedOf r (wordsOf items′ starts′ rows′ queue′)) → r .answer ≡ Done next → r .taken ≤ partTokens → left < parts
-    → length items′ ≡ length items → length starts′ ≡ length starts → length rows′ ≡ length rows → length queue′ ≡ length queue
-    → Reading file s₀ items₀ starts₀ rows₀ queue₀ next items′ starts′ rows′ queue′ (taken + r .taken) left
-reading-next items′ starts′ rows′ queue′ r next left before part is few fewer i s w q =
-    record {
-      so-far = SoFar.some (ended-by r (Done next) (before .so-far) part is);
-      few = omega (arith, before .few, few, fewer);
-      items-long = i ∙ before .items-long;
-      starts-long = s ∙ before .starts-long;
-      rows-long = w ∙ before .rows-long;
-      queue-long = q ∙ before .queue-long;
-    }
+module _
+    {file : List ℕ} {s₀ s : State} {items₀ starts₀ rows₀ queue₀ items starts rows queue : List ℕ} {taken parts : ℕ} (items′ starts′ rows′ queue′ : List ℕ) (r : Ran) (next : State)
+    (before : Reading file s₀ items₀ starts₀ rows₀ queue₀ s items starts rows queue taken parts)
+    (part : RunsPart file s (wordsOf items starts rows queue) (endedOf r (wordsOf items′ starts′ rows′ queue′))) (is : r .answer ≡ Done next) (few : r .taken ≤ partTokens) (some : 0 < parts)
+    (i : length items′ ≡ length items) (st : length starts′ ≡ length starts) (w : length rows′ ≡ length rows) (q : length queue′ ≡ length queue) where
+  -- One part more, with fewer parts left.
+  reading-next : (left : ℕ) → left < parts → SoFar file s₀ (wordsOf items₀ starts₀ rows₀ queue₀) next (wordsOf items′ starts′ rows′ queue′) (taken + r .taken) left
+      → Reading file s₀ items₀ starts₀ rows₀ queue₀ next items′ starts′ rows′ queue′ (taken + r .taken) left
+  reading-next left fewer so-far = record {
+    so-far = so-far;
+    few = omega (arith, before .few, few, fewer);
+    items-long = i ∙ before .items-long;
+    starts-long = st ∙ before .starts-long;
+    rows-long = w ∙ before .rows-long;
+    queue-long = q ∙ before .queue-long;
+  }
+
+  -- Behind a part that is not full none is left, behind a full one all but it.
+  pub reading-last : r .taken < partTokens → Reading file s₀ items₀ starts₀ rows₀ queue₀ next items′ starts′ rows′ queue′ (taken + r .taken) 0
+  reading-last short = reading-next 0 some (last-by r (before .so-far) some part is short)
+
+  pub reading-full : partTokens ≤ r .taken → Reading file s₀ items₀ starts₀ rows₀ queue₀ next items′ starts′ rows′ queue′ (taken + r .taken) (parts - 1)
+  reading-full many = reading-next (parts - 1) (omega (arith, some)) (full-by r (before .so-far) some part is many (omega (arith, some)))

@@ -9,11 +9,11 @@ use Rattle.grammar.specs.Sentences.{Sentence}
 use Rattle.grammar.specs.File.{grammarOf}
 use Rattle.parse.specs.declared.State.{State}
 use Rattle.parse.specs.Words.{Words}
-use Rattle.recognizer.specs.Steps.{Outcome}
-use Rattle.recognizer.specs.Calls.{Starts}
-use Rattle.recognizer.specs.Histories.{History}
-use Rattle.recognizer.specs.Sentences.{RunJudged}
-use Rattle.recognizer.proofs.Telling.{run-tells, finished-tells}
+use Rattle.demands.specs.Steps.{Outcome}
+use Rattle.demands.specs.Calls.{Starts}
+use Rattle.demands.specs.Histories.{History}
+use Rattle.demands.specs.Sentences.{RunJudged}
+use Rattle.demands.proofs.Telling.{run-tells, finished-tells}
 use Rattle.driver.specs.Writes.{Followed}
 
 module _ {file : List ℕ} {s : State} {w : Words} {o : Outcome} {text : List ℕ} (starts : Starts file s w o) (zero : o .number ≡ 0) (f : Followed file (o .state) (o .words) text) where

@@ -11,7 +11,7 @@ use Rattle.recognizer.specs.declared.Refusal.{Refusal}
 use Rattle.recognizer.specs.declared.Ran.{Ran}
 use Rattle.recognizer.specs.declared.Whether.{Whether}
 use Rattle.recognizer.specs.Answers.{refusalNumber, numberOf, stateOf, outcomeOf, endedOf, finishedNumber, saysYes}
-use Rattle.recognizer.specs.Calls.{Starts, Finishes}
+use Rattle.demands.specs.Calls.{Starts, Finishes}
 use Rattle.recognizer.proofs.Turning.{number-some}
 use Rattle.driver.specs.Text.{grammarHead, Line, Report}
 use Rattle.driver.specs.Writes.{RunsOver, SaysFinished, Followed, Recognized}

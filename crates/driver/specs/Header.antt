@@ -2,7 +2,7 @@
 use mathlib.Core.Path.{_≡_}
 use mathlib.Core.List.{List}
 use Prim.Native.Nat.{ℕ, _+_, _*_, _≤_, _<_}
-use lib.ListN.{length, take}
+use lib.ListN.{length}
 use Rattle.grammar.specs.Accepted.{maxRules}
 use Rattle.grammar.specs.File.{headerBytes, ruleBytes, versionOf, lengthOf, ruleCountOf}
 use Rattle.driver.specs.declared.header.Header.{Header}
@@ -24,8 +24,14 @@ pub data Says (bytes : List ℕ) : Header → Type 0 where
   broken : (Wrong bytes → ⊥) → maxRules < ruleCountOf bytes → Says bytes Broken
   whole : (Wrong bytes → ⊥) → ruleCountOf bytes ≤ maxRules → Says bytes (Length (lengthOf bytes))
 
--- A length that is read lies within the bytes. The second part follows from the first.
-unfoldable pub Within : List ℕ → Header → Type 0
-Within file Malformed = Unit {0}
-Within file Broken = Unit {0}
-Within file (Length n) = (n ≤ length file) × (n ≡ length (take n file))
+-- The same of all the bytes that came: then fewer than L bytes is 1.
+pub data Judged (bytes : List ℕ) : Header → Type 0 where
+  malformed : Says bytes Malformed → Judged bytes Malformed
+  broken : Says bytes Broken → Judged bytes Broken
+  cut : {l : ℕ} → Says bytes (Length l) → length bytes < l → Judged bytes Malformed
+  whole : {l : ℕ} → Says bytes (Length l) → l ≤ length bytes → Judged bytes (Length l)
+
+-- How far is read: 11 bytes, and on to L behind a header that is not refused.
+pub data ReadTo (bytes : List ℕ) : Type 0 where
+  header : length bytes ≤ headerBytes → ReadTo bytes
+  rest : {l : ℕ} → Says bytes (Length l) → length bytes ≤ l → ReadTo bytes

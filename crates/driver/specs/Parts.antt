@@ -1,6 +1,21 @@
 -- The parts in which tokens are read.
-use Prim.Native.Nat.{ℕ}
+use mathlib.Core.Path.{_≡_}
+use mathlib.Core.List.{List, [], _++_}
+use Prim.Native.Nat.{ℕ, suc, _≤_, _<_}
+use lib.ListN.{length}
 
 -- The tokens of a part.
 abbrev pub partTokens : ℕ
 partTokens = 4096
+
+-- The most parts that are read: as many as a word counts the tokens of.
+abbrev pub mostParts : ℕ
+mostParts = 4503599627370495
+
+-- The tokens that are read, with so many parts left to read, of a run that ends in `number`. A part that is not full is the last, and so
+-- is one that holds a refused token; behind a full one stand the tokens of the next.
+pub data InParts (number : ℕ) : ℕ → List ℕ → Type 0 where
+  not-full : {left : ℕ} {part : List ℕ} → length part < partTokens → InParts number (suc left) part
+  refused : {left : ℕ} {part : List ℕ} → length part ≤ partTokens → (number ≡ 0 → ⊥) → InParts number (suc left) part
+  full : {left : ℕ} (part : List ℕ) {behind : List ℕ} → length part ≡ partTokens → InParts number left behind → InParts number (suc left) (part ++ behind)
+  none-left : InParts number 0 []

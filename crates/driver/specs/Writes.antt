@@ -1,17 +1,28 @@
--- What the driver writes of a grammar that it has read. What it reads behind that is whatever the system gave it: some list of tokens.
+-- What the driver writes of the bytes that came for a grammar. What it reads behind them is whatever the system gave it: some list of tokens.
 use mathlib.Core.Path.{_≡_}
 use mathlib.Core.Bool.{Bool}
 use mathlib.Core.List.{List, []}
-use Prim.Native.Nat.{ℕ}
+use Prim.Native.Nat.{ℕ, _≤_}
+use lib.ListN.{length, take}
 use Rattle.parse.specs.declared.State.{State}
 use Rattle.parse.specs.Words.{Words, maxItems, maxSets, maxQueued, itemRoom, setRoom, queueRoom}
-use Rattle.recognizer.specs.Steps.{Outcome, Ended}
-use Rattle.recognizer.specs.Calls.{Starts, Runs, Finishes}
+use Rattle.demands.specs.Steps.{Outcome, Ended}
+use Rattle.demands.specs.Calls.{Starts, Runs, Finishes}
+use Rattle.driver.specs.declared.header.Header.the-variants.{Malformed, Broken, Length}
+use Rattle.driver.specs.Header.{Judged}
+use Rattle.driver.specs.Parts.{partTokens, mostParts, InParts}
 use Rattle.driver.specs.Text.{grammarHead, Line, Report}
 
--- A run over the tokens that were read.
+-- A run over a part that was read.
+pub record RunsPart (file : List ℕ) (s : State) (w : Words) (e : Ended) : Type 0 where
+  pub part : List ℕ
+  pub few : length part ≤ partTokens
+  pub runs : Runs file s w part e
+
+-- A run over the tokens that were read, part by part.
 pub record RunsOver (file : List ℕ) (s : State) (w : Words) (e : Ended) : Type 0 where
   pub tokens : List ℕ
+  pub in-parts : InParts (e .outcome .number) mostParts tokens
   pub runs : Runs file s w tokens e
 
 -- Whether a parse is finished, whatever the report's number.
@@ -40,8 +51,8 @@ pub record Answered (file text : List ℕ) : Type 0 where
   pub most-queued : queueRoom words ≡ maxQueued
   pub recognized : Recognized file words text
 
--- All that is ever written: the line on a header that is refused, or what is answered for the grammar that was read.
-pub data Written (text : List ℕ) : Type 0 where
-  malformed : Line [] grammarHead 1 text → Written text
-  broken : Line [] grammarHead 2 text → Written text
-  answered : {file : List ℕ} → Answered file text → Written text
+-- All that is ever written: the line on a grammar that is refused for the bytes that came, or what is answered for the L bytes of the file.
+pub data Written (bytes text : List ℕ) : Type 0 where
+  malformed : Judged bytes Malformed → Line [] grammarHead 1 text → Written bytes text
+  broken : Judged bytes Broken → Line [] grammarHead 2 text → Written bytes text
+  answered : {l : ℕ} → Judged bytes (Length l) → Answered (take l bytes) text → Written bytes text

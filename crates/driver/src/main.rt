@@ -7,23 +7,24 @@ ghost use mathlib.Core.Path.{_≡_};
 ghost use Prim.Native.Nat.{_≤_};
 ghost use lib.ListN.{length as lengthOf, take};
 ghost use Rattle.io.specs.Counts.{Counts};
-ghost use Rattle.recognizer.specs.Answers.{numberOf, stateOf};
-ghost use Rattle.recognizer.specs.Steppable.{wordsOf};
-ghost use Rattle.driver.specs.Header.{longestFile, Within};
+ghost use Rattle.parse.specs.Words.{wordsOf};
+ghost use Rattle.driver.specs.Header.{longestFile, Judged, ReadTo};
 ghost use Rattle.driver.specs.Text.{textRoom};
 ghost use Rattle.driver.specs.Writes.{SaysFinished, Followed, Recognized, Answered, Written};
-ghost use Rattle.grammar.specs.File.{headerBytes};
 use grammar::file::HEADER;
 use grammar::file::RULE;
 use grammar::limits::RULES;
 use header::Header;
 use header::told;
+use libc::STDERR_FILENO;
 use libc::STDIN_FILENO;
 use libc::STDOUT_FILENO;
 use parse::State;
 use recognizer::Answer;
 use recognizer::Whether;
+use recognizer::number_of;
 use recognizer::refusal_number;
+use recognizer::state_of;
 use text::ROOM;
 use tokens::read_tokens;
 
@@ -45,51 +46,33 @@ fn wide(number: u32) -> usize
     number as usize
 }
 
-// The paper's number of an answer.
-fn number_of(answer: Answer) -> usize
-    ensures { λ r. ⌜ r ≡ numberOf answer ⌝ }
-{
-    match answer {
-        Answer::Done(_) => 0,
-        Answer::Refused(why, _) => wide(refusal_number(why)),
-    }
-}
-
-// The state that an answer leaves.
-fn state_of(answer: Answer) -> State
-    ensures { λ r. ⌜ r ≡ stateOf answer ⌝ }
-{
-    match answer {
-        Answer::Done(state) => state,
-        Answer::Refused(_, state) => state,
-    }
-}
-
-// Reads what stands behind the header of a file of that length.
-fn read_rest(file: &mut [u8], length: usize) -> Header
-    requires { ⌜ (headerBytes ≤ length) × (length ≤ lengthOf (now file)) ⌝ }
-    ensures { λ r. ⌜ Within (now (file .exit)) r ⌝ }
-{
-    if io::read_full(STDIN_FILENO, &mut file[HEADER..length]) < length - HEADER {
-        return Header::Malformed;
-    }
-    Header::Length(length)
-}
-
-// Reads the grammar: its header, and then as many bytes as that says.
-fn read_grammar(file: &mut [u8]) -> Header
+// Reads the grammar: its header, and then as many bytes as that tells. Answers how many came.
+fn read_grammar(file: &mut [u8]) -> usize
     requires { ⌜ longestFile ≤ lengthOf (now file) ⌝ }
-    ensures { λ r. ⌜ Within (now (file .exit)) r ⌝ }
+    ensures place { λ r. ⌜ Counts r (now (file .exit)) ⌝ }
+    ensures far { λ r. ⌜ ReadTo (take r (now (file .exit))) ⌝ }
 {
-    let mut first = [0u8; HEADER];
-    let got = io::read_full(STDIN_FILENO, &mut first);
-    let length = match told(&first[..got]) {
+    let first = io::read_full(STDIN_FILENO, &mut file[..HEADER]);
+    match told(&file[..first]) {
+        Header::Malformed => first,
+        Header::Broken => first,
+        Header::Length(length) => HEADER + io::read_full(STDIN_FILENO, &mut file[HEADER..length]),
+    }
+}
+
+// What the bytes that came say of the grammar: a refusal, or its length.
+fn judged(bytes: &[u8]) -> Header
+    ensures { λ r. ⌜ Judged (now (bytes .entry)) r ⌝ }
+{
+    let length = match told(bytes) {
         Header::Malformed => return Header::Malformed,
         Header::Broken => return Header::Broken,
         Header::Length(all) => all,
     };
-    bytes::copy(&first, file);
-    read_rest(file, length)
+    if bytes.len() < length {
+        return Header::Malformed;
+    }
+    Header::Length(length)
 }
 
 // Whether a parse is finished. A refused report says no.
@@ -101,7 +84,8 @@ fn is_finished(
     rows: &[u64],
     queue: &[u32],
 ) -> bool
-    ensures { λ r. ⌜ SaysFinished (now (file .entry)) state (wordsOf (now (items .entry)) (now (starts .entry)) (now (rows .entry)) (now (queue .entry))) r ⌝ }
+    ensures { λ r. ⌜ SaysFinished (now (file .entry)) state
+        (wordsOf (now (items .entry)) (now (starts .entry)) (now (rows .entry)) (now (queue .entry))) r ⌝ }
 {
     match recognizer::finished(file, state, items, starts, rows, queue) {
         Whether::Yes => true,
@@ -122,13 +106,15 @@ fn follow(
 ) -> usize
     requires { ⌜ textRoom ≤ lengthOf (now out) ⌝ }
     ensures place { λ r. ⌜ Counts r (now (out .exit)) ⌝ }
-    ensures text { λ r. ⌜ Followed (now (file .entry)) state (wordsOf (now (items .entry)) (now (starts .entry)) (now (rows .entry)) (now (queue .entry))) (take r (now (out .exit))) ⌝ }
+    ensures text { λ r. ⌜ Followed (now (file .entry)) state
+        (wordsOf (now (items .entry)) (now (starts .entry)) (now (rows .entry)) (now (queue .entry)))
+        (take r (now (out .exit))) ⌝ }
 {
     let ran = read_tokens(file, state, items, starts, rows, queue);
     let answer = ran.answer;
     let end = state_of(answer);
     let yes = is_finished(file, end, items, starts, rows, queue);
-    text::report(out, ran.taken, number_of(answer), yes, end.set)
+    text::report(out, ran.taken, wide(number_of(answer)), yes, end.set)
 }
 
 // Starts a parse and follows it; answers how long the lines are.
@@ -142,7 +128,9 @@ fn recognize(
 ) -> usize
     requires { ⌜ textRoom ≤ lengthOf (now out) ⌝ }
     ensures place { λ r. ⌜ Counts r (now (out .exit)) ⌝ }
-    ensures text { λ r. ⌜ Recognized (now (file .entry)) (wordsOf (now (items .entry)) (now (starts .entry)) (now (rows .entry)) (now (queue .entry))) (take r (now (out .exit))) ⌝ }
+    ensures text { λ r. ⌜ Recognized (now (file .entry))
+        (wordsOf (now (items .entry)) (now (starts .entry)) (now (rows .entry)) (now (queue .entry)))
+        (take r (now (out .exit))) ⌝ }
 {
     let fresh = State { set: 0, items: 0 };
     match recognizer::start(file, fresh, items, starts, rows, queue) {
@@ -164,22 +152,25 @@ fn recognize_whole(file: &[u8], out: &mut [u8]) -> usize
     recognize(file, &mut items, &mut starts, &mut rows, &mut queue, out)
 }
 
-// Reads a grammar and the tokens behind it, and writes what came of them; answers how long that is.
-fn answer(out: &mut [u8]) -> usize
+// Writes what comes of the grammar in the bytes that came, and of the tokens behind it; answers how long that is.
+fn answer(bytes: &[u8], out: &mut [u8]) -> usize
     requires { ⌜ textRoom ≤ lengthOf (now out) ⌝ }
     ensures place { λ r. ⌜ Counts r (now (out .exit)) ⌝ }
-    ensures text { λ r. ⌜ Written (take r (now (out .exit))) ⌝ }
+    ensures text { λ r. ⌜ Written (now (bytes .entry)) (take r (now (out .exit))) ⌝ }
 {
-    let mut file = [0u8; LONGEST];
-    match read_grammar(&mut file) {
+    match judged(bytes) {
         Header::Malformed => text::refusal(out, 1),
         Header::Broken => text::refusal(out, 2),
-        Header::Length(length) => recognize_whole(&file[..length], out),
+        Header::Length(length) => recognize_whole(&bytes[..length], out),
     }
 }
 
 fn main() {
+    let mut file = [0u8; LONGEST];
+    let came = read_grammar(&mut file);
     let mut out = [0u8; ROOM];
-    let count = answer(&mut out);
-    io::write_all(STDOUT_FILENO, &out[..count]);
+    let count = answer(&file[..came], &mut out);
+    if !io::write_all(STDOUT_FILENO, &out[..count]) {
+        io::write_all(STDERR_FILENO, b"driver: the output could not be written\n");
+    }
 }

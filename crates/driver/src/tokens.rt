@@ -2,11 +2,12 @@
 ghost use mathlib.Core.Path.{_≡_};
 ghost use Prim.Native.Nat.{_≤_};
 ghost use lib.ListN.{length, take};
+ghost use lib.Dec.{ltb};
 ghost use Rattle.driver.specs.Parts.{partTokens};
-ghost use Rattle.driver.specs.Writes.{RunsOver};
-ghost use Rattle.recognizer.specs.Calls.{Runs};
+ghost use Rattle.driver.specs.Writes.{RunsPart, RunsOver};
+ghost use Rattle.demands.specs.Calls.{Runs};
 ghost use Rattle.recognizer.specs.Answers.{endedOf};
-ghost use Rattle.recognizer.specs.Steppable.{wordsOf};
+ghost use Rattle.parse.specs.Words.{wordsOf};
 use libc::STDIN_FILENO;
 use parse::State;
 use recognizer::Answer;
@@ -42,7 +43,10 @@ fn run_part(
     part: &[u8],
 ) -> Ran
     requires { ⌜ length (now part) ≤ partTokens ⌝ }
-    ensures calls { λ r. ⌜ Runs (now (file .entry)) state (wordsOf (now (items .entry)) (now (starts .entry)) (now (rows .entry)) (now (queue .entry))) (now (part .entry)) (endedOf r (wordsOf (now (items .exit)) (now (starts .exit)) (now (rows .exit)) (now (queue .exit)))) ⌝ }
+    ensures calls { λ r. ⌜ Runs (now (file .entry)) state
+        (wordsOf (now (items .entry)) (now (starts .entry)) (now (rows .entry)) (now (queue .entry)))
+        (now (part .entry))
+        (endedOf r (wordsOf (now (items .exit)) (now (starts .exit)) (now (rows .exit)) (now (queue .exit)))) ⌝ }
     ensures few { λ r. ⌜ r .taken ≤ partTokens ⌝ }
 {
     let mut tokens = [0u16; PART];
@@ -51,7 +55,14 @@ fn run_part(
     recognizer::run(file, state, items, starts, rows, queue, &tokens[..count])
 }
 
-// Reads and runs one part. A part that is taken and is not full is the last.
+// Whether a part of so many tokens is the last: one that is not full is.
+fn is_last(count: usize) -> bool
+    ensures { λ r. ⌜ r ≡ ltb count partTokens ⌝ }
+{
+    count < PART
+}
+
+// Reads and runs one part.
 fn read_part(
     file: &[u8],
     state: State,
@@ -60,7 +71,9 @@ fn read_part(
     rows: &mut [u64],
     queue: &mut [u32],
 ) -> Ran
-    ensures read { λ r. ⌜ RunsOver (now (file .entry)) state (wordsOf (now (items .entry)) (now (starts .entry)) (now (rows .entry)) (now (queue .entry))) (endedOf r (wordsOf (now (items .exit)) (now (starts .exit)) (now (rows .exit)) (now (queue .exit)))) ⌝ }
+    ensures read { λ r. ⌜ RunsPart (now (file .entry)) state
+        (wordsOf (now (items .entry)) (now (starts .entry)) (now (rows .entry)) (now (queue .entry)))
+        (endedOf r (wordsOf (now (items .exit)) (now (starts .exit)) (now (rows .exit)) (now (queue .exit)))) ⌝ }
     ensures few { λ r. ⌜ r .taken ≤ partTokens ⌝ }
 {
     let mut part = io::buffer();
@@ -78,7 +91,9 @@ pub fn read_tokens(
     rows: &mut [u64],
     queue: &mut [u32],
 ) -> Ran
-    ensures { λ r. ⌜ RunsOver (now (file .entry)) state (wordsOf (now (items .entry)) (now (starts .entry)) (now (rows .entry)) (now (queue .entry))) (endedOf r (wordsOf (now (items .exit)) (now (starts .exit)) (now (rows .exit)) (now (queue .exit)))) ⌝ }
+    ensures { λ r. ⌜ RunsOver (now (file .entry)) state
+        (wordsOf (now (items .entry)) (now (starts .entry)) (now (rows .entry)) (now (queue .entry)))
+        (endedOf r (wordsOf (now (items .exit)) (now (starts .exit)) (now (rows .exit)) (now (queue .exit)))) ⌝ }
 {
     let mut now = state;
     let mut taken = 0;
@@ -95,7 +110,7 @@ pub fn read_tokens(
                 taken: taken,
             },
         }
-        if more < PART {
+        if is_last(more) {
             parts = 0;
         } else {
             parts -= 1;

@@ -7,10 +7,10 @@ use native.Mathlib.Omega.{arith}
 use borrow.Author.Count.{below-more}
 use lib.ListN.{length}
 use Rattle.grammar.specs.Rules.{none}
-use Rattle.grammar.specs.Decoded.{leftIn, firstIn, secondIn}
+use Rattle.grammar.specs.inner.Decoded.{leftIn, firstIn, secondIn}
 use Rattle.grammar.specs.File.{versionOf, lengthOf, ruleCountOf, headerBytes, ruleBytes, Malformed}
 use Rattle.grammar.specs.File.Malformed.{short, version, real-length, told-length}
-use Rattle.grammar.specs.Checking.{Drawn, Adjoins, Precedes, Ruled, Same, EqualPair, FoundLeft}
+use Rattle.grammar.specs.inner.Checking.{Drawn, Adjoins, Precedes, Ruled, Same, EqualPair, FoundLeft}
 
 -- A file that passes the four tests is not malformed.
 pub well-formed : (file : List ℕ) → headerBytes ≤ length file → versionOf file ≡ 1 → lengthOf file ≡ length file

@@ -10,7 +10,7 @@ use Rattle.laws.proofs.Lists.{zeros-word}
 use Rattle.grammar.specs.Rules.{Rule, Grammar, Says, ruleCount, ruleAt}
 use Rattle.grammar.specs.Accepted.{maxRules}
 use Rattle.grammar.specs.File.{u16At, headerBytes, ruleBytes, ruleCountOf, symbolsOf, tokensOf, ruleIn, rulesFrom, grammarOf}
-use Rattle.grammar.specs.Decoded.{ruleWords, leftIn, firstIn, secondIn, rulesBehind, rulesIn, grammarIn, HoldsRules}
+use Rattle.grammar.specs.inner.Decoded.{ruleWords, leftIn, firstIn, secondIn, rulesBehind, rulesIn, grammarIn, HoldsRules}
 
 -- What stands for a rule past the last one.
 abbrev noRule : Rule

@@ -8,10 +8,10 @@ use native.Mathlib.Omega.{arith}
 use lib.ListN.{length}
 use Rattle.grammar.specs.Rules.{Rule, Grammar, none, ruleCount, ruleAt}
 use Rattle.grammar.specs.Accepted.{Accepted, maxSymbols, maxRules}
-use Rattle.grammar.specs.Decoded.{leftIn, firstIn, secondIn, grammarIn}
+use Rattle.grammar.specs.inner.Decoded.{leftIn, firstIn, secondIn, grammarIn}
 use Rattle.grammar.specs.File.{Malformed, versionOf, lengthOf, ruleCountOf, headerBytes, ruleBytes}
 use Rattle.grammar.specs.File.Malformed.{short, version, real-length, told-length}
-use Rattle.grammar.specs.Checking.{Sized, Wraps, Drawn, Ruled, Same, EqualPair, Low, AllProductive}
+use Rattle.grammar.specs.inner.Checking.{Sized, Wraps, Drawn, Ruled, Same, EqualPair, LowSymbols, AllProductive}
 use Rattle.grammar.proofs.Decoding.{rule, in-count, in-rule, in-left, in-first, in-second}
 
 module _ (words : List ℕ) (n t count : ℕ) (size : Sized n t count) where
@@ -82,7 +82,7 @@ module _ (words : List ℕ) (n t count : ℕ) (size : Sized n t count) where
 
   module _ (w : Wraps words n t) (h : Ruled words n t count) where
     -- Every symbol of the rules is below the limit.
-    pub low : Low words count
+    pub low : LowSymbols words count
     low = record { left = left; first = first; second = second }
       where
         low-of : (r s : ℕ) → s < n - 2 → s < maxSymbols
@@ -186,7 +186,7 @@ pub accepted-sized : (g : Grammar) → Accepted g → Sized (g .symbols) (g .tok
 accepted-sized g h = record { a-token = h .a-token; room = h .room; few-symbols = h .few-symbols; a-rule = h .a-rule; few-rules = h .few-rules }
 
 -- Every symbol of an accepted grammar's rules is below the limit.
-pub accepted-low : (words : List ℕ) (n t count : ℕ) → Accepted (grammarIn words n t count) → Low words count
+pub accepted-low : (words : List ℕ) (n t count : ℕ) → Accepted (grammarIn words n t count) → LowSymbols words count
 accepted-low words n t count h = low words n t count size (accepted-wraps words n t count size h) (accepted-ruled words n t count size h)
   where
     size : Sized n t count

@@ -7,4 +7,3 @@ pub mod Judging
 pub mod Verdicts
 pub mod Facts
 pub mod Reached
-pub mod Linking

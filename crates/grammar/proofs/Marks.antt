@@ -11,9 +11,9 @@ use lib.ListN.{length, getD, set, replicate, length-set, length-replicate, getD-
 use lib.Seq.{getD-set-same, getD-set-other}
 use Rattle.laws.proofs.Decides.{true-false, false-true}
 use Rattle.grammar.specs.Accepted.{maxSymbols}
-use Rattle.grammar.specs.Checking.{Marked, TokensMarked, AllMarked, Low, Fires}
+use Rattle.grammar.specs.inner.Checking.{Marked, TokensMarked, AllMarked, LowSymbols, Fires}
 use Rattle.grammar.specs.Rules.{none}
-use Rattle.grammar.specs.Decoded.{leftIn, firstIn, secondIn}
+use Rattle.grammar.specs.inner.Decoded.{leftIn, firstIn, secondIn}
 use Rattle.laws.specs.Decides.{Decides}
 
 -- Nothing is marked at first.
@@ -78,7 +78,7 @@ pub one-unmarked : (marks : List Bool) (from a to : ℕ) → from ≤ a → a < 
 one-unmarked marks from a to l u m h = true-false (sym (h .marked a l u) ∙ m)
 
 -- A second symbol that is there is low.
-pub low-second : (words : List ℕ) (r c : ℕ) → Low words (r + 1) → c ≡ secondIn words r → (c ≡ none → ⊥) → c < maxSymbols
+pub low-second : (words : List ℕ) (r c : ℕ) → LowSymbols words (r + 1) → c ≡ secondIn words r → (c ≡ none → ⊥) → c < maxSymbols
 low-second words r c h e n = ⊎-elim (λ (x : secondIn words r ≡ none). absurd (n (e ∙ x))) (λ (x : secondIn words r < maxSymbols). omega arith) (h .second r (omega arith))
 
 -- Rule `r` does not fire where its left side is marked or its first symbol is not.
@@ -107,7 +107,7 @@ module _ (words : List ℕ) (marks : List Bool) (r a b c : ℕ) (ea : a ≡ left
   }
 
 -- Fewer rules of low symbols.
-pub low-less : (words : List ℕ) (count r : ℕ) → Low words count → r ≤ count → Low words r
+pub low-less : (words : List ℕ) (count r : ℕ) → LowSymbols words count → r ≤ count → LowSymbols words r
 low-less words count r h l = record {
   left = λ q m. h .left q (omega arith);
   first = λ q m. h .first q (omega arith);

@@ -14,8 +14,8 @@ use Rattle.grammar.specs.Rules.{Grammar, Says, none}
 use Rattle.grammar.specs.Sentences.{Derives}
 use Rattle.grammar.specs.Sentences.Derives.{token, unary, binary}
 use Rattle.grammar.specs.Accepted.{maxSymbols, Productive}
-use Rattle.grammar.specs.Decoded.{leftIn, firstIn, secondIn, grammarIn}
-use Rattle.grammar.specs.Checking.{Marked, TokensMarked, AllMarked, Fires, AllProductive}
+use Rattle.grammar.specs.inner.Decoded.{leftIn, firstIn, secondIn, grammarIn}
+use Rattle.grammar.specs.inner.Checking.{Marked, TokensMarked, AllMarked, Fires, AllProductive}
 use Rattle.grammar.proofs.Decoding.{in-count, in-left, in-first, in-second, in-says}
 use Rattle.grammar.proofs.Marks.{mark-kept, mark-old}
 

@@ -6,10 +6,10 @@ use native.Mathlib.Omega.{arith}
 use native.Mathlib.Decide.{ℕ-discrete}
 use lib.ListN.{length}
 use Rattle.grammar.specs.Accepted.{Accepted, maxRules}
-use Rattle.grammar.specs.Decoded.{grammarIn}
+use Rattle.grammar.specs.inner.Decoded.{grammarIn, Decodes}
 use Rattle.grammar.specs.File.{Malformed, grammarOf, symbolsOf, tokensOf, ruleCountOf, headerBytes, ruleBytes}
-use Rattle.grammar.specs.Checking.{Sized}
-use Rattle.grammar.specs.Answers.{Verdict, Decodes, numberOf}
+use Rattle.grammar.specs.inner.Checking.{Sized}
+use Rattle.grammar.specs.Answers.{Verdict, numberOf}
 use Rattle.grammar.specs.declared.Checked.{Checked}
 use Rattle.grammar.specs.declared.Checked.the-variants as answer
 use Rattle.grammar.proofs.Decoding.{of-count, holds-agree}
@@ -85,6 +85,20 @@ module _ (file : List ℕ) where
       ∙ ap (λ (k : ℕ). grammarIn words (symbolsOf file) k count) (e .tokens)
       ∙ ap (grammarIn words (symbolsOf file) (tokensOf file)) (e .rules)
       ∙ d
+
+-- Two numbers that are right are the same, whatever number a call could have answered.
+pub verdict-number : (file : List ℕ) (n m : ℕ) → Verdict file n → Verdict file m → n ≡ m
+verdict-number file n m v w =
+    elim (ℕ-discrete n 1) [
+      | yes one ↦ one ∙ sym (w .always-one (v .one one))
+      | no not-one ↦ elim (ℕ-discrete n 2) [
+        | yes two ↦ two ∙ sym (w .always-two (λ bad. not-one (v .always-one bad)) (v .two two))
+        | no not-two ↦ elim (ℕ-discrete n 0) [
+          | yes zero ↦ zero ∙ sym (w .always-zero (λ bad. not-one (v .always-one bad)) (v .zero zero))
+          | no not-zero ↦ absurd (not-two (v .always-two (λ bad. not-one (v .always-one bad)) (λ good. not-zero (v .always-zero (λ bad. not-one (v .always-one bad)) good))))
+        ]
+      ]
+    ]
 
 -- Two answers that are right are the same.
 pub verdict-unique : (file : List ℕ) (a b : Checked) → Verdict file (numberOf a) → Verdict file (numberOf b) → a ≡ b

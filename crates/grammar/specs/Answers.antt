@@ -6,7 +6,6 @@ use Rattle.grammar.specs.declared.Checked.{Checked}
 use Rattle.grammar.specs.declared.Checked.the-variants.{Accepted, Malformed, Broken}
 use Rattle.grammar.specs.Accepted as accepted
 use Rattle.grammar.specs.File as file
-use Rattle.grammar.specs.Decoded.{HoldsRules}
 
 -- The paper's number of each case.
 abbrev pub numberOf : Checked → ℕ
@@ -22,8 +21,3 @@ pub record Verdict (bytes : List ℕ) (number : ℕ) : Type 0 where
   pub always-two : (file.Malformed bytes → ⊥) → (accepted.Accepted (file.grammarOf bytes) → ⊥) → number ≡ 2
   pub zero : number ≡ 0 → accepted.Accepted (file.grammarOf bytes)
   pub always-zero : (file.Malformed bytes → ⊥) → accepted.Accepted (file.grammarOf bytes) → number ≡ 0
-
--- The words that a check is lent hold the rules of an accepted file; of any other they stay as they were.
-pub record Decodes (bytes : List ℕ) (number : ℕ) (before words : List ℕ) : Type 0 where
-  pub accepted : number ≡ 0 → HoldsRules bytes words
-  pub refused : (number ≡ 0 → ⊥) → words ≡ before

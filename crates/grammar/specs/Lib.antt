@@ -3,8 +3,6 @@ pub mod Rules
 pub mod Sentences
 pub mod Accepted
 pub mod File
-pub mod Decoded
 pub mod Prediction
-pub mod Checking
 pub mod Answers
-pub mod Chains
+pub mod inner

@@ -3,7 +3,7 @@ ghost use mathlib.Core.Path.{_≡_};
 ghost use Prim.Native.Nat.{_+_, _≤_, _<_};
 ghost use Rattle.laws.specs.Decides.{Decides};
 ghost use Rattle.grammar.specs.Accepted.{maxRules, maxSymbols};
-ghost use Rattle.grammar.specs.Checking.{Sized, Wraps, Drawn, Adjoins, Precedes, Ruled, FoundLeft};
+ghost use Rattle.grammar.specs.inner.Checking.{Sized, Wraps, Drawn, Adjoins, Precedes, Ruled, FoundLeft};
 use crate::limits::RULES;
 use crate::limits::SYMBOLS;
 use crate::rules::NONE;

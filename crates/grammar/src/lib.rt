@@ -1,11 +1,10 @@
 // The grammar file, version 1: its header, its rules decoded into words, and its check.
 ghost use Rattle.laws.specs.Decides.{Decides};
 ghost use Rattle.grammar.specs.Accepted as asked;
-ghost use Rattle.grammar.specs.Answers.{Verdict, Decodes, numberOf};
-ghost use Rattle.grammar.specs.Checking.{Sized};
-ghost use Rattle.grammar.specs.Decoded.{grammarIn};
+ghost use Rattle.grammar.specs.Answers.{Verdict, numberOf};
+ghost use Rattle.grammar.specs.inner.Checking.{Sized};
+ghost use Rattle.grammar.specs.inner.Decoded.{grammarIn, Decodes};
 
-pub mod chains;
 mod conditions;
 pub mod file;
 pub mod limits;

@@ -9,6 +9,3 @@ pub const RULES: usize = 512;
 pub const EACH: usize = 3;
 
 pub const WORDS: usize = EACH * RULES;
-
-// The words of the chains: one for each rule, then one for each symbol.
-pub const LINKS: usize = RULES + SYMBOLS;

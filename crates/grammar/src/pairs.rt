@@ -3,7 +3,7 @@ ghost use mathlib.Core.Path.{_≡_};
 ghost use Prim.Native.Nat.{_≤_, _<_};
 ghost use Rattle.laws.specs.Decides.{Decides};
 ghost use Rattle.grammar.specs.Accepted.{maxRules};
-ghost use Rattle.grammar.specs.Checking.{Same, EqualPair};
+ghost use Rattle.grammar.specs.inner.Checking.{Same, EqualPair};
 use crate::rules::Rules;
 use crate::rules::first;
 use crate::rules::left;

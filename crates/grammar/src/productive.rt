@@ -6,8 +6,8 @@ ghost use lib.Dec.{ltb};
 ghost use lib.ListN.{length, getD};
 ghost use Rattle.laws.specs.Decides.{Decides};
 ghost use Rattle.grammar.specs.Accepted.{maxRules, maxSymbols};
-ghost use Rattle.grammar.specs.Decoded.{grammarIn};
-ghost use Rattle.grammar.specs.Checking.{Low, Fires, AllProductive, TokensMarked, AllMarked};
+ghost use Rattle.grammar.specs.inner.Decoded.{grammarIn};
+ghost use Rattle.grammar.specs.inner.Checking.{LowSymbols, Fires, AllProductive, TokensMarked, AllMarked};
 use crate::limits::SYMBOLS;
 use crate::rules::NONE;
 use crate::rules::Rules;
@@ -32,7 +32,7 @@ fn mark_tokens(t: usize) -> Marks
 
 // Whether rule `r` marks its left side: the right side is marked, and the left side is not yet.
 fn fires(rules: &Rules, marks: &Marks, r: usize) -> bool
-    requires { ⌜ (r < maxRules) × Low (now rules) (r + 1) ⌝ }
+    requires { ⌜ (r < maxRules) × LowSymbols (now rules) (r + 1) ⌝ }
     ensures { λ s. ⌜ Decides s (Fires (now (rules .entry)) (now (marks .entry)) r) ⌝ }
 {
     if marks[left(rules, r)] {
@@ -63,7 +63,7 @@ fn all_marked(marks: &Marks, from: usize, to: usize) -> bool
 
 // Whether every nonterminal derives some string of tokens: rounds over the rules, until a round marks nothing.
 pub fn all_productive(rules: &Rules, n: usize, t: usize, count: usize) -> bool
-    requires { ⌜ (t + 3 ≤ n) × (n ≤ maxSymbols) × (count ≤ maxRules) × Low (now rules) count ⌝ }
+    requires { ⌜ (t + 3 ≤ n) × (n ≤ maxSymbols) × (count ≤ maxRules) × LowSymbols (now rules) count ⌝ }
     ensures { λ r. ⌜ Decides r (AllProductive (grammarIn (now (rules .entry)) n t count)) ⌝ }
 {
     let mut marks = mark_tokens(t);

@@ -4,7 +4,7 @@ ghost use Prim.Native.Nat.{_+_, _*_, _≤_, _<_};
 ghost use lib.ListN.{length};
 ghost use Rattle.grammar.specs.Accepted.{maxRules};
 ghost use Rattle.grammar.specs.File.{headerBytes, ruleBytes, ruleCountOf};
-ghost use Rattle.grammar.specs.Decoded.{leftIn, firstIn, secondIn, HoldsRules};
+ghost use Rattle.grammar.specs.inner.Decoded.{leftIn, firstIn, secondIn, HoldsRules};
 use crate::file::HEADER;
 use crate::file::RULE;
 use crate::file::rule_count;
@@ -51,7 +51,8 @@ pub fn second(rules: &Rules, r: usize) -> usize
 
 // The rules of a file that is whole and has few enough.
 pub fn decode(file: &[u8]) -> Rules
-    requires { ⌜ (headerBytes + ruleBytes * ruleCountOf (now file) ≤ length (now file)) × (ruleCountOf (now file) ≤ maxRules) ⌝ }
+    requires { ⌜ (headerBytes + ruleBytes * ruleCountOf (now file) ≤ length (now file))
+        × (ruleCountOf (now file) ≤ maxRules) ⌝ }
     ensures { λ r. ⌜ HoldsRules (now (file .entry)) r ⌝ }
 {
     let mut rules = [0; WORDS];

@@ -7,7 +7,7 @@ use Rattle.node.specs.declared.Node.{Node}
 use Rattle.node.specs.declared.Found.{Found}
 use Rattle.node.specs.declared.Walked.{Walked}
 use Rattle.node.specs.declared.Written.{Written}
-use Rattle.node.specs.Writing.{Outcome, writeAt}
+use Rattle.node.specs.Writing.{StoreOutcome, writeAt}
 use Rattle.host.specs.declared.nodes.Told.{Told}
 use Rattle.host.specs.declared.nodes.Told.the-variants as told
 use Rattle.host.specs.Nodes.{numberIn, positionOr, numbersOr, countOr, toldBy, writeIn, writeTold}
@@ -46,17 +46,17 @@ module _ (store numbers : List ℕ) (p : ℕ) {t : Told} (e : t ≡ toldBy numbe
   writes-none k = ap (writeTold store p) (sym k) ∙ ap (writeTold store p) e
 
 -- What a host's words and its store get of a write.
-pub record Wrote (word : ℕ) (a : said.Answer) (store : List ℕ) (o : Outcome) : Type 0 where
+pub record Wrote (word : ℕ) (a : said.Answer) (store : List ℕ) (o : StoreOutcome) : Type 0 where
   pub is-number : numberIn a ≡ numberIn (o .answer)
   pub is-position : positionOr word a ≡ positionOr word (o .answer)
   pub is-store : store ≡ o .store
 
-wrote : (word : ℕ) {a : said.Answer} {left : List ℕ} {o : Outcome} → record { answer = a; store = left } ≡ o → Wrote word a left o
+wrote : (word : ℕ) {a : said.Answer} {left : List ℕ} {o : StoreOutcome} → record { answer = a; store = left } ≡ o → Wrote word a left o
 wrote word e =
     record {
-      is-number = ap (λ (o : Outcome). numberIn (o .answer)) e;
-      is-position = ap (λ (o : Outcome). positionOr word (o .answer)) e;
-      is-store = ap (λ (o : Outcome). o .store) e;
+      is-number = ap (λ (o : StoreOutcome). numberIn (o .answer)) e;
+      is-position = ap (λ (o : StoreOutcome). positionOr word (o .answer)) e;
+      is-store = ap (λ (o : StoreOutcome). o .store) e;
     }
 
 module _ (word : ℕ) (store numbers : List ℕ) (p : ℕ) {t : Told} (e : t ≡ toldBy numbers) where

@@ -9,9 +9,10 @@ use Rattle.item.specs.Item.{itemWords}
 use Rattle.grammar.specs.Rules.{Grammar}
 use Rattle.parse.specs.declared.State.{State}
 use Rattle.parse.specs.Words.{Words, within, startOf, itemRoom}
-use Rattle.recognizer.specs.Steps.{latestPart}
-use Rattle.recognizer.specs.Calls.{FileFault, CallFault, Formed, Reports}
-use Rattle.host.specs.Reports.{ReportsIn, PartFits, firstWord}
+use Rattle.demands.specs.Steps.{latestPart}
+use Rattle.demands.specs.Calls.{FileFault, CallFault, Formed, Reports}
+use Rattle.host.specs.inner.Parts.{PartFits, firstWord}
+use Rattle.host.specs.Reports.{ReportsIn}
 
 -- A fault has a number that is not 0.
 file-some : {file : List ℕ} {n : ℕ} → FileFault file n → n ≡ 0 → ⊥

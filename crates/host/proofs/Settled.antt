@@ -5,7 +5,7 @@ use mathlib.Core.List.{List}
 use Prim.Native.Nat.{ℕ}
 use Rattle.parse.specs.declared.State.{State}
 use Rattle.parse.specs.Words.{Words}
-use Rattle.recognizer.proofs.Agree.{call-number, not-formed, finishes-agree}
+use Rattle.demands.proofs.Agree.{call-number, not-formed, finishes-agree}
 use Rattle.host.specs.Reports.{FinishesIn, ReportsIn}
 
 module _ {file : List ℕ} {s : State} {w : Words} where

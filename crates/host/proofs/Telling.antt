@@ -7,15 +7,15 @@ use Rattle.grammar.specs.Answers as check
 use Rattle.grammar.specs.declared.Checked.{Checked}
 use Rattle.parse.specs.declared.State.{State}
 use Rattle.parse.specs.Words.{Words}
-use Rattle.recognizer.specs.Steps.{Outcome, Ended}
+use Rattle.demands.specs.Steps.{Outcome, Ended}
 use Rattle.recognizer.specs.declared.Answer.{Answer}
 use Rattle.recognizer.specs.declared.Ran.{Ran}
 use Rattle.recognizer.specs.declared.Whether.{Whether}
 use Rattle.recognizer.specs.Answers.{numberOf, stateOf, outcomeOf, endedOf, finishedNumber, saysYes}
-use Rattle.recognizer.specs.Calls.{Starts, Takes, Runs, Finishes}
+use Rattle.demands.specs.Calls.{Starts, Takes, Runs, Finishes}
 use Rattle.host.specs.Answers.{outcomeIn, endedIn}
-use Rattle.recognizer.specs.Sentences.{FinishedTells}
-use Rattle.recognizer.proofs.Telling.{finished-tells}
+use Rattle.demands.specs.Sentences.{FinishedTells}
+use Rattle.demands.proofs.Telling.{finished-tells}
 use Rattle.host.specs.Reports.{FinishesIn, saysIn}
 use Rattle.host.proofs.Wide.{greatest, takes-wide}
 

@@ -7,9 +7,9 @@ use native.Mathlib.Omega.{arith}
 use Rattle.grammar.specs.Rules.{Grammar}
 use Rattle.parse.specs.declared.State.{State}
 use Rattle.parse.specs.Words.{Words, within}
-use Rattle.recognizer.specs.Steps.{Outcome, stepped}
-use Rattle.recognizer.specs.Calls.{Takes, Ready, inPlace}
-use Rattle.recognizer.proofs.Ways.{is-no-token}
+use Rattle.demands.specs.Steps.{Outcome, stepped}
+use Rattle.demands.specs.Calls.{Takes, Ready, inPlace}
+use Rattle.demands.proofs.Ways.{is-no-token}
 
 -- The greatest token that a u16 holds.
 abbrev pub greatest : ℕ

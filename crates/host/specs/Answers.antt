@@ -2,7 +2,7 @@
 use Prim.Native.Nat.{ℕ}
 use Rattle.parse.specs.declared.State.{State}
 use Rattle.parse.specs.Words.{Words}
-use Rattle.recognizer.specs.Steps.{Outcome, Ended}
+use Rattle.demands.specs.Steps.{Outcome, Ended}
 
 -- The state that two words hold: the set number and the item count.
 abbrev pub stateIn : ℕ → ℕ → State

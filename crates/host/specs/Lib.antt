@@ -2,3 +2,4 @@
 pub mod Answers
 pub mod Reports
 pub mod Nodes
+pub mod inner

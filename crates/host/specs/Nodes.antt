@@ -9,7 +9,7 @@ use Rattle.node.specs.declared.Right.the-variants.{At, Nothing}
 use Rattle.node.specs.declared.Node.{Node}
 use Rattle.node.specs.declared.Node.the-variants.{Sum, Product, NullingLeaf, Evaluated}
 use Rattle.node.specs.Answers.{Answer, answer, valueUnfit, nothing, position, node, end, nodes}
-use Rattle.node.specs.Writing.{Outcome, writeAt}
+use Rattle.node.specs.Writing.{StoreOutcome, writeAt}
 use Rattle.host.specs.declared.nodes.Told.{Told}
 use Rattle.host.specs.declared.nodes.Told.the-variants as told
 
@@ -51,11 +51,11 @@ toldBy numbers =
     (pick (eqb (getD numbers 0 0) evaluated) (told.Node (Evaluated (getD numbers 1 0))) told.Nothing)))
 
 -- Writing what five numbers tell. What is no node is unfit: 10.
-unfoldable pub writeTold : List ℕ → ℕ → Told → Outcome
+unfoldable pub writeTold : List ℕ → ℕ → Told → StoreOutcome
 writeTold store p (told.Node n) = writeAt store p n
 writeTold store p told.Nothing = record { answer = answer valueUnfit nothing; store = store }
 
-abbrev pub writeIn : List ℕ → ℕ → List ℕ → Outcome
+abbrev pub writeIn : List ℕ → ℕ → List ℕ → StoreOutcome
 writeIn store p numbers = writeTold store p (toldBy numbers)
 
 -- The number of an answer.

@@ -1,15 +1,13 @@
 -- The reports in the host's words.
 use mathlib.Core.Bool.{Bool, true, false}
 use mathlib.Core.List.{List}
-use mathlib.Core.Path.{_≡_}
-use Prim.Native.Nat.{ℕ, _-_, _*_, _≤_}
+use Prim.Native.Nat.{ℕ, _-_, _*_}
 use lib.Dec.{eqb}
 use Rattle.item.specs.Item.{itemWords}
 use Rattle.grammar.specs.Rules.{Grammar}
 use Rattle.parse.specs.declared.State.{State}
-use Rattle.parse.specs.Words.{Words, within, startOf, maxItems}
-use Rattle.node.specs.Choice.{pick}
-use Rattle.recognizer.specs.Calls.{CallFault, Formed, Finishes}
+use Rattle.parse.specs.Words.{Words, within, startOf}
+use Rattle.demands.specs.Calls.{CallFault, Formed, Finishes}
 
 -- Finished: its number, and 1 for yes and 0 for no.
 pub data FinishesIn (file : List ℕ) (s : State) (w : Words) : ℕ → ℕ → Type 0 where
@@ -27,12 +25,3 @@ pub data ReportsIn (file : List ℕ) (s : State) (w : Words) : ℕ → ℕ → �
   done :
       {g : Grammar} → Formed file s w g
       → ReportsIn file s w 0 (itemWords * startOf (within w) (s .set)) (itemWords * (s .items - startOf (within w) (s .set)))
-
--- The items of a report that is done are within capacity, and the part is no longer than they are.
-pub record PartFits (number held words : ℕ) : Type 0 where
-  pub few : number ≡ 0 → held ≤ maxItems
-  pub within-items : number ≡ 0 → words ≤ itemWords * held
-
--- The place of the first word: the part ends where the items do.
-unfoldable pub firstWord : ℕ → ℕ → ℕ → ℕ
-firstWord number held words = pick (eqb number 0) (itemWords * held - words) 0

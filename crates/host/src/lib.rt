@@ -2,9 +2,9 @@
 // of a parse is two words of the host, the set number and the item count. include/brinesaddle.h describes each call for a host.
 ghost use mathlib.Core.Path.{_≡_};
 ghost use Rattle.grammar.specs.Answers.{Verdict};
-ghost use Rattle.recognizer.specs.Calls.{Starts, Takes, Runs};
-ghost use Rattle.recognizer.specs.Sentences.{TokenTells, RunTells, FinishedTells};
-ghost use Rattle.recognizer.specs.Steppable.{wordsOf};
+ghost use Rattle.demands.specs.Calls.{Starts, Takes, Runs};
+ghost use Rattle.demands.specs.Sentences.{TokenTells, RunTells, FinishedTells};
+ghost use Rattle.parse.specs.Words.{wordsOf};
 ghost use Rattle.node.specs.Reading.{readAt};
 ghost use Rattle.node.specs.Walking.{walkAt};
 ghost use Rattle.host.specs.Answers.{stateIn, outcomeIn, endedIn};
@@ -50,7 +50,10 @@ pub extern "C" fn brinesaddle_start(
     rows: &mut [u64],
     queue: &mut [u32],
 ) -> u32
-    ensures calls { λ r. ⌜ Starts (now (file .entry)) (stateIn (now (set .entry)) (now (held .entry))) (wordsOf (now (items .entry)) (now (starts .entry)) (now (rows .entry)) (now (queue .entry))) (outcomeIn r (now (set .exit)) (now (held .exit)) (wordsOf (now (items .exit)) (now (starts .exit)) (now (rows .exit)) (now (queue .exit)))) ⌝ }
+    ensures calls { λ r. ⌜ Starts (now (file .entry)) (stateIn (now (set .entry)) (now (held .entry)))
+        (wordsOf (now (items .entry)) (now (starts .entry)) (now (rows .entry)) (now (queue .entry)))
+        (outcomeIn r (now (set .exit)) (now (held .exit))
+        (wordsOf (now (items .exit)) (now (starts .exit)) (now (rows .exit)) (now (queue .exit)))) ⌝ }
 {
     let state = State {
         set: *set,
@@ -72,8 +75,12 @@ pub extern "C" fn brinesaddle_token(
     queue: &mut [u32],
     t: u32,
 ) -> u32
-    ensures calls { λ r. ⌜ Takes (now (file .entry)) (stateIn (now (set .entry)) (now (held .entry))) (wordsOf (now (items .entry)) (now (starts .entry)) (now (rows .entry)) (now (queue .entry))) t (outcomeIn r (now (set .exit)) (now (held .exit)) (wordsOf (now (items .exit)) (now (starts .exit)) (now (rows .exit)) (now (queue .exit)))) ⌝ }
-    ensures sentences { λ r. ⌜ TokenTells (now (file .entry)) (stateIn (now (set .entry)) (now (held .entry))) (wordsOf (now (items .entry)) (now (starts .entry)) (now (rows .entry)) (now (queue .entry))) t r ⌝ }
+    ensures calls { λ r. ⌜ Takes (now (file .entry)) (stateIn (now (set .entry)) (now (held .entry)))
+        (wordsOf (now (items .entry)) (now (starts .entry)) (now (rows .entry)) (now (queue .entry))) t
+        (outcomeIn r (now (set .exit)) (now (held .exit))
+        (wordsOf (now (items .exit)) (now (starts .exit)) (now (rows .exit)) (now (queue .exit)))) ⌝ }
+    ensures sentences { λ r. ⌜ TokenTells (now (file .entry)) (stateIn (now (set .entry)) (now (held .entry)))
+        (wordsOf (now (items .entry)) (now (starts .entry)) (now (rows .entry)) (now (queue .entry))) t r ⌝ }
 {
     let state = State {
         set: *set,
@@ -96,8 +103,18 @@ pub extern "C" fn brinesaddle_run(
     tokens: &[u16],
     taken: &mut usize,
 ) -> u32
-    ensures calls { λ r. ⌜ Runs (now (file .entry)) (stateIn (now (set .entry)) (now (held .entry))) (wordsOf (now (items .entry)) (now (starts .entry)) (now (rows .entry)) (now (queue .entry))) (now (tokens .entry)) (endedIn r (now (set .exit)) (now (held .exit)) (wordsOf (now (items .exit)) (now (starts .exit)) (now (rows .exit)) (now (queue .exit))) (now (taken .exit))) ⌝ }
-    ensures sentences { λ r. ⌜ RunTells (now (file .entry)) (stateIn (now (set .entry)) (now (held .entry))) (wordsOf (now (items .entry)) (now (starts .entry)) (now (rows .entry)) (now (queue .entry))) (now (tokens .entry)) (endedIn r (now (set .exit)) (now (held .exit)) (wordsOf (now (items .exit)) (now (starts .exit)) (now (rows .exit)) (now (queue .exit))) (now (taken .exit))) ⌝ }
+    ensures calls { λ r. ⌜ Runs (now (file .entry)) (stateIn (now (set .entry)) (now (held .entry)))
+        (wordsOf (now (items .entry)) (now (starts .entry)) (now (rows .entry)) (now (queue .entry)))
+        (now (tokens .entry))
+        (endedIn r (now (set .exit)) (now (held .exit))
+        (wordsOf (now (items .exit)) (now (starts .exit)) (now (rows .exit)) (now (queue .exit)))
+        (now (taken .exit))) ⌝ }
+    ensures sentences { λ r. ⌜ RunTells (now (file .entry)) (stateIn (now (set .entry)) (now (held .entry)))
+        (wordsOf (now (items .entry)) (now (starts .entry)) (now (rows .entry)) (now (queue .entry)))
+        (now (tokens .entry))
+        (endedIn r (now (set .exit)) (now (held .exit))
+        (wordsOf (now (items .exit)) (now (starts .exit)) (now (rows .exit)) (now (queue .exit)))
+        (now (taken .exit))) ⌝ }
 {
     let state = State {
         set: *set,
@@ -121,8 +138,12 @@ pub extern "C" fn brinesaddle_finished(
     queue: &[u32],
     yes: &mut u32,
 ) -> u32
-    ensures calls { λ r. ⌜ FinishesIn (now (file .entry)) (stateIn set held) (wordsOf (now (items .entry)) (now (starts .entry)) (now (rows .entry)) (now (queue .entry))) r (now (yes .exit)) ⌝ }
-    ensures sentences { λ r. ⌜ FinishedTells (now (file .entry)) (stateIn set held) (wordsOf (now (items .entry)) (now (starts .entry)) (now (rows .entry)) (now (queue .entry))) r (saysIn (now (yes .exit))) ⌝ }
+    ensures calls { λ r. ⌜ FinishesIn (now (file .entry)) (stateIn set held)
+        (wordsOf (now (items .entry)) (now (starts .entry)) (now (rows .entry)) (now (queue .entry))) r
+        (now (yes .exit)) ⌝ }
+    ensures sentences { λ r. ⌜ FinishedTells (now (file .entry)) (stateIn set held)
+        (wordsOf (now (items .entry)) (now (starts .entry)) (now (rows .entry)) (now (queue .entry))) r
+        (saysIn (now (yes .exit))) ⌝ }
 {
     let state = State { set, items: held };
     match recognizer::finished(file, state, items, starts, rows, queue) {
@@ -154,7 +175,9 @@ pub extern "C" fn brinesaddle_latest_set(
     first: &mut usize,
     count: &mut usize,
 ) -> u32
-    ensures calls { λ r. ⌜ ReportsIn (now (file .entry)) (stateIn set held) (wordsOf (now (items .entry)) (now (starts .entry)) (now (rows .entry)) (now (queue .entry))) r (now (first .exit)) (now (count .exit)) ⌝ }
+    ensures calls { λ r. ⌜ ReportsIn (now (file .entry)) (stateIn set held)
+        (wordsOf (now (items .entry)) (now (starts .entry)) (now (rows .entry)) (now (queue .entry))) r
+        (now (first .exit)) (now (count .exit)) ⌝ }
 {
     let state = State { set, items: held };
     let mut number = 0;
@@ -174,7 +197,8 @@ pub extern "C" fn brinesaddle_node_write(
     behind: &mut usize,
 ) -> u32
     ensures number { λ r. ⌜ r ≡ numberIn (writeIn (now (store .entry)) p (now (node .entry)) .answer) ⌝ }
-    ensures behind { λ _. ⌜ now (behind .exit) ≡ positionOr (now (behind .entry)) (writeIn (now (store .entry)) p (now (node .entry)) .answer) ⌝ }
+    ensures behind { λ _. ⌜ now (behind .exit) ≡ positionOr (now (behind .entry))
+        (writeIn (now (store .entry)) p (now (node .entry)) .answer) ⌝ }
     ensures store { λ _. ⌜ now (store .exit) ≡ writeIn (now (store .entry)) p (now (node .entry)) .store ⌝ }
 {
     let Told::Node(n) = node_of(node) else {

@@ -1,10 +1,12 @@
 // A parse's answers in the host's words.
 ghost use mathlib.Core.Path.{_≡_};
 ghost use Prim.Native.Nat.{min};
-ghost use Rattle.host.specs.Reports.{firstWord, PartFits};
+ghost use Rattle.host.specs.inner.Parts.{PartFits, firstWord};
 ghost use Rattle.recognizer.specs.Answers.{numberOf, stateOf};
 use item::ITEM_WORDS;
 use recognizer::Answer;
+use recognizer::number_of;
+use recognizer::state_of;
 
 // The token that stands for a number at the door. No grammar has as many tokens, so that numbers past a u16 may share one.
 pub fn narrow(t: u32) -> u16
@@ -22,18 +24,10 @@ pub fn tell(answer: Answer, set: &mut usize, held: &mut usize) -> u32
     ensures set { λ _. ⌜ now (set .exit) ≡ stateOf answer .set ⌝ }
     ensures held { λ _. ⌜ now (held .exit) ≡ stateOf answer .items ⌝ }
 {
-    match answer {
-        Answer::Done(state) => {
-            *set = state.set;
-            *held = state.items;
-            0
-        }
-        Answer::Refused(why, state) => {
-            *set = state.set;
-            *held = state.items;
-            recognizer::refusal_number(why)
-        }
-    }
+    let state = state_of(answer);
+    *set = state.set;
+    *held = state.items;
+    number_of(answer)
 }
 
 // The place of the first word of the latest set: behind it there are `words` words of the items held. Place 0 when refused.

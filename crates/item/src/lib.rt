@@ -1,4 +1,5 @@
-// An item is two words of a lent slice: its origin, then its rule. Every access to the words of items goes through this crate.
+// An item is two words of a lent slice: its origin, then its rule. The library tells, stores and compares items through this crate alone;
+// elsewhere their words are only cleared, tested for 0, and lent on.
 ghost use mathlib.Core.Path.{_≡_};
 ghost use lib.ListN.{length};
 ghost use lib.Dec.{ltb};

@@ -1,5 +1,5 @@
 -- How a yes or no comes about.
-use mathlib.Core.Path.{_≡_}
+use mathlib.Core.Path.{_≡_, refl, sym, subst, _∙_}
 use mathlib.Core.Bool.{Bool, true, false, not}
 use Prim.Native.Nat.{ℕ, _≤_, _<_}
 use native.Mathlib.Omega.{arith}
@@ -41,3 +41,29 @@ module _ {P : Type 0} where
 -- What decides P decides whatever holds exactly where P does.
 pub decides-map : {P Q : Type 0} {b : Bool} → (P → Q) → (Q → P) → Decides b P → Decides b Q
 decides-map to from d = record { if-yes = λ e. to (d .if-yes e); if-no = λ e q. d .if-no e (from q) }
+
+-- No, where a part of it was told not to hold.
+pub part-fails : {a : Bool} {P Q : Type 0} → Decides a P → not a ≡ true → (Q → P) → Decides false Q
+part-fails {a} d e part = says-no (λ q. d .if-no (not-true a e) (part q))
+
+-- What was told to hold holds.
+pub passes : {a : Bool} {P : Type 0} → Decides a P → not a ≡ false → P
+passes {a} d e = d .if-yes (not-false a e)
+
+-- What decides of two numbers decides of their equals.
+pub decides-of : {r : Bool} (P : ℕ → ℕ → Type 0) {a b c d : ℕ} → a ≡ c → b ≡ d → Decides r (P a b) → Decides r (P c d)
+decides-of {r} P {a} {b} {c} {d} p q t = subst (λ (y : ℕ). Decides r (P c y)) q (subst (λ (x : ℕ). Decides r (P x b)) p t)
+
+-- What equals a comparison decides it.
+pub says-lower : {r : Bool} (a b : ℕ) → r ≡ ltb a b → Decides r (a < b)
+says-lower {r} a b s = subst (λ (t : Bool). Decides t (a < b)) (sym s) (says-ltb a b (λ l. l) (λ m l. not-lt m l))
+  where
+    not-lt : b ≤ a → a < b → ⊥
+    not-lt m l = omega arith
+
+-- Two answers that decide one thing agree.
+pub decide-alike : {a b : Bool} {P : Type 0} → Decides a P → Decides b P → a ≡ b
+decide-alike {a = true} {b = true} s t = refl
+decide-alike {a = true} {b = false} s t = absurd (t .if-no refl (s .if-yes refl))
+decide-alike {a = false} {b = true} s t = absurd (s .if-no refl (t .if-yes refl))
+decide-alike {a = false} {b = false} s t = refl

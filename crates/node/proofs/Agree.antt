@@ -3,7 +3,7 @@ use mathlib.Core.Path.{_≡_, refl, sym, ap, _∙_}
 use mathlib.Core.List.{List}
 use Prim.Native.Nat.{ℕ}
 use Rattle.node.specs.Answers.{answer, written, found, walked}
-use Rattle.node.specs.Writing.{Outcome}
+use Rattle.node.specs.Writing.{StoreOutcome}
 use Rattle.node.specs.declared.Written.{Written}
 use Rattle.node.specs.declared.Written.the-variants.{Behind, Unfit, NoRoom}
 use Rattle.node.specs.declared.Found.{Found}
@@ -54,10 +54,10 @@ pub record Settled (a b : Written) (s t : List ℕ) : Type 0 where
   pub stores : s ≡ t
 
 pub writes-settled :
-    (a b : Written) (s t : List ℕ) (o : Outcome) → record { answer = written a; store = s } ≡ o
+    (a b : Written) (s t : List ℕ) (o : StoreOutcome) → record { answer = written a; store = s } ≡ o
     → record { answer = written b; store = t } ≡ o
     → Settled a b s t
 writes-settled a b s t o first second =
-    let same : _≡_ {A = Outcome} (record { answer = written a; store = s }) (record { answer = written b; store = t }) = first
+    let same : _≡_ {A = StoreOutcome} (record { answer = written a; store = s }) (record { answer = written b; store = t }) = first
     ∙ sym second in
     record { answers = writes-agree a b (ap (λ x. x .answer) same); stores = ap (λ x. x .store) same }

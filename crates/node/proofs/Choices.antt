@@ -6,7 +6,7 @@ use lib.Dec.{ltb, leb}
 use borrow.Author.Tests.{ltb-true, leb-true, leb-false, le-leb, lt-leb}
 use Rattle.node.specs.Choice.{both, bothBelow}
 
-pub record Below (a x b y : ℕ) : Type 0 where
+pub record BothBelow (a x b y : ℕ) : Type 0 where
   pub first : a < x
   pub second : b < y
 
@@ -28,7 +28,7 @@ pub both-true : (s t : Bool) → both s t ≡ true → Both s t
 both-true s t e = record { first = both-first s t e; second = both-second s t e }
 
 -- A test of two bounds that holds gives the bounds.
-pub below : {a x b y : ℕ} {r : Bool} → r ≡ bothBelow a x b y → r ≡ true → Below a x b y
+pub below : {a x b y : ℕ} {r : Bool} → r ≡ bothBelow a x b y → r ≡ true → BothBelow a x b y
 unfolding bothBelow
 below {a} {x} {b} {y} e t =
     let h : Both (ltb a x) (ltb b y) = both-true _ _ (sym e ∙ t) in

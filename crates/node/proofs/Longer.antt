@@ -15,7 +15,7 @@ use Rattle.node.specs.declared.Right.the-variants.{At, Nothing}
 use Rattle.node.specs.declared.Node.{Node}
 use Rattle.node.specs.declared.Node.the-variants.{Sum, Product, NullingLeaf, Evaluated}
 use Rattle.node.specs.declared.Spelt.the-variants.{Like}
-use Rattle.node.proofs.Choices.{Below, below}
+use Rattle.node.proofs.Choices.{BothBelow, below}
 use Rattle.node.proofs.Fillers.{head-here}
 use Rattle.node.proofs.Stands as S
 use Rattle.node.proofs.Spells as Sp
@@ -111,7 +111,7 @@ longer-is-12 s p (alone {action = a} {left = l} hl ha) st = on (bothBelow (dista
 
     on : (t : Bool) → bothBelow (distance p l) 32 a 256 ≡ t → readUnits s p ≡ answer noNode nothing
     on true e =
-        let b : Below (distance p l) 32 a 256 = below (sym e) refl in
+        let b : BothBelow (distance p l) 32 a 256 = below (sym e) refl in
         not-own s p (0xC000 + high a) (Product a l Nothing) _ _ (S.first-stands s p _ _ st .first .within) begins (λ e. omega (
           arith,
           e,

@@ -11,7 +11,7 @@ use borrow.Author.Tests.{leb-true}
 use Rattle.node.specs.Choice.{pick}
 use Rattle.node.specs.Rows.{unitsOf, unitsAt, listOf, unfit, rowOf, countLimit}
 use Rattle.node.specs.Answers.{Answer, answer, done, valueUnfit, outOfRoom, node, position, nothing}
-use Rattle.node.specs.Writing.{Outcome, usable, usableUnits, put, place, writeUnits, writeAt}
+use Rattle.node.specs.Writing.{StoreOutcome, usable, usableUnits, put, place, writeUnits, writeAt}
 use Rattle.node.specs.Reading.{filler, headFrom, standAll, stand, speltBy, longSpelt, valueAt, readUnits, readAt}
 use Rattle.node.specs.declared.Node.{Node}
 use Rattle.node.specs.declared.Node.the-variants.{Sum}
@@ -75,7 +75,7 @@ did-write s p [] b t e =
 did-write s p (u ∷ us) b t e = on (leb (p + suc (length us)) (length (usable s))) refl e
   where
     on : (c : Bool) → leb (p + suc (length us)) (length (usable s)) ≡ c
-        → _≡_ {A = Outcome}
+        → _≡_ {A = StoreOutcome}
         (pick c (record { answer = answer done (position (p + suc (length us))); store = put s p (u ∷ us) })
         (record { answer = answer outOfRoom nothing; store = s }))
         (record { answer = answer done (position b); store = t })

@@ -12,7 +12,7 @@ use lib.Seq.{take-all}
 use Rattle.node.specs.Choice.{both}
 use Rattle.node.specs.Rows.{listOf}
 use Rattle.node.specs.Answers.{answer, done, valueUnfit, outOfRoom, nothing, position}
-use Rattle.node.specs.Writing.{Outcome, usable, usableUnits, put, place, writeUnits}
+use Rattle.node.specs.Writing.{StoreOutcome, usable, usableUnits, put, place, writeUnits}
 use Rattle.node.specs.Reading.{holds, standAll, stand}
 use Rattle.node.specs.declared.Units.{Units}
 use Rattle.node.proofs.Choices.{Both, both-true}
@@ -114,13 +114,13 @@ place-full s p us full = rw (lt-leb (p + length us) (length (usable s)) (omega (
 -- The same of w units, and the store that was left.
 pub wrote :
     (s : List ℕ) (p : ℕ) (us : List ℕ) (w : ℕ) (left : List ℕ) → (w ≡ 0 → ⊥) → w ≡ length us → p + w ≤ min usableUnits (length s)
-    → left ≡ put s p us → _≡_ {A = Outcome} (record { answer = answer done (position (p + w)); store = left }) (writeUnits s p us)
+    → left ≡ put s p us → _≡_ {A = StoreOutcome} (record { answer = answer done (position (p + w)); store = left }) (writeUnits s p us)
 wrote s p us w left some is fits put-is =
     rw (put-is, is) (sym (write-some s p us (λ z. some (is ∙ z)) ∙ place-done s p us (omega (arith, fits, is))))
 
 pub not-wrote :
     (s : List ℕ) (p : ℕ) (us : List ℕ) (w : ℕ) → (w ≡ 0 → ⊥) → w ≡ length us → min usableUnits (length s) < p + w
-    → _≡_ {A = Outcome} (record { answer = answer outOfRoom nothing; store = s }) (writeUnits s p us)
+    → _≡_ {A = StoreOutcome} (record { answer = answer outOfRoom nothing; store = s }) (writeUnits s p us)
 not-wrote s p us w some is full =
     sym (write-some s p us (λ z. some (is ∙ z)) ∙ place-full s p us (omega (arith, full, is)))
 

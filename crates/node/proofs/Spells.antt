@@ -18,7 +18,7 @@ use Rattle.node.specs.declared.Node.{Node}
 use Rattle.node.specs.declared.Node.the-variants.{Sum, Product, NullingLeaf, Evaluated}
 use Rattle.node.specs.declared.Units.the-variants.{Unfit, One, Two, Four}
 use Rattle.node.specs.declared.Spelt.the-variants.{Like}
-use Rattle.node.proofs.Choices.{Below, below, Both, both-true}
+use Rattle.node.proofs.Choices.{BothBelow, below, Both, both-true}
 use Rattle.node.proofs.Fit.{fit-sum, fit-product, either-second}
 use Rattle.node.proofs.Stands as S
 
@@ -151,7 +151,7 @@ module _ (s : List ℕ) (q : ℕ) where
           → stand s q (listOf (pick t (One (c * 256 + n)) (Four (0xE000 + high c) (low c) (low n) (high n)))) ≡ true
           → spelt s q ≡ Like (Sum c n)
       on true e st =
-          let b : Below c 32 n 256 = below (sym e) refl in
+          let b : BothBelow c 32 n 256 = below (sym e) refl in
           short-sum s q _ c n (b .first) (b .second) (S.first-stands s q _ _ st .first .there)
       on false e st =
           let f : S.Four s q (0xE000 + high c) (low c) (high n * 65536 + low n) = S.four-stand s q _ _ _ _ _ st in
@@ -175,7 +175,7 @@ module _ (s : List ℕ) (q : ℕ) where
           → stand s q (listOf (pick t (Two (0x4000 + distance q l) a) (longProduct a l allOnes))) ≡ true
           → spelt s q ≡ Like (Product a l Nothing)
       middle true e st =
-          let b : Below (distance q l) 8192 a 65536 = below (sym e) refl in
+          let b : BothBelow (distance q l) 8192 a 65536 = below (sym e) refl in
           let f : S.First s q (0x4000 + distance q l) (a ∷ []) = S.first-stands s q _ _ st in
           middle-alone s q _ (distance q l) a l (b .first) (f .first .there) (S.first-stands s (q + 1) _ _ (f .others) .first .there)
           (factor-back q l (b .first))
@@ -186,7 +186,7 @@ module _ (s : List ℕ) (q : ℕ) where
           (pick (bothBelow (distance q l) 8192 a 65536) (Two (0x4000 + distance q l) a) (longProduct a l allOnes)))) ≡ true
           → spelt s q ≡ Like (Product a l Nothing)
       short true e st =
-          let b : Below (distance q l) 32 a 256 = below (sym e) refl in
+          let b : BothBelow (distance q l) 32 a 256 = below (sym e) refl in
           short-alone s q _ (distance q l) a l (b .first) (b .second) (S.first-stands s q _ _ st .first .there)
           (factor-back q l (omega (arith, b .first)))
       short false e st = middle (bothBelow (distance q l) 8192 a 65536) refl st
@@ -202,7 +202,7 @@ module _ (s : List ℕ) (q : ℕ) where
           → spelt s q ≡ Like (Product a l (At r))
       on true e st =
           let two : Both (ltb a 65536) (bothBelow (distance q r) 32 (distance q l) 256) = both-true _ _ e in
-          let b : Below (distance q r) 32 (distance q l) 256 = below (sym (two .second)) refl in
+          let b : BothBelow (distance q r) 32 (distance q l) 256 = below (sym (two .second)) refl in
           let f : S.First s q (0x6000 + distance q r * 256 + distance q l) (a ∷ []) = S.first-stands s q _ _ st in
           short-pair s q _ (distance q r) (distance q l) a l r (b .first) (b .second) (f .first .there)
           (S.first-stands s (q + 1) _ _ (f .others) .first .there)

@@ -21,21 +21,21 @@ put store p [] = store
 put store p (u ∷ us) = put (set store p u) (p + 1) us
 
 -- An answer, and the store that it leaves.
-pub record Outcome : Type 0 where
+pub record StoreOutcome : Type 0 where
   pub answer : Answer
   pub store : List ℕ
 
 -- Units at p: 11 where they do not fit the store from there.
-unfoldable pub place : List ℕ → ℕ → List ℕ → Outcome
+unfoldable pub place : List ℕ → ℕ → List ℕ → StoreOutcome
 place store p us =
     pick (leb (p + length us) (length (usable store)))
     (record { answer = answer done (position (p + length us)); store = put store p us })
     (record { answer = answer outOfRoom nothing; store = store })
 
 -- 10 where the node is unfit and so has no units.
-unfoldable pub writeUnits : List ℕ → ℕ → List ℕ → Outcome
+unfoldable pub writeUnits : List ℕ → ℕ → List ℕ → StoreOutcome
 writeUnits store p [] = record { answer = answer valueUnfit nothing; store = store }
 writeUnits store p (u ∷ us) = place store p (u ∷ us)
 
-abbrev pub writeAt : List ℕ → ℕ → Node → Outcome
+abbrev pub writeAt : List ℕ → ℕ → Node → StoreOutcome
 writeAt store p node = writeUnits store p (unitsAt p node)

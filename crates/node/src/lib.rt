@@ -1,7 +1,7 @@
 // The node store: nodes of a parse forest in u16 units, one node behind another. Write one, read one, walk.
 ghost use mathlib.Core.Path.{_≡_};
 ghost use Rattle.node.specs.Answers.{written, found, walked};
-ghost use Rattle.node.specs.Writing.{Outcome, writeAt, usable};
+ghost use Rattle.node.specs.Writing.{StoreOutcome, writeAt, usable};
 ghost use Rattle.node.specs.Reading.{readAt, Exactly};
 ghost use Rattle.node.specs.Walking.{walkAt};
 

@@ -6,7 +6,7 @@ ghost use Prim.Native.Nat.{_+_, _≤_, min};
 ghost use lib.ListN.{length};
 ghost use lib.Dec.{leb};
 ghost use Rattle.node.specs.Answers.{written};
-ghost use Rattle.node.specs.Writing.{Outcome, put, usableUnits, writeUnits};
+ghost use Rattle.node.specs.Writing.{StoreOutcome, put, usableUnits, writeUnits};
 ghost use Rattle.node.specs.Rows.{listOf};
 use crate::Units;
 use crate::Written;
@@ -88,7 +88,8 @@ pub fn width(units: Units) -> usize
 
 // Units at p, or why not.
 pub fn place_units(store: &mut [u16], p: usize, units: Units) -> Written
-    ensures { λ r. ⌜ record { answer = written r; store = now (store .exit) } ≡ writeUnits (now (store .entry)) p (listOf units) ⌝ }
+    ensures { λ r. ⌜ record { answer = written r; store = now (store .exit) } ≡ writeUnits (now (store .entry)) p
+        (listOf units) ⌝ }
 {
     let count = width(units);
     if count == 0 {

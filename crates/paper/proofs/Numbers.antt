@@ -16,10 +16,10 @@ use Rattle.completion.specs.Complete.{completeMedial, completeMedialItems, comp
 use Rattle.completion.specs.Sums.{nextSummand, popSum, completeSum, completeAllSums}
 use Rattle.advance.specs.NewItems.{itemsFrom, insert, sortInto, binary}
 use Rattle.advance.specs.Advance.{highest, greatestOrigin, predictions}
-use Rattle.recognizer.specs.Steps.{advanced, stepped, ran}
-use Rattle.recognizer.specs.Calls.{Sound}
-use Rattle.recognizer.proofs.Tabled.{rowsOf, tableOf}
-use Rattle.recognizer.proofs.Examples.{rows-a, rows-b, sound-a, sound-b}
+use Rattle.demands.specs.Steps.{advanced, stepped, ran}
+use Rattle.demands.specs.Calls.{Sound}
+use Rattle.demands.proofs.Tabled.{rowsOf, tableOf}
+use Rattle.demands.proofs.Examples.{rows-a, rows-b, sound-a, sound-b}
 use Rattle.node.proofs.Numbers.{Row, row, All, joined, nodeRows, numbers}
 use Rattle.paper.proofs.Trials.{zeroed, Printed, ended, tried}
 

@@ -9,12 +9,12 @@ use Rattle.item.specs.Item.{itemWords}
 use Rattle.grammar.specs.File.{grammarOf}
 use Rattle.parse.specs.declared.State.{State}
 use Rattle.parse.specs.Words.{Words, setRoom, within}
-use Rattle.recognizer.specs.Steps.{Outcome, Ended, started, ran, lastWraps}
-use Rattle.recognizer.specs.Calls.{Sound, Formed, inPlace, inPlaceEnded, Starts, Runs, Finishes}
-use Rattle.recognizer.specs.Histories.{History}
-use Rattle.recognizer.proofs.Agree.{starts-agree, runs-agree, finishes-agree}
-use Rattle.recognizer.proofs.Again.{started-ready}
-use Rattle.recognizer.proofs.Lasting.{lasts, lasts-holding}
+use Rattle.demands.specs.Steps.{Outcome, Ended, started, ran, lastWraps}
+use Rattle.demands.specs.Calls.{Sound, Formed, inPlace, inPlaceEnded, Starts, Runs, Finishes}
+use Rattle.demands.specs.Histories.{History}
+use Rattle.demands.proofs.Agree.{starts-agree, runs-agree, finishes-agree}
+use Rattle.demands.proofs.Again.{started-ready}
+use Rattle.demands.proofs.Lasting.{lasts, lasts-holding}
 
 -- Words of 0 with the capacities I, E and Q.
 abbrev pub zeroed : ℕ → ℕ → ℕ → Words

@@ -10,7 +10,7 @@ use lib.Pow.{shr-shr, shr-le, pow-lt, pow-pos}
 use Rattle.laws.specs.Bits.{wordBits, bit, bitAt, Holds, rowOf, Below}
 use Rattle.laws.proofs.Bits.{bit-small, bit-zero, bit-place, word-ext, past-end}
 use Rattle.laws.proofs.Rows.{row-word}
-use Rattle.parse.specs.Parts.{WordBelow}
+use Rattle.parse.specs.inner.Parts.{WordBelow}
 
 -- A word whose bits from k on are 0 is 0 when shifted by k.
 pub shifted-out : (w k : ℕ) → w < 2 ^ wordBits → ((b : ℕ) → b < wordBits → k ≤ b → bit w b ≡ 0) → w / 2 ^ k ≡ 0

@@ -5,7 +5,7 @@ use Prim.Native.Nat.{ℕ, _≤_}
 use native.Mathlib.Decide.{decLt}
 use native.Mathlib.Omega.{arith}
 use lib.ListN.{length, getD, List·getD-eq-default}
-use Rattle.parse.specs.Tells.{Clear}
+use Rattle.parse.specs.inner.Parts.{Clear}
 use Rattle.parse.proofs.Passing.{Passed}
 
 -- The word at a place is 0.

@@ -10,13 +10,13 @@ use lib.ListN.{getD}
 use lib.Dec.{eqb}
 use Rattle.item.specs.Item.{Item, itemAt}
 use Rattle.grammar.specs.Rules.{none}
-use Rattle.grammar.specs.Decoded.{secondIn, rulesIn}
+use Rattle.grammar.specs.inner.Decoded.{secondIn, rulesIn}
 use Rattle.grammar.proofs.Decoding.{in-count}
 use Rattle.parse.specs.WellFormed.{Fits, secondOf, placing}
-use Rattle.parse.specs.Tells.{Tells}
-use Rattle.parse.specs.Parts.{NeverFalls, AllFit, Among}
+use Rattle.laws.specs.Decides.{Decides}
+use Rattle.parse.specs.inner.Parts.{NeverFalls, AllFit, Among}
 use Rattle.parse.proofs.Placing.{second-in}
-use Rattle.parse.proofs.Telling.{differ}
+use Rattle.laws.proofs.Decides.{says-differ}
 
 -- One start is not above the next.
 abbrev pub Up : List ℕ → ℕ → Type 0
@@ -40,11 +40,11 @@ among-more items from to count most h l = record { each = λ p a b. omega (arith
 
 -- Of an item with an earlier origin and a rule that is there, the test of its second tells whether it fits.
 pub second-tells : (rules : List ℕ) (count k : ℕ) (i : Item) (rule second : ℕ) → rule ≡ i .rule → second ≡ secondIn rules rule → i .origin < k → rule < count
-    → Tells (not (eqb second none)) (Fits (rulesIn rules count) k i)
+    → Decides (not (eqb second none)) (Fits (rulesIn rules count) k i)
 second-tells rules count k i rule second er es a b =
-    differ second none
+    says-differ second none
     (λ n. record { earlier = a; is-rule = omega (arith, in-count rules 0 0 count); has-second = λ e. n (seen ∙ e) })
-    (λ h e. h .has-second (sym seen ∙ e))
+    (λ e h. h .has-second (sym seen ∙ e))
   where
     seen : second ≡ secondOf (rulesIn rules count) i
     seen = es ∙ ap (secondIn rules) er ∙ sym (second-in rules count i (omega arith))

@@ -9,7 +9,7 @@ use Rattle.grammar.specs.Rules.{Rule}
 use Rattle.parse.specs.declared.State.{State}
 use Rattle.parse.specs.Words.{Words}
 use Rattle.parse.specs.WellFormed.{WellFormed}
-use Rattle.parse.specs.Parts.{StartsFit, SetsFit, RowsBelow, SpareClear}
+use Rattle.parse.specs.inner.Parts.{StartsFit, SetsFit, RowsBelow, SpareClear}
 
 module _ (n : ℕ) (rs : List Rule) (s : State) (v : Words) where
   -- The parts make the whole.

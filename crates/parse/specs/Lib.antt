@@ -1,5 +1,4 @@
 -- The words of a parse, and what well formed means.
 pub mod Words
 pub mod WellFormed
-pub mod Tells
-pub mod Parts
+pub mod inner

@@ -1,7 +1,7 @@
 -- The words that a host lends to a parse, and how many of them count.
 use mathlib.Core.List.{List, _++_}
 use Prim.Native.Nat.{ℕ, _+_, _-_, _*_, _/_, min}
-use lib.ListN.{length, getD, take, drop}
+use lib.ListN.{length, getD, take, drop, replicate}
 use Rattle.item.specs.Item.{itemWords}
 use Rattle.bits.specs.Width.{rowWords}
 
@@ -11,6 +11,14 @@ pub record Words : Type 0 where
   pub starts : List ℕ
   pub rows : List ℕ
   pub queue : List ℕ
+
+-- The words of a parse, from the four slices.
+abbrev pub wordsOf : List ℕ → List ℕ → List ℕ → List ℕ → Words
+wordsOf items starts rows queue = record { items = items; starts = starts; rows = rows; queue = queue }
+
+-- Words, and 0 behind them up to `size` words.
+abbrev pub padded : ℕ → List ℕ → List ℕ
+padded size words = words ++ replicate (size - length words) 0
 
 -- The most items, sets and queue entries.
 abbrev pub maxItems : ℕ

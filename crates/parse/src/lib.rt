@@ -4,8 +4,9 @@ ghost use Prim.Native.Nat.{ℕ, _+_, _/_, _≤_};
 ghost use lib.ListN.{length};
 ghost use Rattle.bits.specs.Width.{rowWords};
 ghost use Rattle.grammar.specs.Accepted.{maxRules};
-ghost use Rattle.grammar.specs.Decoded.{rulesIn};
-ghost use Rattle.parse.specs.Tells.{Tells};
+ghost use Rattle.grammar.specs.inner.Decoded.{rulesIn};
+ghost use Rattle.laws.specs.Decides.{Decides};
+ghost use Rattle.parse.specs.Words.{wordsOf};
 ghost use Rattle.parse.specs.WellFormed.{WellFormed};
 use bits::WIDTH;
 use grammar::rules::Rules;
@@ -16,6 +17,7 @@ pub mod room;
 pub mod rows;
 pub mod sets;
 pub mod spare;
+pub mod words;
 
 // A parse by value: the number of the latest set, and the number of items in all sets.
 pub struct State {
@@ -36,7 +38,9 @@ pub fn well_formed(
     queue: &[u32],
 ) -> bool
     requires { ⌜ (count ≤ maxRules) × (length (now starts) ≡ length (now rows) / rowWords + 1) ⌝ }
-    ensures { λ r. ⌜ Tells r (WellFormed symbols (rulesIn (now (rules .entry)) count) state (record { items = now (items .entry); starts = now (starts .entry); rows = now (rows .entry); queue = now (queue .entry) })) ⌝ }
+    ensures { λ r. ⌜ Decides r
+        (WellFormed symbols (rulesIn (now (rules .entry)) count) state
+        (wordsOf (now (items .entry)) (now (starts .entry)) (now (rows .entry)) (now (queue .entry)))) ⌝ }
 {
     let set = state.set;
     let held = state.items;

@@ -12,10 +12,10 @@ use Rattle.laws.proofs.Lists.{zeros-word}
 use Rattle.laws.specs.Bits.{wordBits, Holds, Row, adding}
 use Rattle.laws.proofs.Bits.{adding-new, adding-kept, adding-one, adding-row, zeros-hold}
 use Rattle.grammar.specs.Accepted.{maxSymbols}
-use Rattle.grammar.specs.Decoded.{leftIn, firstIn}
+use Rattle.grammar.specs.inner.Decoded.{leftIn, firstIn}
 use Rattle.grammar.specs.Prediction.{rowAt}
-use Rattle.prediction.specs.Tables.{Bit, Shape, Step, Seeded}
-use Rattle.prediction.specs.Tables.Step.{own, first}
+use Rattle.prediction.specs.inner.Tables.{Bit, Shape, Step, Seeded}
+use Rattle.prediction.specs.inner.Tables.Step.{own, first}
 
 module _ (table : List (List ℕ)) (i : ℕ) (row : List ℕ) where
   -- Another row `i`: that row is there, and every other row is kept.

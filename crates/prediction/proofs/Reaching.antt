@@ -7,18 +7,18 @@ use Prim.Native.Nat.{ℕ, zero, suc, _<_}
 use native.Mathlib.Omega.{arith}
 use Rattle.grammar.specs.Rules.{Grammar, ruleCount}
 use Rattle.grammar.specs.Accepted.{Accepted}
-use Rattle.grammar.specs.Decoded.{leftIn, firstIn, grammarIn}
+use Rattle.grammar.specs.inner.Decoded.{leftIn, firstIn, grammarIn}
 use Rattle.grammar.specs.Prediction.{Reaches, Predicts, rowAt}
 use Rattle.grammar.specs.Prediction.Reaches.{here, by-first}
 use Rattle.grammar.proofs.Reached.{reaches-trans}
 use Rattle.grammar.proofs.Decoding.{in-count, in-left, in-first, in-says}
-use Rattle.prediction.specs.Tables.{Bit, Within, Step, Seeded, Chain, Closed, Low}
-use Rattle.prediction.specs.Tables.Step.{own, first}
-use Rattle.prediction.specs.Tables.Chain.{link, join}
+use Rattle.prediction.specs.inner.Tables.{Bit, Within, Step, Seeded, Chain, Closed, LowRows}
+use Rattle.prediction.specs.inner.Tables.Step.{own, first}
+use Rattle.prediction.specs.inner.Tables.Chain.{link, join}
 
 module _ (words : List ℕ) (width n count : ℕ) (within : Within words n count) (seed : List (List ℕ)) (h : Seeded words width n count seed) where
   -- Steps start at symbols.
-  pub seed-low : Low n seed
+  pub seed-low : LowRows n seed
   seed-low = record { low = λ x y b. start (h .no-more x y b) }
     where
       start : {x y : ℕ} → Step words n count x y → x < n

@@ -10,7 +10,7 @@ use Rattle.laws.specs.Bits.{Holds, union}
 use Rattle.laws.proofs.Bits.{union-left, union-right, union-one, union-row}
 use Rattle.grammar.specs.Accepted.{maxSymbols}
 use Rattle.grammar.specs.Prediction.{rowAt}
-use Rattle.prediction.specs.Tables.{Bit, Shape, Chain, Closed, Low}
+use Rattle.prediction.specs.inner.Tables.{Bit, Shape, Chain, Closed, LowRows}
 use Rattle.prediction.proofs.Cells.{row-new, row-kept, shape-kept}
 
 -- A chain of the seed's bits through middle symbols below `k`.
@@ -63,7 +63,7 @@ module _ (width : ℕ) (seed : List (List ℕ)) where
   narrow {k} {x} {y} (join {m = m} l p q) = merge k x m y l (narrow p) (narrow q)
 
   -- Chains start at low symbols where bits do.
-  via-low : {n k x y : ℕ} → Low n seed → Via seed k x y → x < n
+  via-low : {n k x y : ℕ} → LowRows n seed → Via seed k x y → x < n
   via-low h (link {x = x} {y = y} b) = h .low x y b
   via-low h (join l p q) = via-low h p
 
@@ -85,7 +85,7 @@ module _ (width : ℕ) (seed : List (List ℕ)) where
     complete = λ x y l. h .complete x y;
   }
 
-  pub turn-ends : (n k i : ℕ) (table : List (List ℕ)) → Low n seed → InTurn width seed k i table → n ≤ i → Level width seed (k + 1) table
+  pub turn-ends : (n k i : ℕ) (table : List (List ℕ)) → LowRows n seed → InTurn width seed k i table → n ≤ i → Level width seed (k + 1) table
   turn-ends n k i table low h l = record {
     shape = h .shape;
     sound = λ x y b. elim (decLt x i) [ yes m ↦ h .past-sound x y m b | no g ↦ widen (h .sound x y (omega arith) b) ];
@@ -167,7 +167,7 @@ module _ (width : ℕ) (seed : List (List ℕ)) where
   chained (link b) = Chain.link b
   chained (join l p q) = Chain.join (chained p) (chained q)
 
-  pub closed : (n k : ℕ) (table : List (List ℕ)) → Low n seed → Level width seed k table → n ≤ k → Closed width seed table
+  pub closed : (n k : ℕ) (table : List (List ℕ)) → LowRows n seed → Level width seed k table → n ≤ k → Closed width seed table
   closed n k table low h l = record {
     shape = h .shape;
     no-more = λ x y b. chained (h .sound x y b);

@@ -1,2 +1,2 @@
 -- How the prediction table comes about.
-pub mod Tables
+pub mod inner

@@ -3,9 +3,9 @@ ghost use mathlib.Core.Path.{_≡_};
 ghost use Prim.Native.Nat.{ℕ, _≤_, _<_};
 ghost use Rattle.bits.specs.Width.{rowWords};
 ghost use Rattle.grammar.specs.Accepted.{maxSymbols, maxRules};
-ghost use Rattle.grammar.specs.Decoded.{grammarIn};
+ghost use Rattle.grammar.specs.inner.Decoded.{grammarIn};
 ghost use Rattle.grammar.specs.Prediction.{Predicts};
-ghost use Rattle.prediction.specs.Tables.{Within, Shape, Seeded, Closed, Low};
+ghost use Rattle.prediction.specs.inner.Tables.{Within, Shape, Seeded, Closed, LowRows};
 use bits::Row;
 use bits::add;
 use bits::has;
@@ -38,7 +38,7 @@ fn seed(rules: &Rules, n: usize, count: usize) -> Table
 
 // The closure, in Warshall's order: after turn `k` row `i` holds what is reached from `i` through symbols up to `k`.
 fn close(seed: Table, n: usize) -> Table
-    requires { ⌜ (n ≤ maxSymbols) × Shape rowWords seed × Low n seed ⌝ }
+    requires { ⌜ (n ≤ maxSymbols) × Shape rowWords seed × LowRows n seed ⌝ }
     ensures { λ r. ⌜ Closed rowWords seed r ⌝ }
 {
     let mut table = seed;

@@ -13,7 +13,7 @@ use Rattle.recognizer.specs.declared.Answer.the-variants.{Done, Refused}
 use Rattle.recognizer.specs.declared.Ran.{Ran}
 use Rattle.recognizer.specs.declared.Whether.{Whether}
 use Rattle.recognizer.specs.declared.Whether.the-variants as says
-use Rattle.recognizer.specs.Steps.{Outcome, Ended}
+use Rattle.demands.specs.Steps.{Outcome, Ended}
 use Rattle.recognizer.specs.Answers.{refusalNumber, numberOf, stateOf, finishedNumber, saysYes, outcomeOf, endedOf}
 
 -- The refusals by their numbers, from 1 on.

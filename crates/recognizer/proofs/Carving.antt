@@ -12,8 +12,8 @@ use Rattle.parse.specs.declared.State.{State}
 use Rattle.parse.specs.Words.{Words, itemRoom, setRoom, queueRoom, within, beyond, behind}
 use Rattle.parse.specs.WellFormed.{WellFormed}
 use Rattle.parse.proofs.Capacities.{SameSizes, sets-room}
-use Rattle.recognizer.specs.Steps.{Outcome}
-use Rattle.recognizer.specs.Calls.{inPlace}
+use Rattle.demands.specs.Steps.{Outcome}
+use Rattle.demands.specs.Calls.{inPlace}
 
 -- A well-formed state has room for a set, so the starts within the capacities are there.
 pub some-set : {n : ℕ} {rs : List Rule} {s : State} (w : Words) → WellFormed n rs s (within w) → 1 ≤ setRoom w
@@ -41,20 +41,18 @@ first w i e q =
       queue = take q (w .queue);
     }
 
+abbrev pub put-back : Words → ℕ → ℕ → ℕ → Words → Words
+put-back w i e q v =
+    behind v
+    (record {
+      items = drop (itemWords * i) (w .items);
+      starts = drop (e + 1) (w .starts);
+      rows = drop (rowWords * e) (w .rows);
+      queue = drop q (w .queue);
+    })
+
 abbrev pub replaced : Words → ℕ → ℕ → ℕ → Outcome → Outcome
-replaced w i e q o =
-    record {
-      number = o .number;
-      state = o .state;
-      words =
-          behind (o .words)
-          (record {
-            items = drop (itemWords * i) (w .items);
-            starts = drop (e + 1) (w .starts);
-            rows = drop (rowWords * e) (w .rows);
-            queue = drop q (w .queue);
-          });
-    }
+replaced w i e q o = record { number = o .number; state = o .state; words = put-back w i e q (o .words) }
 
 module _ (w : Words) {i e q : ℕ} (items : i ≡ itemRoom w) (sets : e ≡ setRoom w) (queued : q ≡ queueRoom w) where
   -- As many as there is room for are the words within the capacities, ..
@@ -64,3 +62,7 @@ module _ (w : Words) {i e q : ℕ} (items : i ≡ itemRoom w) (sets : e ≡ setR
   -- .. and what comes of those is put in their place.
   pub replaced-place : (f : Words → Outcome) (o : Outcome) → o ≡ f (first w i e q) → replaced w i e q o ≡ inPlace w (f (within w))
   replaced-place f o came = ap (replaced w i e q) came ∙ (λ k. replaced w (items k) (sets k) (queued k) (f (first w (items k) (sets k) (queued k))))
+
+  -- The same of words alone.
+  pub put-back-place : (f : Words → Words) (v : Words) → v ≡ f (first w i e q) → put-back w i e q v ≡ behind (f (within w)) (beyond w)
+  put-back-place f v came = ap (put-back w i e q) came ∙ (λ k. put-back w (items k) (sets k) (queued k) (f (first w (items k) (sets k) (queued k))))

@@ -14,10 +14,10 @@ use Rattle.grammar.specs.Rules.{Rule}
 use Rattle.parse.specs.declared.State.{State}
 use Rattle.parse.specs.Words.{Words, itemRoom, setRoom, setRoomOf, queueRoom, within, startOf}
 use Rattle.parse.specs.WellFormed.{WellFormed}
-use Rattle.parse.specs.Tells.{Tells}
+use Rattle.laws.specs.Decides.{Decides}
 use Rattle.parse.proofs.Capacities.{items-within, rows-within}
-use Rattle.recognizer.specs.Steps.{lastWraps, latestPart}
-use Rattle.recognizer.specs.Cuts.{LatestThere, lastWrapsIn, latestPartIn}
+use Rattle.demands.specs.Steps.{lastWraps, latestPart}
+use Rattle.recognizer.specs.inner.Cuts.{LatestThere, lastWrapsIn, latestPartIn}
 use Rattle.recognizer.proofs.Carving.{first, first-within}
 
 -- One word more cleared at the front.
@@ -97,8 +97,8 @@ module _ (n : ℕ) (rs : List Rule) (s : State) (w : Words) where
 
   -- What is told of words cut at the capacities is told of the words within them.
   pub tells-within : (answer : Bool) (i e q : ℕ) → i ≡ itemRoom w → e ≡ setRoom w → q ≡ queueRoom w
-      → Tells answer (WellFormed n rs s (first w i e q)) → Tells answer (WellFormed n rs s (within w))
-  tells-within answer i e q is es qs tells = subst (λ (u : Words). Tells answer (WellFormed n rs s u)) (sym (first-within w is es qs)) tells
+      → Decides answer (WellFormed n rs s (first w i e q)) → Decides answer (WellFormed n rs s (within w))
+  tells-within answer i e q is es qs tells = subst (λ (u : Words). Decides answer (WellFormed n rs s u)) (sym (first-within w is es qs)) tells
 
   module _ (well : WellFormed n rs s (within w)) where
     -- The latest set is one of the sets that there is room for.

@@ -8,12 +8,12 @@ use Rattle.grammar.specs.Rules.{Grammar}
 use Rattle.grammar.specs.Prediction.{Predicts}
 use Rattle.parse.specs.declared.State.{State}
 use Rattle.parse.specs.Words.{Words, setRoom, within}
-use Rattle.recognizer.specs.Steps.{Outcome, Ended, stepped, ran}
-use Rattle.recognizer.specs.Calls.{Formed, Ready, inPlace, inPlaceEnded, Takes, Runs}
-use Rattle.recognizer.specs.Steppable.{Steppable}
+use Rattle.demands.specs.Steps.{Outcome, Ended, stepped, ran}
+use Rattle.demands.specs.Calls.{Formed, Ready, inPlace, inPlaceEnded, Takes, Runs}
+use Rattle.recognizer.specs.inner.Steppable.{Steppable}
 use Rattle.recognizer.proofs.Carving.{some-set}
-use Rattle.recognizer.proofs.Cut.{Cut, within-cut}
-use Rattle.recognizer.proofs.Tables.{table-shape}
+use Rattle.demands.proofs.Cut.{Cut, within-cut}
+use Rattle.demands.proofs.Tables.{table-shape}
 
 module _ {file : List ℕ} {s : State} {w : Words} {g : Grammar} {table : List (List ℕ)} (formed : Formed file s w g) (predicts : Predicts g rowWords table) where
   -- A step can be taken in the words within the capacities.

@@ -9,36 +9,38 @@ use native.Mathlib.Omega.{arith}
 use lib.ListN.{length, getD, take, replicate, length-take, List·getD-eq-default}
 use lib.Seq.{ext-getD, getD-take}
 use borrow.Author.Tests.{ltb-true, ltb-false}
+use Rattle.laws.specs.Bits.{wordBits}
 use Rattle.bits.specs.Width.{rowWords}
 use Rattle.item.specs.Item.{Item, itemWords, flat}
 use Rattle.grammar.specs.Rules.{Grammar, Rule, none}
-use Rattle.grammar.specs.Decoded.{rulesIn}
+use Rattle.grammar.specs.inner.Decoded.{rulesIn}
 use Rattle.grammar.proofs.Decoding.{in-count}
 use Rattle.grammar.proofs.Facts.{second-low}
 use Rattle.parse.specs.declared.State.{State}
-use Rattle.parse.specs.Words.{Words, startOf}
+use Rattle.parse.specs.Words.{Words, startOf, padded}
 use Rattle.parse.specs.WellFormed.{WellFormed}
 use Rattle.completion.specs.Pass.{Pass}
 use Rattle.completion.specs.Complete.{complete}
-use Rattle.completion.specs.Ready.{RulesFit, IsSet, Rowed, Sound, Charted}
-use Rattle.completion.specs.Pending.{Grounds, Pending}
+use Rattle.completion.specs.inner.Ready.{RulesFit, IsSet, Rowed, PassFits, Charted}
+use Rattle.completion.specs.inner.Pending.{Grounds, Pending}
 use Rattle.completion.proofs.Waiting.{rule-second}
 use Rattle.completion.proofs.Onward.{onward-take}
 use Rattle.completion.proofs.Pending.{first-pending}
 use Rattle.completion.proofs.Refusals.{Ends}
 use Rattle.completion.proofs.Beginning.{beginning, start-fits, is-set, begins-pending, begins-spare, accepted-grounds, accepted-rules-fit}
 use Rattle.completion.proofs.Passed.{Passed, token-passed, passed-queue, passed-spare}
-use Rattle.advance.specs.Advance.{padded, lent, Advances, withoutNew, hasRoom, advanceAnswer, advanceWords, nextState, nextWords, lastKept, predictions}
+use Rattle.advance.specs.inner.Advances.{lent, hasRoom, advanceAnswer, withoutNew, advanceWords, Advances}
+use Rattle.advance.specs.Advance.{nextState, nextWords, lastKept, predictions}
 use Rattle.advance.specs.declared.Advanced.{Advanced}
 use Rattle.advance.specs.declared.Advanced.the-variants as answers
-use Rattle.advance.specs.Ready.{Ready}
-use Rattle.advance.proofs.Padded.{padded-ext, padded-length, padded-word}
+use Rattle.advance.specs.inner.Ready.{Advanceable}
+use Rattle.parse.proofs.Padded.{padded-ext, padded-length, padded-word}
 use Rattle.advance.proofs.Advancing.{answer-done, answer-refused, words-done, words-refused}
 use Rattle.advance.proofs.Steps.{without-new, ready, ready-lent, advances-whole}
 use Rattle.recognizer.specs.declared.Sizes.{Sizes}
-use Rattle.recognizer.specs.Steps.{Outcome, completed, stepped}
-use Rattle.recognizer.specs.Steppable.{grammarFrom, Steppable, FullAt}
-use Rattle.recognizer.proofs.Ways.{keptOf, newOf, reachOf, kept, is-full, is-no-room, is-done, Predicted}
+use Rattle.demands.specs.Steps.{Outcome, completed, stepped}
+use Rattle.recognizer.specs.inner.Steppable.{grammarFrom, Steppable, FullAt}
+use Rattle.demands.proofs.Ways.{keptOf, newOf, reachOf, kept, is-full, is-no-room, is-done, Predicted}
 
 module _ (rules : List ℕ) (sizes : Sizes) (table : List (List ℕ)) (s : State) (v : Words) (can : Steppable (grammarFrom rules sizes) table s v) (t : ℕ) where
   abbrev g : Grammar
@@ -61,7 +63,7 @@ module _ (rules : List ℕ) (sizes : Sizes) (table : List (List ℕ)) (s : State
   passed = token-passed g (can .accepted) well (can .few-items) (can .rowed) t
 
   -- What completing the token asks.
-  pub first-asks : t < sizes .tokens → (RulesFit rs × Rowed (v .starts) (v .rows)) × ((IsSet (v .starts) (s .set) × (t < 128)) × (Sound (beginning s v) × Charted rs (v .starts) (beginning s v)))
+  pub first-asks : t < sizes .tokens → (RulesFit rs × Rowed (v .starts) (v .rows)) × ((IsSet (v .starts) (s .set) × (t < wordBits * rowWords)) × (PassFits (beginning s v) × Charted rs (v .starts) (beginning s v)))
   first-asks small =
       let pending : Pending rs (v .starts) (beginning s v) = begins-pending well (can .accepted .few-rules) (can .few-items) (can .rowed) in (
         (accepted-rules-fit g (can .accepted), can .rowed),
@@ -126,7 +128,7 @@ module _ (rules : List ℕ) (sizes : Sizes) (table : List (List ℕ)) (s : State
         queue-same
 
     -- What the advance asks.
-    asks : Ready rules (sizes .rules) table s u (pass .at .items)
+    asks : Advanceable rules (sizes .rules) table s u (pass .at .items)
     asks =
         let count : length rs ≡ sizes .rules = in-count rules 0 0 (sizes .rules) in
         ready (sizes .symbols) rules (sizes .rules) table s u (pass .at .items) (subst (WellFormed (sizes .symbols) rs s) (sym without) well) (can .rowed .sets)
@@ -148,7 +150,7 @@ module _ (rules : List ℕ) (sizes : Sizes) (table : List (List ℕ)) (s : State
         ))
         (can .shape)
 
-    pub advance-asks : Ready rules (sizes .rules) table s (lent (pass .items) (v .starts) (v .rows)) (pass .at .items)
+    pub advance-asks : Advanceable rules (sizes .rules) table s (lent (pass .items) (v .starts) (v .rows)) (pass .at .items)
     advance-asks = ready-lent rules (sizes .rules) table s u (pass .at .items) asks
 
     -- Before the new items the words are those that were there.

@@ -7,22 +7,24 @@ use native.Mathlib.Omega.{arith}
 use borrow.Author.Tests.{not-true, not-false}
 use Rattle.grammar.specs.Accepted.{Accepted, maxRules}
 use Rattle.grammar.specs.File.{grammarOf}
-use Rattle.grammar.specs.Decoded.{rulesIn}
+use Rattle.grammar.specs.inner.Decoded.{rulesIn}
 use Rattle.grammar.proofs.Verdicts.{accepted-readable, read-grammar}
 use Rattle.grammar.specs.Rules.{Grammar}
 use Rattle.parse.specs.declared.State.{State}
-use Rattle.parse.specs.Tells.{Tells}
+use Rattle.laws.specs.Decides.{Decides}
 use Rattle.parse.specs.Words.{Words, within}
 use Rattle.parse.specs.WellFormed.{WellFormed}
 use Rattle.recognizer.specs.declared.Sizes.{Sizes}
 use Rattle.recognizer.specs.declared.Refusal.{Refusal}
 use Rattle.recognizer.specs.declared.file.Opened.{Opened}
 use Rattle.recognizer.specs.declared.file.Opened.the-variants as opened
+use Rattle.recognizer.specs.declared.ready.Readied.{Readied}
+use Rattle.recognizer.specs.declared.ready.Readied.the-variants as readied
 use Rattle.recognizer.specs.Answers.{refusalNumber}
-use Rattle.recognizer.specs.Calls.{Checked, FileFault, CallFault, Formed, Finishes, Reports}
-use Rattle.recognizer.specs.Cuts.{lastWrapsIn, latestPartIn}
-use Rattle.recognizer.specs.Opening.{Sound, Opens}
-use Rattle.recognizer.specs.Steppable.{grammarFrom}
+use Rattle.demands.specs.Calls.{Checked, FileFault, CallFault, Formed, Finishes, Reports}
+use Rattle.recognizer.specs.inner.Cuts.{lastWrapsIn, latestPartIn}
+use Rattle.recognizer.specs.inner.Opening.{OpenedFile, Opens, ReadyFor, Readies}
+use Rattle.recognizer.specs.inner.Steppable.{grammarFrom}
 use Rattle.recognizer.proofs.Cutting.{last-same, part-same}
 
 -- What opening a file has told.
@@ -30,10 +32,10 @@ module _ (file words : List ℕ) (r : Opened) (tells : Opens file words r) where
   pub opened-fault : (why : Refusal) → r ≡ opened.Refused why → FileFault file (refusalNumber why)
   opened-fault why is = subst (Opens file words) is tells
 
-  pub opened-sound : (sizes : Sizes) → r ≡ opened.Sound sizes → Sound file words sizes
+  pub opened-sound : (sizes : Sizes) → r ≡ opened.Sound sizes → OpenedFile file words sizes
   opened-sound sizes is = subst (Opens file words) is tells
 
-module _ (file words : List ℕ) (sizes : Sizes) (sound : Sound file words sizes) where
+module _ (file words : List ℕ) (sizes : Sizes) (sound : OpenedFile file words sizes) where
   -- Its rules are few, ..
   pub sound-few : sizes .rules ≤ maxRules
   sound-few = omega (arith, sound .rules, accepted-readable file (sound .whole) (sound .accepted) .1)
@@ -48,12 +50,26 @@ module _ (file words : List ℕ) (sizes : Sizes) (sound : Sound file words sizes
   sound-checked = record { whole = sound .whole; is = sym decoded-is; accepted = subst⁻¹ Accepted decoded-is (sound .accepted) }
 
   -- The state is well formed or not, as the test tells.
-  module _ (s : State) (w : Words) (b : Bool) (tells : Tells b (WellFormed (sizes .symbols) (rulesIn words (sizes .rules)) s (within w))) where
+  module _ (s : State) (w : Words) (b : Bool) (tells : Decides b (WellFormed (sizes .symbols) (rulesIn words (sizes .rules)) s (within w))) where
     pub told-ill-formed : not b ≡ true → CallFault file s w 4
-    told-ill-formed not-so = CallFault.ill-formed sound-checked (tells .nay (not-true b not-so))
+    told-ill-formed not-so = CallFault.ill-formed sound-checked (tells .if-no (not-true b not-so))
 
-    pub told-formed : not b ≡ false → Formed file s w (grammarFrom words sizes)
-    told-formed so = record { checked = sound-checked; well-formed = tells .yes (not-false b so) }
+    pub told-ready : not b ≡ false → ReadyFor file s w words sizes
+    told-ready so = record { opened = sound; well-formed = tells .if-yes (not-false b so) }
+
+-- What the first checks of a call have told.
+module _ (file : List ℕ) (s : State) (w : Words) (words : List ℕ) (r : Readied) (tells : Readies file s w words r) where
+  pub readied-fault : (why : Refusal) → r ≡ readied.Refused why → CallFault file s w (refusalNumber why)
+  readied-fault why is = subst (Readies file s w words) is tells
+
+  pub readied-for : (sizes : Sizes) → r ≡ readied.Formed sizes → ReadyFor file s w words sizes
+  readied-for sizes is = subst (Readies file s w words) is tells
+
+  pub readied-few : (sizes : Sizes) → r ≡ readied.Formed sizes → sizes .rules ≤ maxRules
+  readied-few sizes is = sound-few file words sizes (readied-for sizes is .opened)
+
+  pub readied-formed : (sizes : Sizes) → r ≡ readied.Formed sizes → Formed file s w (grammarFrom words sizes)
+  readied-formed sizes is = record { checked = sound-checked file words sizes (readied-for sizes is .opened); well-formed = readied-for sizes is .well-formed }
 
 -- The reports of a well-formed state, from the uncut words.
 module _ (file : List ℕ) (s : State) (w : Words) where

@@ -12,18 +12,18 @@ use Rattle.grammar.specs.Prediction.{Predicts}
 use Rattle.parse.specs.declared.State.{State}
 use Rattle.parse.specs.Words.{Words, setRoom, within, beyond, behind}
 use Rattle.parse.proofs.Capacities.{SameSizes, split-whole, within-new, beyond-new}
-use Rattle.recognizer.specs.Steps.{Outcome, Ended, stepped, ran}
-use Rattle.recognizer.specs.Calls.{inPlace, inPlaceEnded}
-use Rattle.recognizer.specs.Steppable.{Steppable}
+use Rattle.demands.specs.Steps.{Outcome, Ended, stepped, ran}
+use Rattle.demands.specs.Calls.{inPlace, inPlaceEnded}
+use Rattle.recognizer.specs.inner.Steppable.{Steppable}
 use Rattle.recognizer.specs.declared.Refusal.{Refusal}
 use Rattle.recognizer.specs.declared.Refusal.the-variants.{Malformed, Broken, NoSets, IllFormed, NoToken, NotPredicted, ItemsFull, QueueFull, SetsFull}
 use Rattle.recognizer.specs.declared.Answer.{Answer}
 use Rattle.recognizer.specs.declared.Answer.the-variants.{Done, Refused}
 use Rattle.recognizer.specs.Answers.{refusalNumber, outcomeOf, endedOf}
 use Rattle.recognizer.proofs.Carving.{some-set, place-sizes}
-use Rattle.recognizer.proofs.Cut.{Cut, cut-same, sizes-refl, sizes-trans}
-use Rattle.recognizer.proofs.Refusing.{step-sizes, step-well}
-use Rattle.recognizer.proofs.Running.{ran-on, ran-off}
+use Rattle.demands.proofs.Cut.{Cut, cut-same, sizes-refl, sizes-trans}
+use Rattle.demands.proofs.Refusing.{step-sizes, step-well}
+use Rattle.demands.proofs.Running.{ran-on, ran-off}
 
 -- A refusal's number is not 0.
 pub number-some : (why : Refusal) → refusalNumber why ≡ 0 → ⊥

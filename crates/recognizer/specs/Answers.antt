@@ -3,7 +3,7 @@ use mathlib.Core.Bool.{Bool, true, false}
 use Prim.Native.Nat.{ℕ}
 use Rattle.parse.specs.declared.State.{State}
 use Rattle.parse.specs.Words.{Words}
-use Rattle.recognizer.specs.Steps.{Outcome, Ended}
+use Rattle.demands.specs.Steps.{Outcome, Ended}
 use Rattle.recognizer.specs.declared.Refusal.{Refusal}
 use Rattle.recognizer.specs.declared.Refusal.the-variants.{Malformed, Broken, NoSets, IllFormed, NoToken, NotPredicted, ItemsFull, QueueFull, SetsFull}
 use Rattle.recognizer.specs.declared.Answer.{Answer}

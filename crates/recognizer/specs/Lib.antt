@@ -1,9 +1,3 @@
--- What the buyer must believe of a parse: the steps of a token, what each call answers and leaves, and how a parse comes about.
-pub mod Steps
+-- The paper's number, and the values, of each case of an answer. What a call answers and leaves is said in the crate demands.
 pub mod Answers
-pub mod Steppable
-pub mod Calls
-pub mod Cuts
-pub mod Opening
-pub mod Histories
-pub mod Sentences
+pub mod inner

@@ -1,5 +1,5 @@
 // The grammar file, as a call on a parse reads it.
-ghost use Rattle.recognizer.specs.Opening.{Opens};
+ghost use Rattle.recognizer.specs.inner.Opening.{Opens};
 use crate::Refusal;
 use crate::Sizes;
 use grammar::Checked;

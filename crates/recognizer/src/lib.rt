@@ -1,21 +1,23 @@
 // The calls on a parse: start, token, run, finished, latest set.
 
 mod file;
+pub mod ready;
 mod step;
 mod within;
 
 ghost use mathlib.Core.Path.{_≡_};
-ghost use Rattle.recognizer.specs.Answers.{refusalNumber, numberOf, outcomeOf, endedOf, finishedNumber, saysYes};
-ghost use Rattle.recognizer.specs.Calls.{Starts, Takes, Runs, Finishes, Reports};
-ghost use Rattle.recognizer.specs.Steppable.{wordsOf};
-ghost use Rattle.recognizer.specs.Sentences.{TokenTells, RunTells, FinishedTells};
+ghost use Rattle.recognizer.specs.Answers.{refusalNumber, numberOf, stateOf, outcomeOf, endedOf, finishedNumber, saysYes};
+ghost use Rattle.demands.specs.Calls.{Starts, Takes, Runs, Finishes, Reports};
+ghost use Rattle.parse.specs.Words.{wordsOf};
+ghost use Rattle.demands.specs.Sentences.{TokenTells, RunTells, FinishedTells};
 use crate::file::Opened;
 use crate::file::open;
+use crate::ready::Readied;
+use crate::ready::ready;
 use crate::within::begin;
 use crate::within::last_wraps;
 use crate::within::latest_part;
 use crate::within::step_within;
-use crate::within::well_formed;
 use grammar::limits::WORDS;
 use parse::State;
 
@@ -67,7 +69,9 @@ pub fn start(
     rows: &mut [u64],
     queue: &mut [u32],
 ) -> Answer
-    ensures calls { λ r. ⌜ Starts (now (file .entry)) state (wordsOf (now (items .entry)) (now (starts .entry)) (now (rows .entry)) (now (queue .entry))) (outcomeOf r (wordsOf (now (items .exit)) (now (starts .exit)) (now (rows .exit)) (now (queue .exit)))) ⌝ }
+    ensures calls { λ r. ⌜ Starts (now (file .entry)) state
+        (wordsOf (now (items .entry)) (now (starts .entry)) (now (rows .entry)) (now (queue .entry)))
+        (outcomeOf r (wordsOf (now (items .exit)) (now (starts .exit)) (now (rows .exit)) (now (queue .exit)))) ⌝ }
 {
     let mut rules = [0; WORDS];
     let sizes = match open(file, &mut rules) {
@@ -93,17 +97,17 @@ pub fn token(
     queue: &mut [u32],
     t: u16,
 ) -> Answer
-    ensures calls { λ r. ⌜ Takes (now (file .entry)) state (wordsOf (now (items .entry)) (now (starts .entry)) (now (rows .entry)) (now (queue .entry))) t (outcomeOf r (wordsOf (now (items .exit)) (now (starts .exit)) (now (rows .exit)) (now (queue .exit)))) ⌝ }
-    ensures sentences { λ r. ⌜ TokenTells (now (file .entry)) state (wordsOf (now (items .entry)) (now (starts .entry)) (now (rows .entry)) (now (queue .entry))) t (numberOf r) ⌝ }
+    ensures calls { λ r. ⌜ Takes (now (file .entry)) state
+        (wordsOf (now (items .entry)) (now (starts .entry)) (now (rows .entry)) (now (queue .entry))) t
+        (outcomeOf r (wordsOf (now (items .exit)) (now (starts .exit)) (now (rows .exit)) (now (queue .exit)))) ⌝ }
+    ensures sentences { λ r. ⌜ TokenTells (now (file .entry)) state
+        (wordsOf (now (items .entry)) (now (starts .entry)) (now (rows .entry)) (now (queue .entry))) t (numberOf r) ⌝ }
 {
     let mut rules = [0; WORDS];
-    let sizes = match open(file, &mut rules) {
-        Opened::Refused(why) => return Answer::Refused(why, state),
-        Opened::Sound(found) => found,
+    let sizes = match ready(file, state, items, starts, rows, queue, &mut rules) {
+        Readied::Refused(why) => return Answer::Refused(why, state),
+        Readied::Formed(found) => found,
     };
-    if !well_formed(&rules, sizes, state, items, starts, rows, queue) {
-        return Answer::Refused(Refusal::IllFormed, state);
-    }
     let table = prediction::table(&rules, sizes.symbols, sizes.rules);
     step_within(
         &rules,
@@ -128,23 +132,23 @@ pub fn run(
     queue: &mut [u32],
     tokens: &[u16],
 ) -> Ran
-    ensures calls { λ r. ⌜ Runs (now (file .entry)) state (wordsOf (now (items .entry)) (now (starts .entry)) (now (rows .entry)) (now (queue .entry))) (now (tokens .entry)) (endedOf r (wordsOf (now (items .exit)) (now (starts .exit)) (now (rows .exit)) (now (queue .exit)))) ⌝ }
-    ensures sentences { λ r. ⌜ RunTells (now (file .entry)) state (wordsOf (now (items .entry)) (now (starts .entry)) (now (rows .entry)) (now (queue .entry))) (now (tokens .entry)) (endedOf r (wordsOf (now (items .exit)) (now (starts .exit)) (now (rows .exit)) (now (queue .exit)))) ⌝ }
+    ensures calls { λ r. ⌜ Runs (now (file .entry)) state
+        (wordsOf (now (items .entry)) (now (starts .entry)) (now (rows .entry)) (now (queue .entry)))
+        (now (tokens .entry))
+        (endedOf r (wordsOf (now (items .exit)) (now (starts .exit)) (now (rows .exit)) (now (queue .exit)))) ⌝ }
+    ensures sentences { λ r. ⌜ RunTells (now (file .entry)) state
+        (wordsOf (now (items .entry)) (now (starts .entry)) (now (rows .entry)) (now (queue .entry)))
+        (now (tokens .entry))
+        (endedOf r (wordsOf (now (items .exit)) (now (starts .exit)) (now (rows .exit)) (now (queue .exit)))) ⌝ }
 {
     let mut rules = [0; WORDS];
-    let sizes = match open(file, &mut rules) {
-        Opened::Refused(why) => return Ran {
+    let sizes = match ready(file, state, items, starts, rows, queue, &mut rules) {
+        Readied::Refused(why) => return Ran {
             answer: Answer::Refused(why, state),
             taken: 0,
         },
-        Opened::Sound(found) => found,
+        Readied::Formed(found) => found,
     };
-    if !well_formed(&rules, sizes, state, items, starts, rows, queue) {
-        return Ran {
-            answer: Answer::Refused(Refusal::IllFormed, state),
-            taken: 0,
-        };
-    }
     let table = prediction::table(&rules, sizes.symbols, sizes.rules);
     within::run_within(
         &rules,
@@ -168,16 +172,17 @@ pub fn finished(
     rows: &[u64],
     queue: &[u32],
 ) -> Whether
-    ensures calls { λ r. ⌜ Finishes (now (file .entry)) state (wordsOf (now (items .entry)) (now (starts .entry)) (now (rows .entry)) (now (queue .entry))) (finishedNumber r) (saysYes r) ⌝ }
-    ensures sentences { λ r. ⌜ FinishedTells (now (file .entry)) state (wordsOf (now (items .entry)) (now (starts .entry)) (now (rows .entry)) (now (queue .entry))) (finishedNumber r) (saysYes r) ⌝ }
+    ensures calls { λ r. ⌜ Finishes (now (file .entry)) state
+        (wordsOf (now (items .entry)) (now (starts .entry)) (now (rows .entry)) (now (queue .entry))) (finishedNumber r)
+        (saysYes r) ⌝ }
+    ensures sentences { λ r. ⌜ FinishedTells (now (file .entry)) state
+        (wordsOf (now (items .entry)) (now (starts .entry)) (now (rows .entry)) (now (queue .entry))) (finishedNumber r)
+        (saysYes r) ⌝ }
 {
     let mut rules = [0; WORDS];
-    let sizes = match open(file, &mut rules) {
-        Opened::Refused(why) => return Whether::Refused(why),
-        Opened::Sound(found) => found,
-    };
-    if !well_formed(&rules, sizes, state, items, starts, rows, queue) {
-        return Whether::Refused(Refusal::IllFormed);
+    match ready(file, state, items, starts, rows, queue, &mut rules) {
+        Readied::Refused(why) => return Whether::Refused(why),
+        Readied::Formed(_) => {}
     }
     if last_wraps(state, items, starts) {
         return Whether::Yes;
@@ -195,19 +200,17 @@ pub fn latest_set<'a>(
     queue: &[u32],
     number: &mut u32,
 ) -> &'a [u32]
-    ensures calls { λ r. ⌜ Reports (now (file .entry)) state (wordsOf (now (items .entry)) (now (starts .entry)) (now (rows .entry)) (now (queue .entry))) (now (number .exit)) (now r) ⌝ }
+    ensures calls { λ r. ⌜ Reports (now (file .entry)) state
+        (wordsOf (now (items .entry)) (now (starts .entry)) (now (rows .entry)) (now (queue .entry)))
+        (now (number .exit)) (now r) ⌝ }
 {
     let mut rules = [0; WORDS];
-    let sizes = match open(file, &mut rules) {
-        Opened::Refused(why) => {
+    match ready(file, state, items, starts, rows, queue, &mut rules) {
+        Readied::Refused(why) => {
             *number = refusal_number(why);
             return &items[0..0];
         }
-        Opened::Sound(found) => found,
-    };
-    if !well_formed(&rules, sizes, state, items, starts, rows, queue) {
-        *number = refusal_number(Refusal::IllFormed);
-        return &items[0..0];
+        Readied::Formed(_) => {}
     }
     *number = 0;
     latest_part(state, items, starts)
@@ -227,5 +230,25 @@ pub fn refusal_number(why: Refusal) -> u32
         Refusal::ItemsFull => 7,
         Refusal::QueueFull => 8,
         Refusal::SetsFull => 9,
+    }
+}
+
+// The paper's number of an answer.
+pub fn number_of(answer: Answer) -> u32
+    ensures { λ r. ⌜ r ≡ numberOf answer ⌝ }
+{
+    match answer {
+        Answer::Done(_) => 0,
+        Answer::Refused(why, _) => refusal_number(why),
+    }
+}
+
+// The state that an answer leaves.
+pub fn state_of(answer: Answer) -> State
+    ensures { λ r. ⌜ r ≡ stateOf answer ⌝ }
+{
+    match answer {
+        Answer::Done(state) => state,
+        Answer::Refused(_, state) => state,
     }
 }

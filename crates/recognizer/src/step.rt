@@ -4,20 +4,20 @@ ghost use Prim.Native.Nat.{_*_, _≤_, _<_};
 ghost use lib.ListN.{length, replicate, take};
 ghost use Rattle.item.specs.Item.{itemWords};
 ghost use Rattle.completion.specs.Pass.{passOf};
-ghost use Rattle.advance.specs.Advance.{padded};
-ghost use Rattle.recognizer.specs.Steps.{completed, stepped};
+ghost use Rattle.demands.specs.Steps.{completed, stepped};
 ghost use Rattle.recognizer.specs.Answers.{refusalNumber, outcomeOf};
-ghost use Rattle.recognizer.specs.Steppable.{grammarFrom, wordsOf, Steppable, FullAt};
+ghost use Rattle.parse.specs.Words.{wordsOf, padded};
+ghost use Rattle.recognizer.specs.inner.Steppable.{grammarFrom, Steppable, FullAt};
 use crate::Answer;
 use crate::Refusal;
 use crate::Sizes;
 use advance::Advanced;
-use advance::predict::Table;
 use completion::Progress;
 use completion::pass::ITEMS_FULL;
 use grammar::rules::Rules;
 use item::ITEM_WORDS;
 use parse::State;
+use prediction::Table;
 
 // Steps 2 and 3: completes the latest set and the token, and then sum after sum.
 fn complete_token(
@@ -31,8 +31,11 @@ fn complete_token(
     queue: &mut [u32],
     t: usize,
 ) -> Progress
-    requires { ⌜ Steppable (grammarFrom (now rules) sizes) (now table) state (wordsOf (now items) (now starts) (now rows) (now queue)) × (t < sizes .tokens) ⌝ }
-    ensures { λ r. ⌜ passOf r (now (items .exit)) (now (queue .exit)) ≡ completed (grammarFrom (now (rules .entry)) sizes) state (wordsOf (now (items .entry)) (now (starts .entry)) (now (rows .entry)) (now (queue .entry))) t ⌝ }
+    requires { ⌜ Steppable (grammarFrom (now rules) sizes) (now table) state
+        (wordsOf (now items) (now starts) (now rows) (now queue)) × (t < sizes .tokens) ⌝ }
+    ensures { λ r. ⌜ passOf r (now (items .exit)) (now (queue .exit))
+        ≡ completed (grammarFrom (now (rules .entry)) sizes) state
+        (wordsOf (now (items .entry)) (now (starts .entry)) (now (rows .entry)) (now (queue .entry))) t ⌝ }
 {
     let count = sizes.rules;
     let begun = Progress {
@@ -57,13 +60,14 @@ fn complete_token(
 // Clears what a refused pass stored and queued.
 fn give_up(items: &mut [u32], queue: &mut [u32], stored: usize)
     requires { ⌜ itemWords * stored ≤ length (now items) ⌝ }
-    ensures items { λ _. ⌜ now (items .exit) ≡ padded (length (now (items .entry))) (take (itemWords * stored) (now (items .entry))) ⌝ }
+    ensures items { λ _. ⌜ now (items .exit) ≡ padded (length (now (items .entry)))
+        (take (itemWords * stored) (now (items .entry))) ⌝ }
     ensures queue { λ _. ⌜ now (queue .exit) ≡ padded (length (now (queue .entry))) (take 0 (now (queue .entry))) ⌝ }
 {
     let item_words = items.len();
-    advance::words::clear_words(items, ITEM_WORDS * stored, item_words);
+    parse::words::clear(items, ITEM_WORDS * stored, item_words);
     let entries = queue.len();
-    advance::words::clear_words(queue, 0, entries);
+    parse::words::clear(queue, 0, entries);
 }
 
 // The refusal of the push that a pass met.
@@ -89,8 +93,12 @@ pub fn step(
     queue: &mut [u32],
     t: usize,
 ) -> Answer
-    requires { ⌜ Steppable (grammarFrom (now rules) sizes) (now table) state (wordsOf (now items) (now starts) (now rows) (now queue)) ⌝ }
-    ensures { λ r. ⌜ outcomeOf r (wordsOf (now (items .exit)) (now (starts .exit)) (now (rows .exit)) (now (queue .exit))) ≡ stepped (grammarFrom (now (rules .entry)) sizes) (now (table .entry)) state (wordsOf (now (items .entry)) (now (starts .entry)) (now (rows .entry)) (now (queue .entry))) t ⌝ }
+    requires { ⌜ Steppable (grammarFrom (now rules) sizes) (now table) state
+        (wordsOf (now items) (now starts) (now rows) (now queue)) ⌝ }
+    ensures { λ r. ⌜ outcomeOf r
+        (wordsOf (now (items .exit)) (now (starts .exit)) (now (rows .exit)) (now (queue .exit)))
+        ≡ stepped (grammarFrom (now (rules .entry)) sizes) (now (table .entry)) state
+        (wordsOf (now (items .entry)) (now (starts .entry)) (now (rows .entry)) (now (queue .entry))) t ⌝ }
 {
     if t >= sizes.tokens {
         return Answer::Refused(Refusal::NoToken, state);

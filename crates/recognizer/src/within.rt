@@ -2,24 +2,22 @@
 ghost use mathlib.Core.Path.{_≡_};
 ghost use Prim.Native.Nat.{_≤_, _<_};
 ghost use Rattle.grammar.specs.Accepted.{maxRules};
-ghost use Rattle.grammar.specs.Decoded.{rulesIn};
+ghost use Rattle.grammar.specs.inner.Decoded.{rulesIn};
 ghost use Rattle.grammar.specs.Prediction.{Predicts};
-ghost use Rattle.parse.specs.Tells.{Tells};
-ghost use mathlib.Core.List.{_++_};
-ghost use lib.ListN.{length, drop, replicate};
+ghost use Rattle.laws.specs.Decides.{Decides};
+ghost use lib.ListN.{length};
 ghost use Rattle.bits.specs.Width.{rowWords};
-ghost use Rattle.parse.specs.Words.{setRoomOf, within};
+ghost use Rattle.parse.specs.Words.{setRoomOf, within, wordsOf};
 ghost use Rattle.parse.specs.WellFormed.{WellFormed};
-ghost use Rattle.recognizer.specs.Steps.{stepped, ran};
-ghost use Rattle.recognizer.specs.Calls.{inPlace, inPlaceEnded};
-ghost use Rattle.recognizer.specs.Cuts.{begunWords, LatestThere, lastWrapsIn, latestPartIn};
+ghost use Rattle.demands.specs.Steps.{stepped, ran};
+ghost use Rattle.demands.specs.Calls.{inPlace, inPlaceEnded};
+ghost use Rattle.recognizer.specs.inner.Cuts.{clearedWords, begunWords, LatestThere, lastWrapsIn, latestPartIn};
 ghost use Rattle.recognizer.specs.Answers.{outcomeOf, endedOf};
-ghost use Rattle.recognizer.specs.Steppable.{grammarFrom, wordsOf, Steppable};
+ghost use Rattle.recognizer.specs.inner.Steppable.{grammarFrom, Steppable};
 use crate::Answer;
 use crate::Ran;
 use crate::Sizes;
 use crate::step::step;
-use advance::predict::Table;
 use bits::Row;
 use bits::WIDTH;
 use grammar::rules::Rules;
@@ -29,6 +27,9 @@ use parse::State;
 use parse::room::item_room;
 use parse::room::queue_room;
 use parse::room::set_room;
+use parse::words::clear;
+use parse::words::clear_rows;
+use prediction::Table;
 
 // Whether the state is well formed in the words within the capacities.
 pub fn well_formed(
@@ -41,7 +42,9 @@ pub fn well_formed(
     queue: &[u32],
 ) -> bool
     requires { ⌜ sizes .rules ≤ maxRules ⌝ }
-    ensures { λ r. ⌜ Tells r (WellFormed (sizes .symbols) (rulesIn (now (rules .entry)) (sizes .rules)) state (within (wordsOf (now (items .entry)) (now (starts .entry)) (now (rows .entry)) (now (queue .entry))))) ⌝ }
+    ensures { λ r. ⌜ Decides r
+        (WellFormed (sizes .symbols) (rulesIn (now (rules .entry)) (sizes .rules)) state
+        (within (wordsOf (now (items .entry)) (now (starts .entry)) (now (rows .entry)) (now (queue .entry))))) ⌝ }
 {
     let sets = set_room(starts, rows);
     if sets == 0 {
@@ -75,8 +78,13 @@ pub fn step_within(
     queue: &mut [u32],
     t: usize,
 ) -> Answer
-    requires { ⌜ Steppable (grammarFrom (now rules) sizes) (now table) state (within (wordsOf (now items) (now starts) (now rows) (now queue))) ⌝ }
-    ensures { λ r. ⌜ outcomeOf r (wordsOf (now (items .exit)) (now (starts .exit)) (now (rows .exit)) (now (queue .exit))) ≡ inPlace (wordsOf (now (items .entry)) (now (starts .entry)) (now (rows .entry)) (now (queue .entry))) (stepped (grammarFrom (now (rules .entry)) sizes) (now (table .entry)) state (within (wordsOf (now (items .entry)) (now (starts .entry)) (now (rows .entry)) (now (queue .entry)))) t) ⌝ }
+    requires { ⌜ Steppable (grammarFrom (now rules) sizes) (now table) state
+        (within (wordsOf (now items) (now starts) (now rows) (now queue))) ⌝ }
+    ensures { λ r. ⌜ outcomeOf r
+        (wordsOf (now (items .exit)) (now (starts .exit)) (now (rows .exit)) (now (queue .exit)))
+        ≡ inPlace (wordsOf (now (items .entry)) (now (starts .entry)) (now (rows .entry)) (now (queue .entry)))
+        (stepped (grammarFrom (now (rules .entry)) sizes) (now (table .entry)) state
+        (within (wordsOf (now (items .entry)) (now (starts .entry)) (now (rows .entry)) (now (queue .entry)))) t) ⌝ }
 {
     let item_end = ITEM_WORDS * item_room(items);
     let sets = set_room(starts, rows);
@@ -108,8 +116,14 @@ pub fn run_within(
     queue: &mut [u32],
     tokens: &[u16],
 ) -> Ran
-    requires { ⌜ Steppable (grammarFrom (now rules) sizes) (now table) state (within (wordsOf (now items) (now starts) (now rows) (now queue))) × Predicts (grammarFrom (now rules) sizes) rowWords (now table) ⌝ }
-    ensures { λ r. ⌜ endedOf r (wordsOf (now (items .exit)) (now (starts .exit)) (now (rows .exit)) (now (queue .exit))) ≡ inPlaceEnded (wordsOf (now (items .entry)) (now (starts .entry)) (now (rows .entry)) (now (queue .entry))) (ran (grammarFrom (now (rules .entry)) sizes) (now (table .entry)) state (within (wordsOf (now (items .entry)) (now (starts .entry)) (now (rows .entry)) (now (queue .entry)))) (now (tokens .entry))) ⌝ }
+    requires { ⌜ Steppable (grammarFrom (now rules) sizes) (now table) state
+        (within (wordsOf (now items) (now starts) (now rows) (now queue))) × Predicts (grammarFrom (now rules) sizes)
+        rowWords (now table) ⌝ }
+    ensures { λ r. ⌜ endedOf r (wordsOf (now (items .exit)) (now (starts .exit)) (now (rows .exit)) (now (queue .exit)))
+        ≡ inPlaceEnded (wordsOf (now (items .entry)) (now (starts .entry)) (now (rows .entry)) (now (queue .entry)))
+        (ran (grammarFrom (now (rules .entry)) sizes) (now (table .entry)) state
+        (within (wordsOf (now (items .entry)) (now (starts .entry)) (now (rows .entry)) (now (queue .entry))))
+        (now (tokens .entry))) ⌝ }
 {
     let mut now = state;
     let mut taken = 0;
@@ -130,38 +144,43 @@ pub fn run_within(
     }
 }
 
-// Clears the words within the capacities, and puts a row into row 0.
-pub fn begin(row: &Row, items: &mut [u32], starts: &mut [u32], rows: &mut [u64], queue: &mut [u32])
-    requires { ⌜ (0 < setRoomOf (now starts) (now rows)) × (length (now row) ≡ rowWords) ⌝ }
-    ensures { λ _. ⌜ wordsOf (now (items .exit)) (now (starts .exit)) (now (rows .exit)) (now (queue .exit)) ≡ begunWords (now (row .entry)) (wordsOf (now (items .entry)) (now (starts .entry)) (now (rows .entry)) (now (queue .entry))) ⌝ }
+// Clears words, and puts a row into row 0.
+fn clear_all(row: &Row, items: &mut [u32], starts: &mut [u32], rows: &mut [u64], queue: &mut [u32])
+    requires { ⌜ (rowWords ≤ length (now rows)) × (length (now row) ≡ rowWords) ⌝ }
+    ensures { λ _. ⌜ wordsOf (now (items .exit)) (now (starts .exit)) (now (rows .exit)) (now (queue .exit))
+        ≡ clearedWords (now (row .entry))
+        (wordsOf (now (items .entry)) (now (starts .entry)) (now (rows .entry)) (now (queue .entry))) ⌝ }
 {
-    let sets = set_room(starts, rows);
-    let item_end = ITEM_WORDS * item_room(items);
-    clear_front(items, item_end);
-    clear_front(starts, sets + 1);
-    clear_front_rows(rows, WIDTH * sets);
-    let queue_end = queue_room(queue);
-    clear_front(queue, queue_end);
+    let item_end = items.len();
+    clear(items, 0, item_end);
+    let start_end = starts.len();
+    clear(starts, 0, start_end);
+    let row_end = rows.len();
+    clear_rows(rows, 0, row_end);
+    let queue_end = queue.len();
+    clear(queue, 0, queue_end);
     bits::put_at(rows, 0, row);
 }
 
-// Clears the words before `end`.
-fn clear_front(words: &mut [u32], end: usize)
-    requires { ⌜ end ≤ length (now words) ⌝ }
-    ensures { λ _. ⌜ now (words .exit) ≡ replicate end 0 ++ drop end (now (words .entry)) ⌝ }
+// Clears the words within the capacities, and puts a row into row 0. The words past them stay.
+pub fn begin(row: &Row, items: &mut [u32], starts: &mut [u32], rows: &mut [u64], queue: &mut [u32])
+    requires { ⌜ (0 < setRoomOf (now starts) (now rows)) × (length (now row) ≡ rowWords) ⌝ }
+    ensures { λ _. ⌜ wordsOf (now (items .exit)) (now (starts .exit)) (now (rows .exit)) (now (queue .exit))
+        ≡ begunWords (now (row .entry))
+        (wordsOf (now (items .entry)) (now (starts .entry)) (now (rows .entry)) (now (queue .entry))) ⌝ }
 {
-    for i in 0..end {
-        words[i] = 0;
-    }
-}
-
-fn clear_front_rows(words: &mut [u64], end: usize)
-    requires { ⌜ end ≤ length (now words) ⌝ }
-    ensures { λ _. ⌜ now (words .exit) ≡ replicate end 0 ++ drop end (now (words .entry)) ⌝ }
-{
-    for i in 0..end {
-        words[i] = 0;
-    }
+    let item_end = ITEM_WORDS * item_room(items);
+    let sets = set_room(starts, rows);
+    let start_end = sets + 1;
+    let row_end = WIDTH * sets;
+    let queue_end = queue_room(queue);
+    clear_all(
+        row,
+        &mut items[..item_end],
+        &mut starts[..start_end],
+        &mut rows[..row_end],
+        &mut queue[..queue_end],
+    );
 }
 
 // Whether the last item of the latest set has rule 0.

@@ -6,95 +6,107 @@ use Rattle.advance.proofs.advance.Statement.{statement}
 use Rattle.advance.proofs.advance.Tie as tie
 
 new-items-requires : tie.Need-new-items-requires
-new-items-requires c κs = (c .before .before .before .before .pre .new, c .before .before .before .before .pre .spare-items)
+new-items-requires c κs =
+    let required = c .before .before .before .before .pre in
+    (required .new, required .spare-items)
 
 greatest-origin-requires : tie.Need-greatest-origin-requires
 greatest-origin-requires c κs =
-    reach-asks _ _ _ _ _ _ (c .before .before .before .before .before .before .before .before .pre) _ _
-    (c .before .before .before .new-items .ensures .0) (c .before .before .before .new-items .ensures .1)
+    let required = c .before .before .before .before .before .before .before .before .pre in
+    let items-made = c .before .before .before .new-items in
+    reach-asks _ _ _ _ _ _ required _ _ (items-made .ensures .0) (items-made .ensures .1)
 
 last-kept-requires : tie.Need-last-kept-requires
 last-kept-requires c κs =
-    reaches _ _ _ _ _ _ (c .before .before .before .before .before .before .before .before .before .pre) _ _
-    (c .before .before .before .before .new-items .ensures .0) (c .before .before .before .before .new-items .ensures .1) _
-    (c .greatest-origin .ensures)
+    let required = c .before .before .before .before .before .before .before .before .before .pre in
+    let items-made = c .before .before .before .before .new-items in
+    reaches _ _ _ _ _ _ required _ _ (items-made .ensures .0) (items-made .ensures .1) _ (c .greatest-origin .ensures)
 
 add-if1 : tie.Need-add-if1
 add-if1 c =
+    let required = c .before .before .before .before .before .before .before .before .before .before .pre in
+    let items-made = c .before .before .before .before .before .new-items in
     omega (
       arith,
-      kept-below _ _ _ _ _ _ (c .before .before .before .before .before .before .before .before .before .before .pre) _ _
-          (c .before .before .before .before .before .new-items .ensures .0) (c .before .before .before .before .before .new-items .ensures .1) _
+      kept-below _ _ _ _ _ _ required _ _ (items-made .ensures .0) (items-made .ensures .1) _
           (c .before .greatest-origin .ensures) _
           (c .last-kept .ensures),
-      c .before .before .before .before .before .before .before .before .before .before .pre .set-fits,
+      required .set-fits,
     )
 
-mul-clear-words : tie.Need-mul-clear-words
-mul-clear-words c =
+mul-clear : tie.Need-mul-clear
+mul-clear c =
+    let required = c .before .before .before .before .before .before .before .before .before .before .before .before .pre in
+    let items-made = c .before .before .before .before .before .before .before .new-items in
     omega (
       arith,
-      clear-asks _ _ _ _ _ _ (c .before .before .before .before .before .before .before .before .before .before .before .before .pre) _ _
-          (c .before .before .before .before .before .before .before .new-items .ensures .0)
-          (c .before .before .before .before .before .before .before .new-items .ensures .1) .0,
+      clear-asks _ _ _ _ _ _ required _ _ (items-made .ensures .0) (items-made .ensures .1) .0,
     )
 
-mul-clear-words-2 : tie.Need-mul-clear-words-2
-mul-clear-words-2 c =
+mul-clear-2 : tie.Need-mul-clear-2
+mul-clear-2 c =
+    let required = c .before .before .before .before .before .before .before .before .before .before .before .before .pre in
+    let items-made = c .before .before .before .before .before .before .before .new-items in
     omega (
       arith,
-      clear-asks _ _ _ _ _ _ (c .before .before .before .before .before .before .before .before .before .before .before .before .pre) _ _
-          (c .before .before .before .before .before .before .before .new-items .ensures .0)
-          (c .before .before .before .before .before .before .before .new-items .ensures .1) .1,
+      clear-asks _ _ _ _ _ _ required _ _ (items-made .ensures .0) (items-made .ensures .1) .1,
     )
 
-clear-words-requires : tie.Need-clear-words-requires
-clear-words-requires c κs =
-    clear-asks _ _ _ _ _ _ (c .before .before .before .before .before .before .before .before .before .before .before .before .pre) _ _
-    (c .before .before .before .before .before .before .before .new-items .ensures .0)
-    (c .before .before .before .before .before .before .before .new-items .ensures .1)
+clear-requires : tie.Need-clear-requires
+clear-requires c κs =
+    let required = c .before .before .before .before .before .before .before .before .before .before .before .before .pre in
+    let items-made = c .before .before .before .before .before .before .before .new-items in
+    clear-asks _ _ _ _ _ _ required _ _ (items-made .ensures .0) (items-made .ensures .1)
 
 same-length : tie.Need-same-length
-same-length c = c .before .before .clear-words .kept .0 ∙ c .before .before .before .before .before .before .before .before .before .before .new-items .kept .1 .1 .0
+same-length c =
+    let items-made = c .before .before .before .before .before .before .before .before .before .before .new-items in
+    c .before .before .clear .kept .0 ∙ items-made .kept .1 .1 .0
 
 returns : tie.Need-returns
 returns c =
-    refuses _ _ _ _ _ _
-    (c .before .before .before .before .before .before .before .before .before .before .before .before .before .before .before .pre) _ _
-    (c .before .before .before .before .before .before .before .before .before .before .new-items .ensures .0)
-    (c .before .before .before .before .before .before .before .before .before .before .new-items .ensures .1) _
-    (c .before .before .before .before .before .before .greatest-origin .ensures) _ (c .before .before .before .before .before .last-kept .ensures)
-    (c .before .before .before .before .if1 .taken) (c .before .before .clear-words .ensures)
+    let required = c .before .before .before .before .before .before .before .before .before .before .before .before .before .before .before .pre in
+    let items-made = c .before .before .before .before .before .before .before .before .before .before .new-items in
+    let origin-found = c .before .before .before .before .before .before .greatest-origin in
+    refuses _ _ _ _ _ _ required _ _ (items-made .ensures .0) (items-made .ensures .1) _
+    (origin-found .ensures) _ (c .before .before .before .before .before .last-kept .ensures)
+    (c .before .before .before .before .if1 .taken) (c .before .before .clear .ensures)
 
 next-set-requires : tie.Need-next-set-requires
 next-set-requires c κs =
-    next-asks _ _ _ _ _ _ (c .before .before .before .before .before .before .before .before .before .before .before .before .before .before .pre) _ _
-    (c .before .before .before .before .before .before .before .before .before .new-items .ensures .0)
-    (c .before .before .before .before .before .before .before .before .before .new-items .ensures .1) _
+    let required = c .before .before .before .before .before .before .before .before .before .before .before .before .before .before .pre in
+    let items-made = c .before .before .before .before .before .before .before .before .before .new-items in
+    next-asks _ _ _ _ _ _ required _ _ (items-made .ensures .0) (items-made .ensures .1) _
     (c .before .before .before .before .before .greatest-origin .ensures) _ (c .before .before .before .before .last-kept .ensures)
     (c .before .before .before .if1 .left)
 
 same-length-2 : tie.Need-same-length-2
 same-length-2 c =
-    c .before .before .before .before .before .before .next-set .kept .1 .1 .1 .1 .0
-    ∙ c .before .before .before .before .before .before .before .before .before .before .before .before .before .before .before .before .new-items .kept .1 .1 .0
+    let items-made = c .before .before .before .before .before .before .before .before .before .before .before .before .before .before .before .before .new-items in
+    let set-made = c .before .before .before .before .before .before .next-set in
+    set-made .kept .1 .1 .1 .1 .0
+    ∙ items-made .kept .1 .1 .0
 
 same-length-3 : tie.Need-same-length-3
-same-length-3 c = c .before .before .before .before .before .before .next-set .kept .1 .1 .1 .1 .1 .0
+same-length-3 c =
+    let set-made = c .before .before .before .before .before .before .next-set in
+    set-made .kept .1 .1 .1 .1 .1 .0
 
 same-length-4 : tie.Need-same-length-4
-same-length-4 c = c .before .before .before .before .before .before .next-set .kept .1 .1 .1 .1 .1 .1 .0
+same-length-4 c =
+    let set-made = c .before .before .before .before .before .before .next-set in
+    set-made .kept .1 .1 .1 .1 .1 .1 .0
 
 returns-2 : tie.Need-returns-2
 returns-2 c =
-    advances _ _ _ _ _ _
-    (c .before .before .before .before .before .before .before .before .before .before .before .before .before .before .before .before .before .before .before .before .before .pre) _ _
-    (c .before .before .before .before .before .before .before .before .before .before .before .before .before .before .before .before .new-items .ensures .0)
-    (c .before .before .before .before .before .before .before .before .before .before .before .before .before .before .before .before .new-items .ensures .1) _
-    (c .before .before .before .before .before .before .before .before .before .before .before .before .greatest-origin .ensures) _
-    (c .before .before .before .before .before .before .before .before .before .before .before .last-kept .ensures)
-    (c .before .before .before .before .before .before .before .before .before .before .if1 .left)
-    (c .before .before .before .before .before .before .next-set .ensures)
+    let required = c .before .before .before .before .before .before .before .before .before .before .before .before .before .before .before .before .before .before .before .before .before .pre in
+    let items-made = c .before .before .before .before .before .before .before .before .before .before .before .before .before .before .before .before .new-items in
+    let origin-found = c .before .before .before .before .before .before .before .before .before .before .before .before .greatest-origin in
+    let kept-found = c .before .before .before .before .before .before .before .before .before .before .before .last-kept in
+    let room-tested = c .before .before .before .before .before .before .before .before .before .before .if1 in
+    let set-made = c .before .before .before .before .before .before .next-set in
+    advances _ _ _ _ _ _ required _ _ (items-made .ensures .0) (items-made .ensures .1) _ (origin-found .ensures) _
+    (kept-found .ensures) (room-tested .left) (set-made .ensures)
 
 pub advance-spec : {M : Type 1} → statement M
 advance-spec =
@@ -104,9 +116,9 @@ advance-spec =
     greatest-origin-requires
     last-kept-requires
     add-if1
-    mul-clear-words
-    mul-clear-words-2
-    clear-words-requires
+    mul-clear
+    mul-clear-2
+    clear-requires
     same-length
     returns
     next-set-requires

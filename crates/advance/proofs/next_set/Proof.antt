@@ -11,29 +11,33 @@ last-kept-requires : tie.Need-last-kept-requires
 last-kept-requires c κs = c .before .before .before .pre .prunable .reaches
 
 remove-unreachable-sets-requires : tie.Need-remove-unreachable-sets-requires
-remove-unreachable-sets-requires c κs = c .before .before .before .before .before .before .before .pre .prunable
+remove-unreachable-sets-requires c κs =
+    let required = c .before .before .before .before .before .before .before .pre in
+    required .prunable
 
 sub-end : tie.Need-sub-end
-sub-end c = omega (arith, c .before .before .before .before .before .before .before .before .before .before .before .before .before .before .pre .prunable .runs)
+sub-end c =
+    let required = c .before .before .before .before .before .before .before .before .before .before .before .before .before .before .pre in
+    omega (arith, required .prunable .runs)
 
 add-end : tie.Need-add-end
 add-end c =
+    let required = c .before .before .before .before .before .before .before .before .before .before .before .before .before .before .pre in
+    let kept-found = c .before .before .before .before .before .before .before .before .before .before .last-kept in
+    let pruned = c .before .before .before .before .before .before .remove-unreachable-sets in
     omega (
       arith,
-      end-fits _ _ _ _ _ _ _ _ _ _
-          (c .before .before .before .before .before .before .before .before .before .before .before .before .before .before .pre) _ _ _ _ _
-          (c .before .before .before .before .before .before .before .before .before .before .last-kept .ensures)
-          (c .before .before .before .before .before .before .remove-unreachable-sets .ensures),
+      end-fits _ _ _ _ _ _ _ _ _ _ required _ _ _ _ _ (kept-found .ensures) (pruned .ensures),
     )
 
 cast-starts : tie.Need-cast-starts
 cast-starts c =
+    let required = c .before .before .before .before .before .before .before .before .before .before .before .before .before .before .pre in
+    let kept-found = c .before .before .before .before .before .before .before .before .before .before .last-kept in
+    let pruned = c .before .before .before .before .before .before .remove-unreachable-sets in
     omega (
       arith,
-      end-fits _ _ _ _ _ _ _ _ _ _
-          (c .before .before .before .before .before .before .before .before .before .before .before .before .before .before .pre) _ _ _ _ _
-          (c .before .before .before .before .before .before .before .before .before .before .last-kept .ensures)
-          (c .before .before .before .before .before .before .remove-unreachable-sets .ensures),
+      end-fits _ _ _ _ _ _ _ _ _ _ required _ _ _ _ _ (kept-found .ensures) (pruned .ensures),
     )
 
 add-starts : tie.Need-add-starts
@@ -44,14 +48,14 @@ mul-starts c = search needs
 
 slice-write-starts : tie.Need-slice-write-starts
 slice-write-starts c =
+    let required = c .before .before .before .before .before .before .before .before .before .before .before .before .before .before .pre in
+    let kept-found = c .before .before .before .before .before .before .before .before .before .before .last-kept in
+    let pruned = c .before .before .before .before .before .before .remove-unreachable-sets in
     omega (
       arith,
-      starts-long _ _ _ _ _ _ _ _ _ _
-          (c .before .before .before .before .before .before .before .before .before .before .before .before .before .before .pre) _ _ _ _ _
-          (c .before .before .before .before .before .before .before .before .before .before .last-kept .ensures)
-          (c .before .before .before .before .before .before .remove-unreachable-sets .ensures),
-      c .before .before .before .before .before .before .before .before .before .before .before .before .before .before .pre .starts-fit,
-      c .before .before .before .before .before .before .before .before .before .before .last-kept .ensures,
+      starts-long _ _ _ _ _ _ _ _ _ _ required _ _ _ _ _ (kept-found .ensures) (pruned .ensures),
+      required .starts-fit,
+      kept-found .ensures,
     )
 
 add-prediction-pass : tie.Need-add-prediction-pass
@@ -59,31 +63,36 @@ add-prediction-pass c = search needs
 
 prediction-pass-requires : tie.Need-prediction-pass-requires
 prediction-pass-requires c κs =
-    follows-asks _ _ _ _ _ _ _ _ _ _
-    (c .before .before .before .before .before .before .before .before .before .before .before .before .before .before .before .before .pre) _ _ _ _ _
-    (c .before .before .before .before .before .before .before .before .before .before .before .before .last-kept .ensures)
-    (c .before .before .before .before .before .before .before .before .remove-unreachable-sets .ensures)
+    let required = c .before .before .before .before .before .before .before .before .before .before .before .before .before .before .before .before .pre in
+    let kept-found = c .before .before .before .before .before .before .before .before .before .before .before .before .last-kept in
+    let pruned = c .before .before .before .before .before .before .before .before .remove-unreachable-sets in
+    follows-asks _ _ _ _ _ _ _ _ _ _ required _ _ _ _ _ (kept-found .ensures) (pruned .ensures)
 
 add-t22 : tie.Need-add-t22
 add-t22 c = search needs
 
 same-length : tie.Need-same-length
-same-length c = c .before .before .before .before .before .before .before .before .before .before .before .remove-unreachable-sets .kept .1 .0
+same-length c =
+    let pruned = c .before .before .before .before .before .before .before .before .before .before .before .remove-unreachable-sets in
+    pruned .kept .1 .0
 
 same-length-2 : tie.Need-same-length-2
-same-length-2 c = simp length-set (c .before .before .before .before .before .before .before .before .before .before .before .remove-unreachable-sets .kept .1 .1 .0)
+same-length-2 c =
+    let pruned = c .before .before .before .before .before .before .before .before .before .before .before .remove-unreachable-sets in
+    simp length-set (pruned .kept .1 .1 .0)
 
 same-length-3 : tie.Need-same-length-3
 same-length-3 c =
+    let pruned = c .before .before .before .before .before .before .before .before .before .before .before .remove-unreachable-sets in
     c .before .before .prediction-pass .kept .1 .1 .1 .1 .0
-    ∙ c .before .before .before .before .before .before .before .before .before .before .before .remove-unreachable-sets .kept .1 .1 .1 .0
+    ∙ pruned .kept .1 .1 .1 .0
 
 returns : tie.Need-returns
 returns c =
-    follows _ _ _ _ _ _ _ _ _ _
-    (c .before .before .before .before .before .before .before .before .before .before .before .before .before .before .before .before .before .before .before .pre) _ _ _ _ _
-    (c .before .before .before .before .before .before .before .before .before .before .before .before .before .before .before .last-kept .ensures)
-    (c .before .before .before .before .before .before .before .before .before .before .before .remove-unreachable-sets .ensures)
+    let required = c .before .before .before .before .before .before .before .before .before .before .before .before .before .before .before .before .before .before .before .pre in
+    let kept-found = c .before .before .before .before .before .before .before .before .before .before .before .before .before .before .before .last-kept in
+    let pruned = c .before .before .before .before .before .before .before .before .before .before .before .remove-unreachable-sets in
+    follows _ _ _ _ _ _ _ _ _ _ required _ _ _ _ _ (kept-found .ensures) (pruned .ensures)
     (c .before .before .prediction-pass .ensures)
 
 pub next-set-spec : {M : Type 1} → statement M

@@ -1,15 +1,14 @@
--- `driver::answer` meets its contract. The length read lies within the buffer.
+-- `driver::answer` meets its contract: a line or the lines, by what the bytes that came say.
+use mathlib.Core.Path.{sym}
+use lib.Seq.{length-take-le}
 use Rattle.driver.specs.Writes.{Written}
-use Rattle.driver.proofs.Headers.{length-within}
+use Rattle.driver.proofs.Headers.{judged-same, whole-fits}
 use borrow.Author.Needs.{needs}
 use Rattle.driver.proofs.answer.Statement.{statement}
 use Rattle.driver.proofs.answer.Tie as tie
 
-slice-aggregate-read-grammar : tie.Need-slice-aggregate-read-grammar
-slice-aggregate-read-grammar c = search needs
-
-read-grammar-requires : tie.Need-read-grammar-requires
-read-grammar-requires c κs = search needs
+judged-requires : tie.Need-judged-requires
+judged-requires c κs = search needs
 
 enum-told : tie.Need-enum-told
 enum-told c = search needs
@@ -26,11 +25,9 @@ refusal-requires-2 c κs = search needs
 enum-known-length : tie.Need-enum-known-length
 enum-known-length c = search needs
 
-array-share-prefix-file : tie.Need-array-share-prefix-file
-array-share-prefix-file c = length-within _ (c .before .length .given .1) (c .before .before .before .before .read-grammar .ensures) .0
-
 slice-aggregate-recognize-whole : tie.Need-slice-aggregate-recognize-whole
-slice-aggregate-recognize-whole c = length-within _ (c .before .before .length .given .1) (c .before .before .before .before .before .read-grammar .ensures) .1
+slice-aggregate-recognize-whole c =
+    sym (length-take-le _ (c .before .before .before .before .before .before .before .args .bytes .now) (whole-fits _ (judged-same (c .before .before .length .given .1) (c .before .before .before .before .judged .ensures))))
 
 recognize-whole-requires : tie.Need-recognize-whole-requires
 recognize-whole-requires c κs = search needs
@@ -39,32 +36,30 @@ same-length : tie.Need-same-length
 same-length c = search needs
 
 returns : tie.Need-returns
-returns c = (c .before .before .refusal .ensures .0, Written.malformed (c .before .before .refusal .ensures .1))
+returns c = (c .before .before .refusal .ensures .0, Written.malformed (judged-same (c .before .before .before .before .enum-told .given .1) (c .before .before .before .before .before .before .judged .ensures)) (c .before .before .refusal .ensures .1))
 
 same-length-2 : tie.Need-same-length-2
 same-length-2 c = search needs
 
 returns-2 : tie.Need-returns-2
-returns-2 c = (c .before .before .refusal2 .ensures .0, Written.broken (c .before .before .refusal2 .ensures .1))
+returns-2 c = (c .before .before .refusal2 .ensures .0, Written.broken (judged-same (c .before .before .before .before .enum-told2 .given .1) (c .before .before .before .before .before .before .judged .ensures)) (c .before .before .refusal2 .ensures .1))
 
 same-length-3 : tie.Need-same-length-3
 same-length-3 c = search needs
 
 returns-3 : tie.Need-returns-3
-returns-3 c = (c .before .before .recognize-whole .ensures .0, Written.answered (c .before .before .recognize-whole .ensures .1))
+returns-3 c = (c .before .before .recognize-whole .ensures .0, Written.answered (judged-same (c .before .before .before .before .before .before .length .given .1) (c .before .before .before .before .before .before .before .before .judged .ensures)) (c .before .before .recognize-whole .ensures .1))
 
 pub answer-spec : {M : Type 1} → statement M
 answer-spec =
     tie.close
     (tie.spec
-    slice-aggregate-read-grammar
-    read-grammar-requires
+    judged-requires
     enum-told
     refusal-requires
     enum-told-2
     refusal-requires-2
     enum-known-length
-    array-share-prefix-file
     slice-aggregate-recognize-whole
     recognize-whole-requires
     same-length

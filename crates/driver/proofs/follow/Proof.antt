@@ -1,4 +1,5 @@
 -- `driver::follow` meets its contract: the lines are those of the run that was read.
+use mathlib.Core.Path.{_∙_}
 use Rattle.driver.proofs.Writing.{followed}
 use borrow.Author.Needs.{needs}
 use Rattle.driver.proofs.follow.Statement.{statement}
@@ -15,6 +16,9 @@ is-finished-requires c κs = search needs
 
 number-of-requires : tie.Need-number-of-requires
 number-of-requires c κs = search needs
+
+wide-requires : tie.Need-wide-requires
+wide-requires c κs = search needs
 
 report-requires : tie.Need-report-requires
 report-requires c κs = search needs
@@ -35,7 +39,7 @@ same-length-5 : tie.Need-same-length-5
 same-length-5 c = search needs
 
 returns : tie.Need-returns
-returns c = (c .before .before .report .ensures .0, followed (c .before .before .before .before .before .before .before .before .before .before .before .before .before .before .before .before .before .before .before .read-tokens .result) (c .before .before .before .before .before .before .before .before .before .before .before .before .before .before .before .before .before .before .before .read-tokens .ensures) (c .before .before .before .before .before .before .before .before .before .before .state-of .ensures) (c .before .before .before .before .before .is-finished .ensures) (c .before .before .before .number-of .ensures) (c .before .before .report .ensures .1))
+returns c = (c .before .before .report .ensures .0, followed (c .before .before .before .before .before .before .before .before .before .before .before .before .before .before .before .before .before .before .before .before .read-tokens .result) (c .before .before .before .before .before .before .before .before .before .before .before .before .before .before .before .before .before .before .before .before .read-tokens .ensures) (c .before .before .before .before .before .before .before .before .before .before .before .state-of .ensures) (c .before .before .before .before .before .before .is-finished .ensures) (c .before .before .before .wide .ensures ∙ c .before .before .before .before .number-of .ensures) (c .before .before .report .ensures .1))
 
 pub follow-spec : {M : Type 1} → statement M
 follow-spec =
@@ -45,6 +49,7 @@ follow-spec =
     state-of-requires
     is-finished-requires
     number-of-requires
+    wide-requires
     report-requires
     same-length
     same-length-2

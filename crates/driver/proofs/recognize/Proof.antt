@@ -42,7 +42,11 @@ same-length-5 : tie.Need-same-length-5
 same-length-5 c = search needs
 
 returns : tie.Need-returns
-returns c = (c .before .before .before .before .before .before .before .before .before .before .follow .ensures .0, started-lines (c .before .before .before .before .before .before .before .before .before .before .before .before .before .before .before .before .before .before .before .before .before .before .before .before .before .before .before .start .ensures) (c .before .before .before .before .before .before .before .before .before .before .before .before .before .before .before .before .before .state .given .1) (c .before .before .before .before .before .before .before .before .before .before .follow .ensures .1))
+returns c =
+    let started = c .before .before .before .before .before .before .before .before .before .before .before .before .before .before .before .before .before .before .before .before .before .before .before .before .before .before .before .start in
+    let state-told = c .before .before .before .before .before .before .before .before .before .before .before .before .before .before .before .before .before .state in
+    let lines-put = c .before .before .before .before .before .before .before .before .before .before .follow in
+    (lines-put .ensures .0, started-lines (started .ensures) (state-told .given .1) (lines-put .ensures .1))
 
 same-length-6 : tie.Need-same-length-6
 same-length-6 c = search needs
@@ -60,7 +64,13 @@ same-length-10 : tie.Need-same-length-10
 same-length-10 c = search needs
 
 returns-2 : tie.Need-returns-2
-returns-2 c = (c .before .before .refusal .ensures .0, refused-line (c .before .before .before .before .before .before .before .before .before .before .before .before .before .before .before .before .before .start .ensures) (c .before .before .before .before .before .before .before .why .given .1) (c .before .before .before .wide .ensures ∙ c .before .before .before .before .refusal-number .ensures) (c .before .before .refusal .ensures .1))
+returns-2 c =
+    let started = c .before .before .before .before .before .before .before .before .before .before .before .before .before .before .before .before .before .start in
+    let refusal-told = c .before .before .before .before .before .before .before .why in (
+      c .before .before .refusal .ensures .0,
+      refused-line (started .ensures) (refusal-told .given .1) (c .before .before .before .wide .ensures
+          ∙ c .before .before .before .before .refusal-number .ensures) (c .before .before .refusal .ensures .1),
+    )
 
 pub recognize-spec : {M : Type 1} → statement M
 recognize-spec =

@@ -17,34 +17,38 @@ ruled-requires c κs = search needs
 
 returns-2 : tie.Need-returns-2
 returns-2 c =
-    let start = c .before .before .before .before in
-    says-no (λ h. c .before .ruled .ensures .if-no (not-true _ (c .if2 .taken)) (accepted-ruled _ _ _ _ (start .pre) h))
+    let required = c .before .before .before .before .pre in
+    says-no (λ h. c .before .ruled .ensures .if-no (not-true _ (c .if2 .taken)) (accepted-ruled _ _ _ _ required h))
 
 equal-pair-requires : tie.Need-equal-pair-requires
 equal-pair-requires c κs = search needs
 
 returns-3 : tie.Need-returns-3
 returns-3 c =
-    let start = c .before .before .before .before .before .before in
-    says-no (λ h. accepted-distinct _ _ _ _ (start .pre) h (c .before .equal-pair .ensures .if-yes (c .if3 .taken)))
+    let required = c .before .before .before .before .before .before .pre in
+    says-no (λ h. accepted-distinct _ _ _ _ required h (c .before .equal-pair .ensures .if-yes (c .if3 .taken)))
 
 all-productive-requires : tie.Need-all-productive-requires
-all-productive-requires c κs = (
-  search needs,
-  search needs,
-  search needs,
-  low _ _ _ _ (c .before .before .before .before .before .before .pre)
-      (c .before .before .before .before .before .wraps .ensures .if-yes (not-false _ (c .before .before .before .before .if1 .left)))
-      (c .before .before .before .ruled .ensures .if-yes (not-false _ (c .before .before .if2 .left))),
-)
+all-productive-requires c κs =
+    let required = c .before .before .before .before .before .before .pre in (
+      search needs,
+      search needs,
+      search needs,
+      low _ _ _ _ required
+          (c .before .before .before .before .before .wraps .ensures .if-yes (not-false _ (c .before .before .before .before .if1 .left)))
+          (c .before .before .before .ruled .ensures .if-yes (not-false _ (c .before .before .if2 .left))),
+    )
 
 returns-4 : tie.Need-returns-4
-returns-4 c = decides-map
-    (judged _ _ _ _ (c .before .before .before .before .before .before .before .pre)
-    (c .before .before .before .before .before .before .wraps .ensures .if-yes (not-false _ (c .before .before .before .before .before .if1 .left)))
+returns-4 c =
+    let required = c .before .before .before .before .before .before .before .pre in
+    let wrapper-checked = c .before .before .before .before .before .before .wraps in
+    decides-map
+    (judged _ _ _ _ required
+    (wrapper-checked .ensures .if-yes (not-false _ (c .before .before .before .before .before .if1 .left)))
     (c .before .before .before .before .ruled .ensures .if-yes (not-false _ (c .before .before .before .if2 .left)))
     (c .before .before .equal-pair .ensures .if-no (c .before .if3 .left)))
-    (accepted-productive _ _ _ _ (c .before .before .before .before .before .before .before .pre))
+    (accepted-productive _ _ _ _ required)
     (c .all-productive .ensures)
 
 pub accepted-spec : {M : Type 1} → statement M

@@ -29,50 +29,54 @@ sized-requires c κs = search needs
 
 returns-2 : tie.Need-returns-2
 returns-2 c =
-    let at-rule-count = c .before .before in
-    let at-tokens = c .before .before .before in
-    let at-symbols = c .before .before .before .before in
-    let at-if1 = c .before .before .before .before .before in
-    let at-malformed = c .before .before .before .before .before .before in (
-      verdict-two _ (at-malformed .malformed .ensures .if-no (at-if1 .if1 .left))
-          (not-sized _ _ _ _ (record { symbols = at-symbols .symbols .ensures .0; tokens = at-tokens .tokens .ensures .0; rules = at-rule-count .rule-count .ensures .0 }) (c .before .sized .ensures .if-no (not-true _ (c .if2 .taken)))),
+    let form-checked = c .before .before .before .before .before .before .malformed in
+    let form-tested = c .before .before .before .before .before .if1 in
+    let symbols-read = c .before .before .before .before .symbols in
+    let tokens-read = c .before .before .before .tokens in
+    let rules-counted = c .before .before .rule-count in (
+      verdict-two _ (form-checked .ensures .if-no (form-tested .left))
+          (not-sized _ _ _ _ (record { symbols = symbols-read .ensures .0; tokens = tokens-read .ensures .0; rules = rules-counted .ensures .0 })
+          (c .before .sized .ensures .if-no (not-true _ (c .if2 .taken)))),
       record { accepted = λ zero. absurd (omega arith); refused = λ other. refl },
     )
 
 decode-requires : tie.Need-decode-requires
 decode-requires c κs =
-    let at-rule-count = c .before .before in
-    let at-if1 = c .before .before .before .before .before in
-    let at-malformed = c .before .before .before .before .before .before in
-    readable _ (at-malformed .malformed .ensures .if-no (at-if1 .if1 .left))
-    (omega (arith, c .before .sized .ensures .if-yes (not-false _ (c .if2 .left)), at-rule-count .rule-count .ensures))
+    let form-checked = c .before .before .before .before .before .before .malformed in
+    let form-tested = c .before .before .before .before .before .if1 in
+    let rules-counted = c .before .before .rule-count in
+    readable _ (form-checked .ensures .if-no (form-tested .left))
+    (omega (arith, c .before .sized .ensures .if-yes (not-false _ (c .if2 .left)), rules-counted .ensures))
 
 accepted-requires : tie.Need-accepted-requires
 accepted-requires c κs = c .before .before .before .sized .ensures .if-yes (not-false _ (c .before .before .if2 .left))
 
 returns-3 : tie.Need-returns-3
 returns-3 c =
-    let at-decode = c .before .before .before in
-    let at-rule-count = c .before .before .before .before .before .before in
-    let at-tokens = c .before .before .before .before .before .before .before in
-    let at-symbols = c .before .before .before .before .before .before .before .before in
-    let at-if1 = c .before .before .before .before .before .before .before .before .before in
-    let at-malformed = c .before .before .before .before .before .before .before .before .before .before in (
-      verdict-zero _ (at-malformed .malformed .ensures .if-no (at-if1 .if1 .left))
-          (subst Accepted (read-grammar _ _ _ _ _ (record { symbols = at-symbols .symbols .ensures .0; tokens = at-tokens .tokens .ensures .0; rules = at-rule-count .rule-count .ensures .0 }) (at-decode .decode .ensures .rules)) (c .before .accepted .ensures .if-yes (c .if3 .taken))),
-      record { accepted = λ zero. at-decode .decode .ensures; refused = λ other. absurd (other refl) },
+    let form-checked = c .before .before .before .before .before .before .before .before .before .before .malformed in
+    let form-tested = c .before .before .before .before .before .before .before .before .before .if1 in
+    let symbols-read = c .before .before .before .before .before .before .before .before .symbols in
+    let tokens-read = c .before .before .before .before .before .before .before .tokens in
+    let rules-counted = c .before .before .before .before .before .before .rule-count in
+    let decoded = c .before .before .before .decode in (
+      verdict-zero _ (form-checked .ensures .if-no (form-tested .left))
+          (subst Accepted (read-grammar _ _ _ _ _ (record { symbols = symbols-read .ensures .0; tokens = tokens-read .ensures .0; rules = rules-counted .ensures .0 })
+          (decoded .ensures .rules)) (c .before .accepted .ensures .if-yes (c .if3 .taken))),
+      record { accepted = λ zero. decoded .ensures; refused = λ other. absurd (other refl) },
     )
 
 returns-4 : tie.Need-returns-4
 returns-4 c =
-    let at-decode = c .before .before .before in
-    let at-rule-count = c .before .before .before .before .before .before in
-    let at-tokens = c .before .before .before .before .before .before .before in
-    let at-symbols = c .before .before .before .before .before .before .before .before in
-    let at-if1 = c .before .before .before .before .before .before .before .before .before in
-    let at-malformed = c .before .before .before .before .before .before .before .before .before .before in (
-      verdict-two _ (at-malformed .malformed .ensures .if-no (at-if1 .if1 .left))
-          (λ h. c .before .accepted .ensures .if-no (c .if3 .left) (subst⁻¹ Accepted (read-grammar _ _ _ _ _ (record { symbols = at-symbols .symbols .ensures .0; tokens = at-tokens .tokens .ensures .0; rules = at-rule-count .rule-count .ensures .0 }) (at-decode .decode .ensures .rules)) h)),
+    let form-checked = c .before .before .before .before .before .before .before .before .before .before .malformed in
+    let form-tested = c .before .before .before .before .before .before .before .before .before .if1 in
+    let symbols-read = c .before .before .before .before .before .before .before .before .symbols in
+    let tokens-read = c .before .before .before .before .before .before .before .tokens in
+    let rules-counted = c .before .before .before .before .before .before .rule-count in
+    let decoded = c .before .before .before .decode in (
+      verdict-two _ (form-checked .ensures .if-no (form-tested .left))
+          (λ h. c .before .accepted .ensures .if-no (c .if3 .left)
+          (subst⁻¹ Accepted (read-grammar _ _ _ _ _ (record { symbols = symbols-read .ensures .0; tokens = tokens-read .ensures .0; rules = rules-counted .ensures .0 })
+          (decoded .ensures .rules)) h)),
       record { accepted = λ zero. absurd (omega arith); refused = λ other. refl },
     )
 

@@ -17,8 +17,8 @@ enum-told c = search needs
 returns : tie.Need-returns
 unfolding numberIn positionOr
 returns c =
-    let a = c .before .before .before .before .args in
-    let w = wrote-none (a .behind .now) (a .store .now) (a .node .now) (a .p) (c .before .before .node-of .ensures) (c .enum-told .given .1) in
+    let given = c .before .before .before .before .args in
+    let w = wrote-none (given .behind .now) (given .store .now) (given .node .now) (given .p) (c .before .before .node-of .ensures) (c .enum-told .given .1) in
     (w .is-number, (w .is-position, w .is-store))
 
 write-requires : tie.Need-write-requires
@@ -39,8 +39,11 @@ same-length c = search needs
 returns-2 : tie.Need-returns-2
 unfolding numberIn positionOr
 returns-2 c =
-    let a = c .before .before .before .before .before .before .before .before .before .before .before .before .args in
-    let w = wrote-node (a .behind .now) (a .store .now) (a .node .now) (a .p) (c .before .before .before .before .before .before .before .before .before .before .node-of .ensures) (c .before .before .before .before .before .before .before .before .n .given .1) (c .before .before .before .before .before .write .ensures) (c .before .q .given .1) in
+    let given = c .before .before .before .before .before .before .before .before .before .before .before .before .args in
+    let node-asked = c .before .before .before .before .before .before .before .before .before .before .node-of in
+    let node-told = c .before .before .before .before .before .before .before .before .n in
+    let w = wrote-node (given .behind .now) (given .store .now) (given .node .now) (given .p) (node-asked .ensures) (node-told .given .1)
+    (c .before .before .before .before .before .write .ensures) (c .before .q .given .1) in
     (w .is-number, (w .is-position, w .is-store))
 
 same-length-2 : tie.Need-same-length-2
@@ -49,8 +52,11 @@ same-length-2 c = search needs
 returns-3 : tie.Need-returns-3
 unfolding numberIn positionOr
 returns-3 c =
-    let a = c .before .before .before .before .before .before .before .before .before .before .before .args in
-    let w = wrote-node (a .behind .now) (a .store .now) (a .node .now) (a .p) (c .before .before .before .before .before .before .before .before .before .node-of .ensures) (c .before .before .before .before .before .before .before .n .given .1) (c .before .before .before .before .write .ensures) (c .enum-told2 .given .1) in
+    let given = c .before .before .before .before .before .before .before .before .before .before .before .args in
+    let node-asked = c .before .before .before .before .before .before .before .before .before .node-of in
+    let node-told = c .before .before .before .before .before .before .before .n in
+    let w = wrote-node (given .behind .now) (given .store .now) (given .node .now) (given .p) (node-asked .ensures) (node-told .given .1)
+    (c .before .before .before .before .write .ensures) (c .enum-told2 .given .1) in
     (w .is-number, (w .is-position, w .is-store))
 
 same-length-3 : tie.Need-same-length-3
@@ -59,8 +65,11 @@ same-length-3 c = search needs
 returns-4 : tie.Need-returns-4
 unfolding numberIn positionOr
 returns-4 c =
-    let a = c .before .before .before .before .before .before .before .before .before .before .before .args in
-    let w = wrote-node (a .behind .now) (a .store .now) (a .node .now) (a .p) (c .before .before .before .before .before .before .before .before .before .node-of .ensures) (c .before .before .before .before .before .before .before .n .given .1) (c .before .before .before .before .write .ensures) (c .enum-told3 .given .1) in
+    let given = c .before .before .before .before .before .before .before .before .before .before .before .args in
+    let node-asked = c .before .before .before .before .before .before .before .before .before .node-of in
+    let node-told = c .before .before .before .before .before .before .before .n in
+    let w = wrote-node (given .behind .now) (given .store .now) (given .node .now) (given .p) (node-asked .ensures) (node-told .given .1)
+    (c .before .before .before .before .write .ensures) (c .enum-told3 .given .1) in
     (w .is-number, (w .is-position, w .is-store))
 
 pub brinesaddle-node-write-spec : {M : Type 1} → statement M

@@ -1,5 +1,5 @@
 -- `brinesaddle_run` meets its contract: what the call beneath answers, in the host's words.
-use Rattle.recognizer.proofs.Telling.{run-means}
+use Rattle.demands.proofs.Telling.{run-means}
 use Rattle.host.proofs.Telling.{runs-told}
 use borrow.Author.Needs.{needs}
 use Rattle.host.proofs.brinesaddle_run.Statement.{statement}
@@ -25,8 +25,9 @@ same-length-4 c = search needs
 
 returns : tie.Need-returns
 returns c =
+    let ran = c .before .before .before .before .before .before .before .before .before .before .before .run in
     let t = c .tell .ensures in
-    run-means (runs-told (c .before .before .before .before .before .before .before .before .before .before .before .run .result) (c .before .before .before .before .before .before .before .before .before .before .before .run .ensures .0) (record { is-number = t .0; is-set = t .1 .0; is-held = t .1 .1 }))
+    run-means (runs-told (ran .result) (ran .ensures .0) (record { is-number = t .0; is-set = t .1 .0; is-held = t .1 .1 }))
 
 pub brinesaddle-run-spec : {M : Type 1} → statement M
 brinesaddle-run-spec =

@@ -24,8 +24,9 @@ same-length-4 c = search needs
 
 returns : tie.Need-returns
 returns c =
+    let started = c .before .before .before .before .before .before .before .before .before .before .before .start in
     let t = c .tell .ensures in
-    starts-told (c .before .before .before .before .before .before .before .before .before .before .before .start .result) (c .before .before .before .before .before .before .before .before .before .before .before .start .ensures) (record { is-number = t .0; is-set = t .1 .0; is-held = t .1 .1 })
+    starts-told (started .result) (started .ensures) (record { is-number = t .0; is-set = t .1 .0; is-held = t .1 .1 })
 
 pub brinesaddle-start-spec : {M : Type 1} → statement M
 brinesaddle-start-spec =

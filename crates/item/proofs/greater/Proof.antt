@@ -24,20 +24,20 @@ rule-requires-2 c κs = search needs
 
 returns : tie.Need-returns
 returns c =
-    let start = c .before .before .before .before .before .before in
-    let p = itemAt (now (start .args .items)) (start .args .p) in
-    let q = itemAt (now (start .args .items)) (start .args .q) in
+    let given = c .before .before .before .before .before .before .args in
+    let p = itemAt (now (given .items)) (given .p) in
+    let q = itemAt (now (given .items)) (given .q) in
     ap₂ ltb (c .rule2 .ensures) (c .before .rule .ensures)
     ∙ by-rule q p (sym (c .before .before .before .origin2 .ensures) ∙ sym (c .before .before .if1 .taken) ∙ c .before .before .before .before .origin .ensures)
 
 returns-2 : tie.Need-returns-2
 returns-2 c =
-    let start = c .before .before .before .before in
-    let p = itemAt (now (start .args .items)) (start .args .p) in
-    let q = itemAt (now (start .args .items)) (start .args .q) in
+    let given = c .before .before .before .before .args in
+    let p = itemAt (now (given .items)) (given .p) in
+    let q = itemAt (now (given .items)) (given .q) in
     let known = c .before .before .before .shared-slice-known .given in
     ap₂ ltb (c .before .origin2 .ensures) (c .before .before .origin .ensures)
-    ∙ by-origin q p (omega (arith, known (itemWords * start .args .q + 1))) (omega (arith, known (itemWords * start .args .p + 1)))
+    ∙ by-origin q p (omega (arith, known (itemWords * given .q + 1))) (omega (arith, known (itemWords * given .p + 1)))
     (λ e. c .if1 .left (c .before .before .origin .ensures ∙ sym e ∙ sym (c .before .origin2 .ensures)))
 
 pub greater-spec : {M : Type 1} → statement M

@@ -17,9 +17,9 @@ same-length c = search needs
 
 returns : tie.Need-returns
 returns c =
-    let a = c .before .before .before .before .before .before .args in
+    let given = c .before .before .before .before .before .before .args in
     c .before .before .place-units .ensures
-    ∙ ap (λ u. writeUnits (a .store .now) (a .p) (listOf u)) (c .before .before .before .units-of .ensures)
+    ∙ ap (λ u. writeUnits (given .store .now) (given .p) (listOf u)) (c .before .before .before .units-of .ensures)
 
 pub write-spec : {M : Type 1} → statement M
 write-spec = tie.close (tie.spec units-of-requires place-units-requires same-length returns)

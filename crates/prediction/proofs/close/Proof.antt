@@ -46,8 +46,8 @@ loop2-less c = search needs
 
 loop2-again : tie.Need-loop2-again Inv-loop2 μ-loop2 Inv-loop μ-loop
 loop2-again c =
-    let at-loop2 = c .before .before .before .before .before in
-    λ s h. row-passed _ _ _ _ _ (at-loop2 .loop2 .inv s h) (holds-false _ _ (sym (c .before .has .ensures) ∙ not-true _ (c .if1 .taken)))
+    let rows-looped = c .before .before .before .before .before .loop2 in
+    λ s h. row-passed _ _ _ _ _ (rows-looped .inv s h) (holds-false _ _ (sym (c .before .has .ensures) ∙ not-true _ (c .if1 .taken)))
 
 mul-other : tie.Need-mul-other Inv-loop2 μ-loop2 Inv-loop μ-loop
 mul-other c = search needs
@@ -57,10 +57,10 @@ array-copy-out-other c = search needs
 
 join-requires : tie.Need-join-requires Inv-loop2 μ-loop2 Inv-loop μ-loop
 join-requires c κs =
-    let at-loop2 = c .before .before .before .before .before .before .before .before in
-    let at-loop = c .before .before .before .before .before .before .before .before .before .before in (
-      at-loop2 .loop2 .inv _ (at-loop .loop .inv) .shape .row (at-loop2 .loop2 .i) (omega arith) .width-is,
-      at-loop2 .loop2 .inv _ (at-loop .loop .inv) .shape .row (at-loop .loop .k) (omega arith) .width-is,
+    let looped = c .before .before .before .before .before .before .before .before .before .before .loop in
+    let rows-looped = c .before .before .before .before .before .before .before .before .loop2 in (
+      rows-looped .inv _ (looped .inv) .shape .row (rows-looped .i) (omega arith) .width-is,
+      rows-looped .inv _ (looped .inv) .shape .row (looped .k) (omega arith) .width-is,
     )
 
 mul-table : tie.Need-mul-table Inv-loop2 μ-loop2 Inv-loop μ-loop
@@ -77,11 +77,11 @@ loop2-less-2 c = search needs
 
 loop2-again-2 : tie.Need-loop2-again-2 Inv-loop2 μ-loop2 Inv-loop μ-loop
 loop2-again-2 c =
-    let at-if1 = c .before .before .before .before in
-    let at-has = c .before .before .before .before .before in
-    let at-loop2 = c .before .before .before .before .before .before .before .before .before in
-    λ s h. row-joined _ _ _ _ _ _ (c .join .ensures) (at-loop2 .loop2 .inv s h) (omega arith) (omega arith)
-    (holds-true _ _ (sym (at-has .has .ensures) ∙ not-false _ (at-if1 .if1 .left)))
+    let rows-looped = c .before .before .before .before .before .before .before .before .before .loop2 in
+    let looked-up = c .before .before .before .before .before .has in
+    let bit-tested = c .before .before .before .before .if1 in
+    λ s h. row-joined _ _ _ _ _ _ (c .join .ensures) (rows-looped .inv s h) (omega arith) (omega arith)
+    (holds-true _ _ (sym (looked-up .ensures) ∙ not-false _ (bit-tested .left)))
 
 add-k : tie.Need-add-k Inv-loop2 μ-loop2 Inv-loop μ-loop
 add-k c = search needs
@@ -91,9 +91,9 @@ loop-less c = search needs
 
 loop-again : tie.Need-loop-again Inv-loop2 μ-loop2 Inv-loop μ-loop
 loop-again c =
-    let at-loop = c .before .before .before in
-    let start = c .before .before .before .before in
-    turn-ends _ _ _ _ _ _ (start .pre .2) (c .before .loop2 .inv _ (at-loop .loop .inv)) (c .loop2-test .left)
+    let required = c .before .before .before .before .pre in
+    let looped = c .before .before .before .loop in
+    turn-ends _ _ _ _ _ _ (required .2) (c .before .loop2 .inv _ (looped .inv)) (c .loop2-test .left)
 
 returns : tie.Need-returns Inv-loop2 μ-loop2 Inv-loop μ-loop
 returns c = closed _ _ _ _ _ (c .before .before .pre .2) (c .before .loop .inv) (c .loop-test .left)

@@ -1,6 +1,6 @@
 -- `prediction::seed` meets its contract. The invariant, `Seeded`: the table of the symbols and rules passed.
 use Rattle.bits.specs.Width.{rowWords}
-use Rattle.prediction.specs.Tables.{Seeded}
+use Rattle.prediction.specs.inner.Tables.{Seeded}
 use Rattle.prediction.proofs.Cells.{seeded-none, seeded-own, seeded-first, seeded-at}
 use borrow.Author.Needs.{needs}
 use native.Mathlib.Omega.{arith}
@@ -59,29 +59,29 @@ mul-row-2 c = search needs
 
 array-copy-out-row-2 : tie.Need-array-copy-out-row-2 Inv-loop μ-loop Inv-loop2 μ-loop2
 array-copy-out-row-2 c =
-    let at-loop2 = c .before .before in
-    let start = c .before .before .before .before .before in
-    omega (arith, start .pre .1 .few, start .pre .1 .left (at-loop2 .loop2 .r) (c .before .loop2-test .taken))
+    let required = c .before .before .before .before .before .pre in
+    let rules-looped = c .before .before .loop2 in
+    omega (arith, required .1 .few, required .1 .left (rules-looped .r) (c .before .loop2-test .taken))
 
 first-requires : tie.Need-first-requires Inv-loop μ-loop Inv-loop2 μ-loop2
 first-requires c κs = search needs
 
 add-requires-2 : tie.Need-add-requires-2 Inv-loop μ-loop Inv-loop2 μ-loop2
 add-requires-2 c κs =
-    let at-loop2-test = c .before .before .before in
-    let at-loop2 = c .before .before .before .before in
-    let start = c .before .before .before .before .before .before .before in
-    omega (arith, start .pre .1 .few, start .pre .1 .first (at-loop2 .loop2 .r) (at-loop2-test .loop2-test .taken))
+    let required = c .before .before .before .before .before .before .before .pre in
+    let rules-looped = c .before .before .before .before .loop2 in
+    let rule-entered = c .before .before .before .loop2-test in
+    omega (arith, required .1 .few, required .1 .first (rules-looped .r) (rule-entered .taken))
 
 mul-table-2 : tie.Need-mul-table-2 Inv-loop μ-loop Inv-loop2 μ-loop2
 mul-table-2 c = search needs
 
 array-set-from-table-2 : tie.Need-array-set-from-table-2 Inv-loop μ-loop Inv-loop2 μ-loop2
 array-set-from-table-2 c =
-    let at-loop2-test = c .before .before .before .before in
-    let at-loop2 = c .before .before .before .before .before in
-    let start = c .before .before .before .before .before .before .before .before in
-    omega (arith, start .pre .1 .few, start .pre .1 .left (at-loop2 .loop2 .r) (at-loop2-test .loop2-test .taken))
+    let required = c .before .before .before .before .before .before .before .before .pre in
+    let rules-looped = c .before .before .before .before .before .loop2 in
+    let rule-entered = c .before .before .before .before .loop2-test in
+    omega (arith, required .1 .few, required .1 .left (rules-looped .r) (rule-entered .taken))
 
 add-r : tie.Need-add-r Inv-loop μ-loop Inv-loop2 μ-loop2
 add-r c = search needs
@@ -91,14 +91,14 @@ loop2-less c = search needs
 
 loop2-again : tie.Need-loop2-again Inv-loop μ-loop Inv-loop2 μ-loop2
 loop2-again c =
-    let at-left = c .before .before .before in
-    let at-loop2-test = c .before .before .before .before in
-    let at-loop2 = c .before .before .before .before .before in
-    let start = c .before .before .before .before .before .before .before .before in (
+    let required = c .before .before .before .before .before .before .before .before .pre in
+    let rules-looped = c .before .before .before .before .before .loop2 in
+    let rule-entered = c .before .before .before .before .loop2-test in
+    let left-read = c .before .before .before .left in (
       omega arith,
-      seeded-first _ _ _ (omega arith) _ _ _ _ _ (c .add2 .ensures) (at-loop2 .loop2 .inv .1) (at-left .left .ensures .0)
-          (c .before .first .ensures .0) (omega (arith, start .pre .1 .few, start .pre .1 .left (at-loop2 .loop2 .r) (at-loop2-test .loop2-test .taken)))
-          (omega (arith, start .pre .1 .few, start .pre .1 .first (at-loop2 .loop2 .r) (at-loop2-test .loop2-test .taken))),
+      seeded-first _ _ _ (omega arith) _ _ _ _ _ (c .add2 .ensures) (rules-looped .inv .1) (left-read .ensures .0)
+          (c .before .first .ensures .0) (omega (arith, required .1 .few, required .1 .left (rules-looped .r) (rule-entered .taken)))
+          (omega (arith, required .1 .few, required .1 .first (rules-looped .r) (rule-entered .taken))),
     )
 
 returns : tie.Need-returns Inv-loop μ-loop Inv-loop2 μ-loop2

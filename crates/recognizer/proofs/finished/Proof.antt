@@ -1,73 +1,51 @@
 -- `recognizer::finished` meets its contract.
 use borrow.Author.Needs.{needs}
-use Rattle.recognizer.specs.Calls.{CallFault, Finishes}
-use Rattle.recognizer.specs.Steppable.{wordsOf}
-use Rattle.recognizer.proofs.Readying.{opened-fault, opened-sound, sound-few, told-ill-formed, told-formed, finishes-with}
-use Rattle.recognizer.proofs.Telling.{finished-means}
+use Rattle.parse.specs.Words.{wordsOf}
+use Rattle.demands.specs.Calls.{Finishes}
+use Rattle.demands.proofs.Telling.{finished-means}
+use Rattle.recognizer.proofs.Readying.{readied-fault, readied-formed, finishes-with}
 use Rattle.recognizer.proofs.Cutting.{latest-there}
 use Rattle.recognizer.proofs.finished.Statement.{statement}
 use Rattle.recognizer.proofs.finished.Tie as tie
 
-open-requires : tie.Need-open-requires
-open-requires c κs = search needs
+ready-requires : tie.Need-ready-requires
+ready-requires c κs = search needs
 
 enum-known-why : tie.Need-enum-known-why
 enum-known-why c = search needs
 
 returns : tie.Need-returns
-returns c =
-    finished-means (Finishes.refused (CallFault.file-fault (opened-fault _ _ _ (c .before .before .before .«open» .ensures) _ (c .before .why .given .1))))
+returns c = finished-means (Finishes.refused (readied-fault _ _ _ _ _ (c .before .before .before .ready .ensures) _ (c .before .why .given .1)))
 
-enum-known-found : tie.Need-enum-known-found
-enum-known-found c = search needs
-
-well-formed-requires : tie.Need-well-formed-requires
-well-formed-requires c κs =
-    let sound = opened-sound _ _ _ (c .before .before .before .before .«open» .ensures) _ (c .before .before .found .given .1) in
-    sound-few _ _ _ sound
-
-returns-2 : tie.Need-returns-2
-returns-2 c =
-    let start = c .before .before .before .before .before .before .before .before .before .before .before .before .before in
-    let words = wordsOf (start .args .items .now) (start .args .starts .now) (start .args .rows .now) (start .args .queue .now) in
-    let sound = opened-sound _ _ _ (c .before .before .before .before .before .before .«open» .ensures) _ (c .before .before .before .before .found .given .1) in
-    let fault = told-ill-formed _ _ _ sound (start .args .state) words _ (c .before .well-formed .ensures) (c .if1 .taken) in
-    finished-means (Finishes.refused fault)
+enum-told : tie.Need-enum-told
+enum-told c = search needs
 
 last-wraps-requires : tie.Need-last-wraps-requires
 last-wraps-requires c κs =
-    let start = c .before .before .before .before .before .before .before .before .before .before .before .before .before in
-    let words = wordsOf (start .args .items .now) (start .args .starts .now) (start .args .rows .now) (start .args .queue .now) in
-    let sound = opened-sound _ _ _ (c .before .before .before .before .before .before .«open» .ensures) _ (c .before .before .before .before .found .given .1) in
-    let formed = told-formed _ _ _ sound (start .args .state) words _ (c .before .well-formed .ensures) (c .if1 .left) in
-    latest-there _ _ (start .args .state) words (formed .well-formed)
+    let given = c .before .before .before .before .before .before .before .before .before .args in
+    let formed = readied-formed _ _ _ _ _ (c .before .before .ready .ensures) _ (c .enum-told .given .1) in
+    latest-there _ _ (given .state) (wordsOf (given .items .now) (given .starts .now) (given .rows .now) (given .queue .now)) (formed .well-formed)
+
+returns-2 : tie.Need-returns-2
+returns-2 c =
+    let given = c .before .before .before .before .before .before .before .before .before .before .before .args in
+    let formed = readied-formed _ _ _ _ _ (c .before .before .before .before .ready .ensures) _ (c .before .before .enum-told .given .1) in
+    finished-means (finishes-with _ (given .state) (wordsOf (given .items .now) (given .starts .now) (given .rows .now) (given .queue .now)) formed _ _ (c .before .last-wraps .ensures) (c .if1 .taken))
 
 returns-3 : tie.Need-returns-3
 returns-3 c =
-    let start = c .before .before .before .before .before .before .before .before .before .before .before .before .before .before .before in
-    let words = wordsOf (start .args .items .now) (start .args .starts .now) (start .args .rows .now) (start .args .queue .now) in
-    let sound = opened-sound _ _ _ (c .before .before .before .before .before .before .before .before .«open» .ensures) _ (c .before .before .before .before .before .before .found .given .1) in
-    let formed = told-formed _ _ _ sound (start .args .state) words _ (c .before .before .before .well-formed .ensures) (c .before .before .if1 .left) in
-    finished-means (finishes-with _ (start .args .state) words formed _ _ (c .before .last-wraps .ensures) (c .if2 .taken))
-
-returns-4 : tie.Need-returns-4
-returns-4 c =
-    let start = c .before .before .before .before .before .before .before .before .before .before .before .before .before .before .before in
-    let words = wordsOf (start .args .items .now) (start .args .starts .now) (start .args .rows .now) (start .args .queue .now) in
-    let sound = opened-sound _ _ _ (c .before .before .before .before .before .before .before .before .«open» .ensures) _ (c .before .before .before .before .before .before .found .given .1) in
-    let formed = told-formed _ _ _ sound (start .args .state) words _ (c .before .before .before .well-formed .ensures) (c .before .before .if1 .left) in
-    finished-means (finishes-with _ (start .args .state) words formed _ _ (c .before .last-wraps .ensures) (c .if2 .left))
+    let given = c .before .before .before .before .before .before .before .before .before .before .before .args in
+    let formed = readied-formed _ _ _ _ _ (c .before .before .before .before .ready .ensures) _ (c .before .before .enum-told .given .1) in
+    finished-means (finishes-with _ (given .state) (wordsOf (given .items .now) (given .starts .now) (given .rows .now) (given .queue .now)) formed _ _ (c .before .last-wraps .ensures) (c .if1 .left))
 
 pub finished-spec : {M : Type 1} → statement M
 finished-spec =
     tie.close
     (tie.spec
-    open-requires
+    ready-requires
     enum-known-why
     returns
-    enum-known-found
-    well-formed-requires
-    returns-2
+    enum-told
     last-wraps-requires
-    returns-3
-    returns-4)
+    returns-2
+    returns-3)

@@ -1,14 +1,13 @@
 -- `recognizer::latest_set` meets its contract.
 use borrow.Author.Needs.{needs}
-use Rattle.recognizer.specs.Calls.{CallFault}
-use Rattle.recognizer.specs.Steppable.{wordsOf}
-use Rattle.recognizer.proofs.Readying.{opened-fault, opened-sound, sound-few, told-ill-formed, told-formed, reports-with, reports-refused}
+use Rattle.parse.specs.Words.{wordsOf}
+use Rattle.recognizer.proofs.Readying.{readied-fault, readied-formed, reports-with, reports-refused}
 use Rattle.recognizer.proofs.Cutting.{latest-there}
 use Rattle.recognizer.proofs.latest_set.Statement.{statement}
 use Rattle.recognizer.proofs.latest_set.Tie as tie
 
-open-requires : tie.Need-open-requires
-open-requires c κs = search needs
+ready-requires : tie.Need-ready-requires
+ready-requires c κs = search needs
 
 enum-known-why : tie.Need-enum-known-why
 enum-known-why c = search needs
@@ -27,72 +26,36 @@ part-result-end c = search needs
 
 returns : tie.Need-returns
 returns c =
-    let start = c .before .before .before .before .before .before .before .before .before .before .before .before in
-    let words = wordsOf (start .args .items .now) (start .args .starts .now) (start .args .rows .now) (start .args .queue .now) in
-    reports-refused _ (start .args .state) words (CallFault.file-fault (opened-fault _ _ _ (c .before .before .before .before .before .«open» .ensures) _ (c .before .before .before .why .given .1))) _
-    (c .before .refusal-number .ensures)
+    let given = c .before .before .before .before .before .before .before .before .before .before .before .before .args in
+    reports-refused _ (given .state) (wordsOf (given .items .now) (given .starts .now) (given .rows .now) (given .queue .now))
+    (readied-fault _ _ _ _ _ (c .before .before .before .before .before .ready .ensures) _ (c .before .before .before .why .given .1)) _ (c .before .refusal-number .ensures)
 
-enum-known-found : tie.Need-enum-known-found
-enum-known-found c = search needs
-
-well-formed-requires : tie.Need-well-formed-requires
-well-formed-requires c κs =
-    let sound = opened-sound _ _ _ (c .before .before .before .before .«open» .ensures) _ (c .before .before .found .given .1) in
-    sound-few _ _ _ sound
-
-refusal-number-requires-2 : tie.Need-refusal-number-requires-2
-refusal-number-requires-2 c κs = search needs
-
-sub-result-2 : tie.Need-sub-result-2
-sub-result-2 c = search needs
-
-part-result-start-2 : tie.Need-part-result-start-2
-part-result-start-2 c = search needs
-
-part-result-end-2 : tie.Need-part-result-end-2
-part-result-end-2 c = search needs
-
-returns-2 : tie.Need-returns-2
-returns-2 c =
-    let start = c .before .before .before .before .before .before .before .before .before .before .before .before .before .before .before in
-    let words = wordsOf (start .args .items .now) (start .args .starts .now) (start .args .rows .now) (start .args .queue .now) in
-    let sound = opened-sound _ _ _ (c .before .before .before .before .before .before .before .before .«open» .ensures) _ (c .before .before .before .before .before .before .found .given .1) in
-    let fault = told-ill-formed _ _ _ sound (start .args .state) words _ (c .before .before .before .well-formed .ensures) (c .before .before .if1 .taken) in
-    reports-refused _ (start .args .state) words fault _ (c .before .refusal-number2 .ensures)
+enum-told : tie.Need-enum-told
+enum-told c = search needs
 
 latest-part-requires : tie.Need-latest-part-requires
 latest-part-requires c κs =
-    let start = c .before .before .before .before .before .before .before .before .before .before .before .before .before in
-    let words = wordsOf (start .args .items .now) (start .args .starts .now) (start .args .rows .now) (start .args .queue .now) in
-    let sound = opened-sound _ _ _ (c .before .before .before .before .before .before .«open» .ensures) _ (c .before .before .before .before .found .given .1) in
-    let formed = told-formed _ _ _ sound (start .args .state) words _ (c .before .well-formed .ensures) (c .if1 .left) in
-    latest-there _ _ (start .args .state) words (formed .well-formed)
+    let given = c .before .before .before .before .before .before .before .before .before .args in
+    let formed = readied-formed _ _ _ _ _ (c .before .before .ready .ensures) _ (c .enum-told .given .1) in
+    latest-there _ _ (given .state) (wordsOf (given .items .now) (given .starts .now) (given .rows .now) (given .queue .now)) (formed .well-formed)
 
-returns-3 : tie.Need-returns-3
-returns-3 c =
-    let start = c .before .before .before .before .before .before .before .before .before .before .before .before .before .before in
-    let words = wordsOf (start .args .items .now) (start .args .starts .now) (start .args .rows .now) (start .args .queue .now) in
-    let sound = opened-sound _ _ _ (c .before .before .before .before .before .before .before .«open» .ensures) _ (c .before .before .before .before .before .found .given .1) in
-    let formed = told-formed _ _ _ sound (start .args .state) words _ (c .before .before .well-formed .ensures) (c .before .if1 .left) in
-    reports-with _ (start .args .state) words formed _ (c .latest-part .ensures)
+returns-2 : tie.Need-returns-2
+returns-2 c =
+    let given = c .before .before .before .before .before .before .before .before .before .before .args in
+    let formed = readied-formed _ _ _ _ _ (c .before .before .before .ready .ensures) _ (c .before .enum-told .given .1) in
+    reports-with _ (given .state) (wordsOf (given .items .now) (given .starts .now) (given .rows .now) (given .queue .now)) formed _ (c .latest-part .ensures)
 
 pub latest-set-spec : {M : Type 1} → statement M
 latest-set-spec =
     tie.close
     (tie.spec
-    open-requires
+    ready-requires
     enum-known-why
     refusal-number-requires
     sub-result
     part-result-start
     part-result-end
     returns
-    enum-known-found
-    well-formed-requires
-    refusal-number-requires-2
-    sub-result-2
-    part-result-start-2
-    part-result-end-2
-    returns-2
+    enum-told
     latest-part-requires
-    returns-3)
+    returns-2)

@@ -1,31 +1,19 @@
 -- `recognizer::run` meets its contract.
 use mathlib.Core.Path.{refl}
+use borrow.Author.Needs.{needs}
 use Rattle.prediction.proofs.Reaching.{accepted-within}
-use Rattle.recognizer.specs.Calls.{CallFault, Runs}
-use Rattle.recognizer.specs.Steppable.{wordsOf}
-use Rattle.recognizer.proofs.Readying.{opened-fault, opened-sound, sound-few, sound-checked, told-ill-formed, told-formed}
+use Rattle.demands.specs.Calls.{Runs}
+use Rattle.demands.proofs.Telling.{run-means}
+use Rattle.recognizer.proofs.Readying.{readied-fault, readied-few, readied-formed}
 use Rattle.recognizer.proofs.Given.{can-step, runs}
-use Rattle.recognizer.proofs.Telling.{run-means}
 use Rattle.recognizer.proofs.run.Statement.{statement}
 use Rattle.recognizer.proofs.run.Tie as tie
 
-open-requires : tie.Need-open-requires
-open-requires c κs = tt
+ready-requires : tie.Need-ready-requires
+ready-requires c κs = search needs
 
 enum-known-why : tie.Need-enum-known-why
-enum-known-why c = c .match .keys1
-
-returns : tie.Need-returns
-returns c =
-    run-means (Runs.refused (CallFault.file-fault (opened-fault _ _ _ (c .before .before .before .«open» .ensures) _ (c .before .why .given .1))))
-
-enum-known-found : tie.Need-enum-known-found
-enum-known-found c = c .match .keys2
-
-well-formed-requires : tie.Need-well-formed-requires
-well-formed-requires c κs =
-    let sound = opened-sound _ _ _ (c .before .before .before .before .before .before .before .before .«open» .ensures) _ (c .before .before .before .before .before .before .found .given .1) in
-    sound-few _ _ _ sound
+enum-known-why c = search needs
 
 same-length : tie.Need-same-length
 same-length c = refl
@@ -39,68 +27,63 @@ same-length-3 c = refl
 same-length-4 : tie.Need-same-length-4
 same-length-4 c = refl
 
-returns-2 : tie.Need-returns-2
-returns-2 c =
-    let a = c .before .before .before .before .before .before .before .before .before .before .before .before .before .before .before .before .before .before .args in
-    let w = wordsOf (a .items .now) (a .starts .now) (a .rows .now) (a .queue .now) in
-    let sound = opened-sound _ _ _ (c .before .before .before .before .before .before .before .before .before .before .«open» .ensures) _ (c .before .before .before .before .before .before .before .before .found .given .1) in
-    run-means (Runs.refused (told-ill-formed _ _ _ sound (a .state) w _ (c .before .well-formed .ensures) (c .if1 .taken)))
+returns : tie.Need-returns
+returns c = run-means (Runs.refused (readied-fault _ _ _ _ _ (c .before .before .before .ready .ensures) _ (c .before .why .given .1)))
+
+enum-known-found : tie.Need-enum-known-found
+enum-known-found c = search needs
 
 table-requires : tie.Need-table-requires
 table-requires c κs =
-    let sound = opened-sound _ _ _ (c .before .before .before .before .before .before .before .before .before .before .before .«open» .ensures) _ (c .before .before .before .before .before .before .before .before .before .found .given .1) in
-    (sound-few _ _ _ sound, accepted-within _ _ _ _ (sound-checked _ _ _ sound .accepted))
+    let readied = c .before .before .before .before .ready in
+    let found = c .before .before .found in
+    (readied-few _ _ _ _ _ (readied .ensures) _ (found .given .1), accepted-within _ _ _ _ (readied-formed _ _ _ _ _ (readied .ensures) _ (found .given .1) .checked .accepted))
 
 run-within-requires : tie.Need-run-within-requires
 run-within-requires c κs =
-    let a = c .before .before .before .before .before .before .before .before .before .before .before .before .before .before .before .before .before .before .before .before .before .before .before .before .before .before .args in
-    let w = wordsOf (a .items .now) (a .starts .now) (a .rows .now) (a .queue .now) in
-    let sound = opened-sound _ _ _ (c .before .before .before .before .before .before .before .before .before .before .before .before .before .before .before .before .before .before .«open» .ensures) _ (c .before .before .before .before .before .before .before .before .before .before .before .before .before .before .before .before .found .given .1) in
-    let formed = told-formed _ _ _ sound (a .state) w _ (c .before .before .before .before .before .before .before .before .before .well-formed .ensures) (c .before .before .before .before .before .before .before .before .if1 .left) in
-    let predicts = c .before .before .before .before .before .before .table .ensures (c .before .before .before .before .before .before .before .before .before .before .before .before .before .before .before .before .found .given .0 .0 .tokens) in
-    (can-step formed predicts, predicts)
+    let readied = c .before .before .before .before .before .before .before .before .before .before .before .ready in
+    let found = c .before .before .before .before .before .before .before .before .before .found in
+    let tabled = c .before .before .before .before .before .before .table in
+    (can-step (readied-formed _ _ _ _ _ (readied .ensures) _ (found .given .1)) (tabled .ensures (found .given .0 .0 .tokens)), tabled .ensures (found .given .0 .0 .tokens))
 
 same-length-5 : tie.Need-same-length-5
-same-length-5 c = c .before .before .before .before .before .before .before .before .run-within .kept .1 .1 .1 .1 .0
+same-length-5 c = let stepped = c .before .before .before .before .before .before .before .before .run-within in stepped .kept .1 .1 .1 .1 .0
 
 same-length-6 : tie.Need-same-length-6
-same-length-6 c =
-    c .before .before .before .before .before .before .before .before .run-within .kept .1 .1 .1 .1 .1 .0
+same-length-6 c = let stepped = c .before .before .before .before .before .before .before .before .run-within in stepped .kept .1 .1 .1 .1 .1 .0
 
 same-length-7 : tie.Need-same-length-7
-same-length-7 c =
-    c .before .before .before .before .before .before .before .before .run-within .kept .1 .1 .1 .1 .1 .1 .0
+same-length-7 c = let stepped = c .before .before .before .before .before .before .before .before .run-within in stepped .kept .1 .1 .1 .1 .1 .1 .0
 
 same-length-8 : tie.Need-same-length-8
-same-length-8 c =
-    c .before .before .before .before .before .before .before .before .run-within .kept .1 .1 .1 .1 .1 .1 .1 .0
+same-length-8 c = let stepped = c .before .before .before .before .before .before .before .before .run-within in stepped .kept .1 .1 .1 .1 .1 .1 .1 .0
 
-returns-3 : tie.Need-returns-3
-returns-3 c =
-    let a = c .before .before .before .before .before .before .before .before .before .before .before .before .before .before .before .before .before .before .before .before .before .before .before .before .before .before .before .before .before .before .before .before .before .before .before .args in
-    let w = wordsOf (a .items .now) (a .starts .now) (a .rows .now) (a .queue .now) in
-    let sound = opened-sound _ _ _ (c .before .before .before .before .before .before .before .before .before .before .before .before .before .before .before .before .before .before .before .before .before .before .before .before .before .before .before .«open» .ensures) _ (c .before .before .before .before .before .before .before .before .before .before .before .before .before .before .before .before .before .before .before .before .before .before .before .before .before .found .given .1) in
-    let formed = told-formed _ _ _ sound (a .state) w _ (c .before .before .before .before .before .before .before .before .before .before .before .before .before .before .before .before .before .before .well-formed .ensures) (c .before .before .before .before .before .before .before .before .before .before .before .before .before .before .before .before .before .if1 .left) in
-    run-means (runs formed (c .before .before .before .before .before .before .before .before .before .before .before .before .before .before .before .table .ensures (c .before .before .before .before .before .before .before .before .before .before .before .before .before .before .before .before .before .before .before .before .before .before .before .before .before .found .given .0 .0 .tokens)) (a .tokens .now) (c .before .before .before .before .before .before .before .before .run-within .ensures))
+returns-2 : tie.Need-returns-2
+returns-2 c =
+    let given = c .before .before .before .before .before .before .before .before .before .before .before .before .before .before .before .before .before .before .before .before .before .before .before .before .before .before .before .before .before .before .before .before .args in
+    let readied = c .before .before .before .before .before .before .before .before .before .before .before .before .before .before .before .before .before .before .before .before .ready in
+    let found = c .before .before .before .before .before .before .before .before .before .before .before .before .before .before .before .before .before .before .found in
+    let tabled = c .before .before .before .before .before .before .before .before .before .before .before .before .before .before .before .table in
+    let stepped = c .before .before .before .before .before .before .before .before .run-within in
+    let formed = readied-formed _ _ _ _ _ (readied .ensures) _ (found .given .1) in
+    run-means (runs formed (tabled .ensures (found .given .0 .0 .tokens)) (given .tokens .now) (stepped .ensures))
 
 pub run-spec : {M : Type 1} → statement M
 run-spec =
     tie.close
     (tie.spec
-    open-requires
+    ready-requires
     enum-known-why
-    returns
-    enum-known-found
-    well-formed-requires
     same-length
     same-length-2
     same-length-3
     same-length-4
-    returns-2
+    returns
+    enum-known-found
     table-requires
     run-within-requires
     same-length-5
     same-length-6
     same-length-7
     same-length-8
-    returns-3)
+    returns-2)

@@ -3,8 +3,8 @@ use mathlib.Core.Path.{refl, sym, _∙_}
 use native.Mathlib.Omega.{arith}
 use borrow.Author.Needs.{needs}
 use Rattle.prediction.proofs.Reaching.{accepted-within}
-use Rattle.recognizer.specs.Calls.{Starts, StartFault}
-use Rattle.recognizer.specs.Steppable.{wordsOf}
+use Rattle.demands.specs.Calls.{Starts, StartFault}
+use Rattle.parse.specs.Words.{wordsOf}
 use Rattle.recognizer.proofs.Beginning.{wrapper-row, starts-done}
 use Rattle.recognizer.proofs.Readying.{opened-fault, opened-sound, sound-few, sound-checked}
 use Rattle.recognizer.proofs.start.Statement.{statement}
@@ -34,60 +34,88 @@ same-length-2 c = search needs
 
 returns-2 : tie.Need-returns-2
 returns-2 c =
-    let sound = opened-sound _ _ _ (c .before .before .before .before .before .before .before .«open» .ensures) _ (c .before .before .before .before .before .found .given .1) in
+    let opened = c .before .before .before .before .before .before .before .«open» in
+    let sound = opened-sound _ _ _ (opened .ensures) _ (c .before .before .before .before .before .found .given .1) in
     Starts.refused
     (StartFault.no-sets (record { whole = sound .whole; is = refl; accepted = sound .accepted }) (sym (c .before .set-room .ensures) ∙ c .if1 .taken))
 
 table-requires : tie.Need-table-requires
 table-requires c κs =
-    let sound = opened-sound _ _ _ (c .before .before .before .before .before .before .before .before .«open» .ensures) _ (c .before .before .before .before .before .before .found .given .1) in
+    let opened = c .before .before .before .before .before .before .before .before .«open» in
+    let found = c .before .before .before .before .before .before .found in
+    let sound = opened-sound _ _ _ (opened .ensures) _ (found .given .1) in
     let checked = sound-checked _ _ _ sound in
     (sound-few _ _ _ sound, accepted-within _ _ _ _ (checked .accepted))
 
 sub-row : tie.Need-sub-row
 sub-row c =
-    let sound = opened-sound _ _ _ (c .before .before .before .before .before .before .before .before .before .before .«open» .ensures) _ (c .before .before .before .before .before .before .before .before .found .given .1) in
+    let opened = c .before .before .before .before .before .before .before .before .before .before .«open» in
+    let found = c .before .before .before .before .before .before .before .before .found in
+    let sound = opened-sound _ _ _ (opened .ensures) _ (found .given .1) in
     let checked = sound-checked _ _ _ sound in
     omega (arith, checked .accepted .room)
 
 mul-row : tie.Need-mul-row
 mul-row c =
-    let sound = opened-sound _ _ _ (c .before .before .before .before .before .before .before .before .before .before .«open» .ensures) _ (c .before .before .before .before .before .before .before .before .found .given .1) in
+    let opened = c .before .before .before .before .before .before .before .before .before .before .«open» in
+    let found = c .before .before .before .before .before .before .before .before .found in
+    let sound = opened-sound _ _ _ (opened .ensures) _ (found .given .1) in
     let checked = sound-checked _ _ _ sound in
     omega (arith, checked .accepted .few-symbols)
 
 array-copy-out-row : tie.Need-array-copy-out-row
 array-copy-out-row c =
-    let sound = opened-sound _ _ _ (c .before .before .before .before .before .before .before .before .before .before .«open» .ensures) _ (c .before .before .before .before .before .before .before .before .found .given .1) in
+    let opened = c .before .before .before .before .before .before .before .before .before .before .«open» in
+    let found = c .before .before .before .before .before .before .before .before .found in
+    let sound = opened-sound _ _ _ (opened .ensures) _ (found .given .1) in
     let checked = sound-checked _ _ _ sound in
     omega (arith, checked .accepted .room, checked .accepted .few-symbols)
 
 begin-requires : tie.Need-begin-requires
 begin-requires c κs =
-    let sound = opened-sound _ _ _ (c .before .before .before .before .before .before .before .before .before .before .before .before .before .before .before .before .«open» .ensures) _ (c .before .before .before .before .before .before .before .before .before .before .before .before .before .before .found .given .1) in
+    let opened = c .before .before .before .before .before .before .before .before .before .before .before .before .before .before .before .before .«open» in
+    let found = c .before .before .before .before .before .before .before .before .before .before .before .before .before .before .found in
+    let sets-measured = c .before .before .before .before .before .before .before .before .before .before .set-room in
+    let room-tested = c .before .before .before .before .before .before .before .before .before .if1 in
+    let predicted = c .before .before .before .before .before .before .before .table in
+    let sound = opened-sound _ _ _ (opened .ensures) _ (found .given .1) in
     let checked = sound-checked _ _ _ sound in
-    (omega (arith, c .before .before .before .before .before .before .before .before .before .before .set-room .ensures, c .before .before .before .before .before .before .before .before .before .if1 .left), wrapper-row _ _ (checked .accepted) (c .before .before .before .before .before .before .before .table .ensures _))
+    (omega (arith, sets-measured .ensures, room-tested .left), wrapper-row _ _ (checked .accepted) (predicted .ensures _))
 
 same-length-3 : tie.Need-same-length-3
-same-length-3 c = c .before .before .before .before .before .before .before .before .begin .kept .1 .0
+same-length-3 c =
+    let begun = c .before .before .before .before .before .before .before .before .begin in
+    begun .kept .1 .0
 
 same-length-4 : tie.Need-same-length-4
-same-length-4 c = c .before .before .before .before .before .before .before .before .begin .kept .1 .1 .0
+same-length-4 c =
+    let begun = c .before .before .before .before .before .before .before .before .begin in
+    begun .kept .1 .1 .0
 
 same-length-5 : tie.Need-same-length-5
-same-length-5 c = c .before .before .before .before .before .before .before .before .begin .kept .1 .1 .1 .0
+same-length-5 c =
+    let begun = c .before .before .before .before .before .before .before .before .begin in
+    begun .kept .1 .1 .1 .0
 
 same-length-6 : tie.Need-same-length-6
-same-length-6 c = c .before .before .before .before .before .before .before .before .begin .kept .1 .1 .1 .1 .0
+same-length-6 c =
+    let begun = c .before .before .before .before .before .before .before .before .begin in
+    begun .kept .1 .1 .1 .1 .0
 
 returns-3 : tie.Need-returns-3
 returns-3 c =
-    let start = c .before .before .before .before .before .before .before .before .before .before .before .before .before .before .before .before .before .before .before .before .before .before .before .before .before .before .before .before .before .before .before .before in
-    let words = wordsOf (start .args .items .now) (start .args .starts .now) (start .args .rows .now) (start .args .queue .now) in
-    let sound = opened-sound _ _ _ (c .before .before .before .before .before .before .before .before .before .before .before .before .before .before .before .before .before .before .before .before .before .before .before .before .before .«open» .ensures) _ (c .before .before .before .before .before .before .before .before .before .before .before .before .before .before .before .before .before .before .before .before .before .before .before .found .given .1) in
+    let given = c .before .before .before .before .before .before .before .before .before .before .before .before .before .before .before .before .before .before .before .before .before .before .before .before .before .before .before .before .before .before .before .before .args in
+    let opened = c .before .before .before .before .before .before .before .before .before .before .before .before .before .before .before .before .before .before .before .before .before .before .before .before .before .«open» in
+    let found = c .before .before .before .before .before .before .before .before .before .before .before .before .before .before .before .before .before .before .before .before .before .before .before .found in
+    let sets-measured = c .before .before .before .before .before .before .before .before .before .before .before .before .before .before .before .before .before .before .before .set-room in
+    let room-tested = c .before .before .before .before .before .before .before .before .before .before .before .before .before .before .before .before .before .before .if1 in
+    let predicted = c .before .before .before .before .before .before .before .before .before .before .before .before .before .before .before .before .table in
+    let begun = c .before .before .before .before .before .before .before .before .begin in
+    let words = wordsOf (given .items .now) (given .starts .now) (given .rows .now) (given .queue .now) in
+    let sound = opened-sound _ _ _ (opened .ensures) _ (found .given .1) in
     let checked = sound-checked _ _ _ sound in
-    starts-done _ _ words _ _ _ (record { checked = checked; predicts = c .before .before .before .before .before .before .before .before .before .before .before .before .before .before .before .before .table .ensures _ })
-    (omega (arith, c .before .before .before .before .before .before .before .before .before .before .before .before .before .before .before .before .before .before .before .set-room .ensures, c .before .before .before .before .before .before .before .before .before .before .before .before .before .before .before .before .before .before .if1 .left)) (c .before .before .before .before .before .before .before .before .begin .ensures)
+    starts-done _ _ words _ _ _ (record { checked = checked; predicts = predicted .ensures _ })
+    (omega (arith, sets-measured .ensures, room-tested .left)) (begun .ensures)
 
 pub start-spec : {M : Type 1} → statement M
 start-spec =

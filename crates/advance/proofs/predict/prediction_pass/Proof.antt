@@ -26,14 +26,14 @@ wide-requires c κs = search needs
 
 second-requires : tie.Need-second-requires Inv-loop μ-loop
 second-requires c κs =
+    let required = c .before .before .before .before .before .before .pre in
+    let looped = c .before .before .before .loop in
     omega (
       arith,
       c .wide .ensures,
       c .before .rule .ensures,
-      c .before .before .before .before .before .before .pre .held .rules
-          (c .before .before .before .loop .p - 1) (omega arith)
-          (omega (arith, c .before .before .before .loop .inv .below)),
-      c .before .before .before .before .before .before .pre .held .few,
+      required .held .rules (looped .p - 1) (omega arith) (omega (arith, looped .inv .below)),
+      required .held .few,
     )
 
 mul-join-at : tie.Need-mul-join-at Inv-loop μ-loop
@@ -41,33 +41,37 @@ mul-join-at c = search needs
 
 index-1-join-at : tie.Need-index-1-join-at Inv-loop μ-loop
 index-1-join-at c =
-    predicting-symbol _ _ _ _ _ _ _ _ (c .before .before .before .before .before .before .before .before .pre) _ _
+    let required = c .before .before .before .before .before .before .before .before .pre in
+    predicting-symbol _ _ _ _ _ _ _ _ required _ _
     (c .before .before .before .before .before .loop .inv) (c .before .before .before .before .loop-test .taken) _ _ _
     (c .before .before .before .rule .ensures) (c .before .before .wide .ensures) (c .before .second .ensures .0)
 
 join-at-requires : tie.Need-join-at-requires Inv-loop μ-loop
-join-at-requires c κs = (
-  omega (
-    arith,
-    predicting-length _ _ _ _ _ _ _ _ (c .before .before .before .before .before .before .before .before .before .pre) _ _
-        (c .before .before .before .before .before .before .loop .inv),
-    c .before .before .before .before .before .before .before .before .before .pre .row-there,
-  ),
-  predicting-wide _ _ _ _ _ _ _ _
-      (c .before .before .before .before .before .before .before .before .before .pre) _ _
-      (c .before .before .before .before .before .before .loop .inv) (c .before .before .before .before .before .loop-test .taken) _ _ _
-      (c .before .before .before .before .rule .ensures) (c .before .before .before .wide .ensures) (c .before .before .second .ensures .0),
-)
+join-at-requires c κs =
+    let required = c .before .before .before .before .before .before .before .before .before .pre in
+    let looped = c .before .before .before .before .before .before .loop in (
+      omega (
+        arith,
+        predicting-length _ _ _ _ _ _ _ _ required _ _ (looped .inv),
+        required .row-there,
+      ),
+      predicting-wide _ _ _ _ _ _ _ _ required _ _
+          (looped .inv) (c .before .before .before .before .before .loop-test .taken) _ _ _
+          (c .before .before .before .before .rule .ensures) (c .before .before .before .wide .ensures) (c .before .before .second .ensures .0),
+    )
 
 loop-less : tie.Need-loop-less Inv-loop μ-loop
 loop-less c = search needs
 
 loop-again : tie.Need-loop-again Inv-loop μ-loop
 loop-again c =
-    predicting-next _ _ _ _ _ _ _ _ (c .before .before .before .before .before .before .before .before .before .before .before .before .pre) _ _
-    (c .before .before .before .before .before .before .before .before .before .loop .inv)
-    (c .before .before .before .before .before .before .before .before .loop-test .taken) _ _ _
-    (c .before .before .before .before .before .before .before .rule .ensures) (c .before .before .before .before .before .before .wide .ensures)
+    let required = c .before .before .before .before .before .before .before .before .before .before .before .before .pre in
+    let looped = c .before .before .before .before .before .before .before .before .before .loop in
+    let entered = c .before .before .before .before .before .before .before .before .loop-test in
+    let rule-read = c .before .before .before .before .before .before .before .rule in
+    let rule-widened = c .before .before .before .before .before .before .wide in
+    predicting-next _ _ _ _ _ _ _ _ required _ _ (looped .inv) (entered .taken) _ _ _
+    (rule-read .ensures) (rule-widened .ensures)
     (c .before .before .before .before .before .second .ensures .0) (c .before .before .join-at .ensures)
 
 same-length : tie.Need-same-length Inv-loop μ-loop

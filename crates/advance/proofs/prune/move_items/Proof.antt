@@ -26,22 +26,11 @@ add-copy-2 : tie.Need-add-copy-2 Inv-loop μ-loop
 add-copy-2 c = search needs
 
 copy-requires : tie.Need-copy-requires Inv-loop μ-loop
-copy-requires c κs = (
-  omega (
-    arith,
-    moving-length _ _ _ _ (c .before .before .before .before .pre .0) (c .before .before .before .before .pre .1)
-        (c .before .before .before .before .pre .2) _ _
-        (c .before .before .loop .inv),
-    c .before .before .before .before .pre .2,
-  ),
-  omega (
-    arith,
-    moving-length _ _ _ _
-        (c .before .before .before .before .pre .0) (c .before .before .before .before .pre .1) (c .before .before .before .before .pre .2) _ _
-        (c .before .before .loop .inv),
-    c .before .before .before .before .pre .2,
-  ),
-)
+copy-requires c κs =
+    let required = c .before .before .before .before .pre in
+    let looped = c .before .before .loop in
+    let long = moving-length _ _ _ _ (required .0) (required .1) (required .2) _ _ (looped .inv) in
+    (omega (arith, long, required .2), omega (arith, long, required .2))
 
 add-q : tie.Need-add-q Inv-loop μ-loop
 add-q c = search needs
@@ -51,52 +40,41 @@ loop-less c = search needs
 
 loop-again : tie.Need-loop-again Inv-loop μ-loop
 loop-again c =
-    moving-next _ _ _ _ (c .before .before .before .before .before .before .before .pre .0)
-    (c .before .before .before .before .before .before .before .pre .1) (c .before .before .before .before .before .before .before .pre .2) _ _
+    let required = c .before .before .before .before .before .before .before .pre in
+    moving-next _ _ _ _ (required .0) (required .1) (required .2) _ _
     (c .before .before .before .before .before .loop .inv) (c .before .before .before .before .loop-test .taken) (c .before .before .copy .ensures)
 
-add-clear-words : tie.Need-add-clear-words Inv-loop μ-loop
-add-clear-words c = search needs
+add-clear : tie.Need-add-clear Inv-loop μ-loop
+add-clear c = search needs
 
-mul-clear-words : tie.Need-mul-clear-words Inv-loop μ-loop
-mul-clear-words c = search needs
+mul-clear : tie.Need-mul-clear Inv-loop μ-loop
+mul-clear c = search needs
 
-mul-clear-words-2 : tie.Need-mul-clear-words-2 Inv-loop μ-loop
-mul-clear-words-2 c = search needs
+mul-clear-2 : tie.Need-mul-clear-2 Inv-loop μ-loop
+mul-clear-2 c = search needs
 
-clear-words-requires : tie.Need-clear-words-requires Inv-loop μ-loop
-clear-words-requires c κs = (
-  omega (
-    arith,
-    moving-length _ _ _ _ (c .before .before .before .before .pre .0) (c .before .before .before .before .pre .1)
-        (c .before .before .before .before .pre .2) _ _
-        (c .before .before .loop .inv),
-    c .before .before .before .before .pre .2,
-  ),
-  omega (
-    arith,
-    moving-length _ _ _ _
-        (c .before .before .before .before .pre .0) (c .before .before .before .before .pre .1) (c .before .before .before .before .pre .2) _ _
-        (c .before .before .loop .inv),
-    c .before .before .before .before .pre .2,
-  ),
-  moving-clear _ _ _ _ (c .before .before .before .before .pre .0)
-      (c .before .before .before .before .pre .1) (c .before .before .before .before .pre .2) _ _ (c .before .before .loop .inv)
-      (c .before .before .before .before .pre .3),
-)
+clear-requires : tie.Need-clear-requires Inv-loop μ-loop
+clear-requires c κs =
+    let required = c .before .before .before .before .pre in
+    let looped = c .before .before .loop in
+    let long = moving-length _ _ _ _ (required .0) (required .1) (required .2) _ _ (looped .inv) in (
+      omega (arith, long, required .2),
+      omega (arith, long, required .2),
+      moving-clear _ _ _ _ (required .0) (required .1) (required .2) _ _ (looped .inv) (required .3),
+    )
 
 same-length : tie.Need-same-length Inv-loop μ-loop
 same-length c =
-    c .before .before .clear-words .kept .0 ∙ moving-length _ _ _ _ (c .before .before .before .before .before .before .before .pre .0)
-    (c .before .before .before .before .before .before .before .pre .1) (c .before .before .before .before .before .before .before .pre .2) _ _
+    let required = c .before .before .before .before .before .before .before .pre in
+    c .before .before .clear .kept .0 ∙ moving-length _ _ _ _ (required .0) (required .1) (required .2) _ _
     (c .before .before .before .before .before .loop .inv)
 
 returns : tie.Need-returns Inv-loop μ-loop
 returns c =
-    moving-ends _ _ _ _ (c .before .before .before .before .before .before .before .pre .0)
-    (c .before .before .before .before .before .before .before .pre .1) (c .before .before .before .before .before .before .before .pre .2) _ _
+    let required = c .before .before .before .before .before .before .before .pre in
+    moving-ends _ _ _ _ (required .0) (required .1) (required .2) _ _
     (c .before .before .before .before .before .loop .inv) (c .before .before .before .before .loop-test .left)
-    (c .before .before .clear-words .ensures)
+    (c .before .before .clear .ensures)
 
 pub move-items-spec : {M : Type 1} → statement M
 move-items-spec =
@@ -112,9 +90,9 @@ move-items-spec =
     add-q
     loop-less
     loop-again
-    add-clear-words
-    mul-clear-words
-    mul-clear-words-2
-    clear-words-requires
+    add-clear
+    mul-clear
+    mul-clear-2
+    clear-requires
     same-length
     returns)

@@ -23,22 +23,22 @@ wide-requires : tie.Need-wide-requires
 wide-requires c κs = search needs
 
 move-items-requires : tie.Need-move-items-requires
-move-items-requires c κs = (
-  base-below _ _ _ _ _ _ _ (c .before .before .before .before .before .before .before .pre) (c .before .before .before .if1 .left)
-      (c .before .wide .ensures),
-  c .before .before .before .before .before .before .before .pre .runs,
-  c .before .before .before .before .before .before .before .pre .there,
-  c .before .before .before .before .before .before .before .pre .spare-items,
-)
+move-items-requires c κs =
+    let required = c .before .before .before .before .before .before .before .pre in (
+      base-below _ _ _ _ _ _ _ required (c .before .before .before .if1 .left) (c .before .wide .ensures),
+      required .runs,
+      required .there,
+      required .spare-items,
+    )
 
-add-clear-words : tie.Need-add-clear-words
-add-clear-words c = search needs
+add-clear : tie.Need-add-clear
+add-clear c = search needs
 
-add-clear-words-2 : tie.Need-add-clear-words-2
-add-clear-words-2 c = search needs
+add-clear-2 : tie.Need-add-clear-2
+add-clear-2 c = search needs
 
-clear-words-requires : tie.Need-clear-words-requires
-clear-words-requires c κs = search needs
+clear-requires : tie.Need-clear-requires
+clear-requires c κs = search needs
 
 add-clear-rows : tie.Need-add-clear-rows
 add-clear-rows c = search needs
@@ -56,22 +56,27 @@ clear-rows-requires : tie.Need-clear-rows-requires
 clear-rows-requires c κs = search needs
 
 same-length : tie.Need-same-length
-same-length c = c .before .before .before .before .before .before .before .before .before .before .move-items .kept .0
+same-length c =
+    let items-moved = c .before .before .before .before .before .before .before .before .before .before .move-items in
+    items-moved .kept .0
 
 same-length-2 : tie.Need-same-length-2
-same-length-2 c = c .before .before .before .before .before .before .clear-words .kept .0
+same-length-2 c =
+    let starts-cleared = c .before .before .before .before .before .before .clear in
+    starts-cleared .kept .0
 
 same-length-3 : tie.Need-same-length-3
 same-length-3 c = c .before .before .clear-rows .kept .0
 
 returns-2 : tie.Need-returns-2
 returns-2 c =
-    sets-dropped _ _ _ _ _ _ _
-    (c .before .before .before .before .before .before .before .before .before .before .before .before .before .before .before .before .before .before .pre)
-    (c .before .before .before .before .before .before .before .before .before .before .before .before .before .before .if1 .left)
-    (c .before .before .before .before .before .before .before .before .before .before .before .before .wide .ensures)
-    (c .before .before .before .before .before .before .before .before .before .before .move-items .ensures)
-    (c .before .before .before .before .before .before .clear-words .ensures) (c .before .before .clear-rows .ensures)
+    let required = c .before .before .before .before .before .before .before .before .before .before .before .before .before .before .before .before .before .before .pre in
+    let drop-tested = c .before .before .before .before .before .before .before .before .before .before .before .before .before .before .if1 in
+    let base-read = c .before .before .before .before .before .before .before .before .before .before .before .before .wide in
+    let items-moved = c .before .before .before .before .before .before .before .before .before .before .move-items in
+    let starts-cleared = c .before .before .before .before .before .before .clear in
+    sets-dropped _ _ _ _ _ _ _ required (drop-tested .left) (base-read .ensures) (items-moved .ensures)
+    (starts-cleared .ensures) (c .before .before .clear-rows .ensures)
 
 pub remove-unreachable-sets-spec : {M : Type 1} → statement M
 remove-unreachable-sets-spec =
@@ -84,9 +89,9 @@ remove-unreachable-sets-spec =
     slice-read-wide
     wide-requires
     move-items-requires
-    add-clear-words
-    add-clear-words-2
-    clear-words-requires
+    add-clear
+    add-clear-2
+    clear-requires
     add-clear-rows
     mul-clear-rows
     add-clear-rows-2

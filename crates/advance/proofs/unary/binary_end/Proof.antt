@@ -5,7 +5,7 @@ use native.Mathlib.Omega.{arith}
 use denote.Ref.{now}
 use borrow.Author.Needs.{needs}
 use Rattle.item.specs.Item.{itemAt}
-use Rattle.grammar.specs.Decoded.{rulesIn}
+use Rattle.grammar.specs.inner.Decoded.{rulesIn}
 use Rattle.parse.specs.WellFormed.{secondOf}
 use Rattle.advance.proofs.Placing.{Narrow}
 use Rattle.advance.proofs.Dropping.{Dropping, dropping-start, dropping-next, dropping-ends, second-read}
@@ -32,25 +32,29 @@ wide-requires c κs = search needs
 
 second-requires : tie.Need-second-requires Inv-loop μ-loop
 second-requires c κs =
+    let required = c .before .before .before .before .before .pre in
+    let looped = c .before .before .before .loop in
     omega (
       arith,
       c .wide .ensures,
       c .before .rule .ensures,
-      c .before .before .before .before .before .pre .0 .rules
-          (c .before .before .before .loop .end - 1) (omega arith)
-          (omega (arith, c .before .before .before .loop .inv .below)),
-      c .before .before .before .before .before .pre .0 .few,
+      required .0 .rules (looped .end - 1) (omega arith) (omega (arith, looped .inv .below)),
+      required .0 .few,
     )
 
 returns : tie.Need-returns Inv-loop μ-loop
 returns c =
-    let start = c .before .before .before .before .before .before .before in
-    let args = start .args in
-    let here : secondOf (rulesIn (now (args .rules)) (args .count)) (itemAt (now (args .items)) (c .before .before .before .before .before .loop .end - 1)) ≡ c .before .second .result = second-read _ _ _ _ _ _ (c .before .before .before .before .before .before .before .pre .0) (omega arith) (omega (arith, c .before .before .before .before .before .loop .inv .below)) _ _ _ (c .before .before .before .rule .ensures) (c .before .before .wide .ensures) (c .before .second .ensures .0) in
-    let narrow : Narrow (now (args .items)) = record { fits = λ i. omega (arith, c .before .before .before .before .before .before .shared-slice-known .given i) } in (
-      (c .before .before .before .before .before .loop .inv .above, c .before .before .before .before .before .loop .inv .below),
-      dropping-ends _ _ _ _ narrow (start .pre .1) _
-          (c .before .before .before .before .before .loop .inv) (λ l. omega (arith, here, c .before .second .ensures .1, c .if1 .taken)),
+    let given = c .before .before .before .before .before .before .before .args in
+    let required = c .before .before .before .before .before .before .before .pre in
+    let items-lent = c .before .before .before .before .before .before .shared-slice-known in
+    let looped = c .before .before .before .before .before .loop in
+    let here : secondOf (rulesIn (now (given .rules)) (given .count)) (itemAt (now (given .items)) (looped .end - 1)) ≡ c .before .second .result =
+    second-read _ _ _ _ _ _ (required .0) (omega arith) (omega (arith, looped .inv .below)) _ _ _ (c .before .before .before .rule .ensures)
+    (c .before .before .wide .ensures) (c .before .second .ensures .0) in
+    let narrow : Narrow (now (given .items)) = record { fits = λ i. omega (arith, items-lent .given i) } in (
+      (looped .inv .above, looped .inv .below),
+      dropping-ends _ _ _ _ narrow (required .1) _
+          (looped .inv) (λ l. omega (arith, here, c .before .second .ensures .1, c .if1 .taken)),
     )
 
 sub-end : tie.Need-sub-end Inv-loop μ-loop
@@ -61,15 +65,17 @@ loop-less c = search needs
 
 loop-again : tie.Need-loop-again Inv-loop μ-loop
 loop-again c =
-    dropping-next _ _ _ _ _ (c .before .before .before .before .before .loop .inv)
-    (c .before .before .before .before .loop-test .taken) (second-read _ _ _ _ _ _ (c .before .before .before .before .before .before .before .pre .0)
-    (omega arith) (omega (arith, c .before .before .before .before .before .loop .inv .below)) _ _ _ (c .before .before .before .rule .ensures)
+    let required = c .before .before .before .before .before .before .before .pre in
+    let looped = c .before .before .before .before .before .loop in
+    dropping-next _ _ _ _ _ (looped .inv)
+    (c .before .before .before .before .loop-test .taken) (second-read _ _ _ _ _ _ (required .0)
+    (omega arith) (omega (arith, looped .inv .below)) _ _ _ (c .before .before .before .rule .ensures)
     (c .before .before .wide .ensures) (c .before .second .ensures .0) ∙ c .if1 .left)
 
 returns-2 : tie.Need-returns-2 Inv-loop μ-loop
 returns-2 c =
-    let args = c .before .before .before .args in
-    let narrow : Narrow (now (args .items)) = record { fits = λ i. omega (arith, c .before .before .shared-slice-known .given i) } in (
+    let given = c .before .before .before .args in
+    let narrow : Narrow (now (given .items)) = record { fits = λ i. omega (arith, c .before .before .shared-slice-known .given i) } in (
       (c .before .loop .inv .above, c .before .loop .inv .below),
       dropping-ends _ _ _ _ narrow (c .before .before .before .pre .1) _
           (c .before .loop .inv) (λ l. absurd (omega arith)),

@@ -14,20 +14,22 @@ sort-medial-items-requires c κs = search needs
 
 remove-unary-medial-items-requires : tie.Need-remove-unary-medial-items-requires
 remove-unary-medial-items-requires c κs =
-    sorted-asks _ _ _ _ _ (c .before .before .before .before .before .before .pre .0) (c .before .before .before .before .before .before .pre .1)
-    (c .before .before .before .sort-medial-items .ensures)
+    let required = c .before .before .before .before .before .before .pre in
+    sorted-asks _ _ _ _ _ (required .0) (required .1) (c .before .before .before .sort-medial-items .ensures)
 
 same-length : tie.Need-same-length
 same-length c = search needs
 
 returns : tie.Need-returns
 returns c =
-    let sorted-are = c .before .before .before .before .before .before .sort-medial-items .ensures in
+    let given = c .before .before .before .before .before .before .before .before .before .args in
+    let required = c .before .before .before .before .before .before .before .before .before .pre in
+    let items-sorted = c .before .before .before .before .before .before .sort-medial-items in
+    let sorted-are = items-sorted .ensures in
     let removed = c .before .before .remove-unary-medial-items .ensures in (
       removed .0
-          ∙ ap (λ (is : List Item). c .before .before .before .before .before .before .before .before .before .args .from + length is) (sorted-new _ _ _ _ _
-          (c .before .before .before .before .before .before .before .before .before .pre .0) sorted-are),
-      removed .1 ∙ sorted-ending _ _ _ _ _ (c .before .before .before .before .before .before .before .before .before .pre .0) sorted-are,
+          ∙ ap (λ (is : List Item). given .from + length is) (sorted-new _ _ _ _ _ (required .0) sorted-are),
+      removed .1 ∙ sorted-ending _ _ _ _ _ (required .0) sorted-are,
     )
 
 pub new-items-spec : {M : Type 1} → statement M

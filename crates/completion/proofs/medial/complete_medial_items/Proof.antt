@@ -1,10 +1,10 @@
 use Rattle.completion.proofs.Searching.{queueing, set-searchable, medial-found, queueing-sound}
-use Rattle.completion.specs.Ready.{Sound}
+use Rattle.completion.specs.inner.Ready.{PassFits}
 use Rattle.completion.specs.Pass.{Pass}
 use Rattle.laws.proofs.Turns.{over-next, over-none}
 use Rattle.laws.specs.Turns.{over}
 use Rattle.completion.specs.Pass.{passOf}
-use Rattle.grammar.specs.Decoded.{rulesIn}
+use Rattle.grammar.specs.inner.Decoded.{rulesIn}
 use borrow.Author.Needs.{needs}
 use native.Mathlib.Omega.{arith}
 use lib.ListN.{length}
@@ -53,10 +53,11 @@ cast-medial-item-set-range-2 c = record { fits = omega (arith, c .shared-slice-k
 -- src/medial.rt:77:9
 medial-item-set-range-requires : tie.Need-medial-item-set-range-requires Inv-loop μ-loop
 medial-item-set-range-requires c κs =
-    let a = c .before .before .before .before .before .args in
-    let rs = rulesIn (a .rules .now) (a .count) in
-    let s = passOf (a .at) (a .items .now) (a .queue .now) in
-    (c .before .before .before .before .before .pre .0 .0, set-searchable rs (a .starts .now) (a .k) s (c .before .before .before .before .before .pre .0 .1) (c .before .before .before .before .before .pre .1 .0) (c .before .before .before .before .before .pre .1 .1), c .before .before .before .before .before .pre .0 .2)
+    let given = c .before .before .before .before .before .args in
+    let required = c .before .before .before .before .before .pre in
+    let rs = rulesIn (given .rules .now) (given .count) in
+    let s = passOf (given .at) (given .items .now) (given .queue .now) in
+    (required .0 .0, set-searchable rs (given .starts .now) (given .k) s (required .0 .1) (required .1 .0) (required .1 .1), required .0 .2)
 
 -- src/medial.rt:88:5
 loop-holds : tie.Need-loop-holds Inv-loop μ-loop
@@ -65,23 +66,27 @@ loop-holds c = (search needs, over-none _ _, refl)
 -- src/medial.rt:89:43
 add-enqueue : tie.Need-add-enqueue Inv-loop μ-loop
 add-enqueue c =
-    let a = c .before .before .before .before .before .before .before .before .before .args in
+    let given = c .before .before .before .before .before .before .before .before .before .args in
+    let required = c .before .before .before .before .before .before .before .before .before .pre in
     let f = c .before .before .before .medial-item-set-range .ensures in
-    record { fits = omega (arith, c .before .loop-test .taken, f .up-to, c .before .before .before .before .before .before .before .before .before .pre .1 .1 .starts-fit (a .k + 1), c .before .before .before .before .before .before .before .before .before .pre .1 .0 .items-fit, c .before .before .before .before .before .before .before .before .before .pre .1 .0 .few-items) }
+    record { fits = omega (arith, c .before .loop-test .taken, f .up-to, required .1 .1 .starts-fit (given .k + 1), required .1 .0 .items-fit, required .1 .0 .few-items) }
 
 -- src/medial.rt:89:9
 enqueue-requires : tie.Need-enqueue-requires Inv-loop μ-loop
 enqueue-requires c κs =
-    let a = c .before .before .before .before .before .before .before .before .before .args in
-    let rs = rulesIn (a .rules .now) (a .count) in
-    let s = passOf (a .at) (a .items .now) (a .queue .now) in
-    let l = c .before .before .loop in
-    let f = c .before .before .before .medial-item-set-range .ensures in
-    let first = c .before .before .before .medial-item-set-range .result .first in
-    let number = c .before .before .before .medial-item-set-range .result .number in
-    let known = queueing-sound first number (l .i) s (c .before .before .before .before .before .before .before .before .before .pre .1 .0) (omega (arith, f .up-to, c .before .before .before .before .before .before .before .before .before .pre .1 .1 .starts-fit (a .k + 1))) (l .inv .0) in (
-      subst Sound (sym (l .inv .1)) (known .0),
-      λ on. subst (λ (u : Pass). first + l .i < u .at .items) (sym (l .inv .1)) (omega (arith, known .1, c .before .loop-test .taken, f .up-to, c .before .before .before .before .before .before .before .before .before .pre .1 .1 .starts-fit (a .k + 1))),
+    let given = c .before .before .before .before .before .before .before .before .before .args in
+    let required = c .before .before .before .before .before .before .before .before .before .pre in
+    let range-found = c .before .before .before .medial-item-set-range in
+    let looped = c .before .before .loop in
+    let rs = rulesIn (given .rules .now) (given .count) in
+    let s = passOf (given .at) (given .items .now) (given .queue .now) in
+    let f = range-found .ensures in
+    let first = range-found .result .first in
+    let number = range-found .result .number in
+    let known = queueing-sound first number (looped .i) s (required .1 .0) (omega (arith, f .up-to, required .1 .1 .starts-fit (given .k + 1))) (looped .inv .0) in (
+      subst PassFits (sym (looped .inv .1)) (known .0),
+      λ on. subst (λ (u : Pass). first + looped .i < u .at .items) (sym (looped .inv .1))
+          (omega (arith, known .1, c .before .loop-test .taken, f .up-to, required .1 .1 .starts-fit (given .k + 1))),
     )
 
 -- src/medial.rt:88:9
@@ -95,13 +100,14 @@ loop-less c = search needs
 -- src/medial.rt:88:5
 loop-again : tie.Need-loop-again Inv-loop μ-loop
 loop-again c =
-    let a = c .before .before .before .before .before .before .before .before .before .before .before .before .args in
-    let rs = rulesIn (a .rules .now) (a .count) in
-    let s = passOf (a .at) (a .items .now) (a .queue .now) in
-    let l = c .before .before .before .before .before .loop in (
+    let given = c .before .before .before .before .before .before .before .before .before .before .before .before .args in
+    let range-found = c .before .before .before .before .before .before .medial-item-set-range in
+    let looped = c .before .before .before .before .before .loop in
+    let rs = rulesIn (given .rules .now) (given .count) in
+    let s = passOf (given .at) (given .items .now) (given .queue .now) in (
       search needs,
-      over-next (l .i) (queueing (c .before .before .before .before .before .before .medial-item-set-range .result .first)) s (passOf (l .now) (a .items .now) (l .queue)) _ (l .inv .1) (c .before .before .enqueue .ensures),
-      c .before .before .enqueue .kept .1 .0 ∙ l .inv .2,
+      over-next (looped .i) (queueing (range-found .result .first)) s (passOf (looped .now) (given .items .now) (looped .queue)) _ (looped .inv .1) (c .before .before .enqueue .ensures),
+      c .before .before .enqueue .kept .1 .0 ∙ looped .inv .2,
     )
 
 -- src/medial.rt:63:1
@@ -111,15 +117,15 @@ same-length c = c .before .loop .inv .2
 -- src/medial.rt:63:1
 returns : tie.Need-returns Inv-loop μ-loop
 returns c =
-    let a = c .before .before .before .before .before .before .before .before .args in
-    let rs = rulesIn (a .rules .now) (a .count) in
-    let s = passOf (a .at) (a .items .now) (a .queue .now) in
-    let l = c .before .loop in
+    let given = c .before .before .before .before .before .before .before .before .args in
+    let looped = c .before .loop in
+    let rs = rulesIn (given .rules .now) (given .count) in
+    let s = passOf (given .at) (given .items .now) (given .queue .now) in
     let r = c .before .before .medial-item-set-range .result in
-    let all : l .i ≡ r .number = omega (arith, l .inv .0, c .loop-test .left) in
-    l .inv .1
+    let all : looped .i ≡ r .number = omega (arith, looped .inv .0, c .loop-test .left) in
+    looped .inv .1
     ∙ ap (λ (n : ℕ). over n (queueing (r .first)) s) all
-    ∙ sym (medial-found rs (a .starts .now) (a .k) (a .x) (r .first) (r .number) s (c .before .before .medial-item-set-range .ensures))
+    ∙ sym (medial-found rs (given .starts .now) (given .k) (given .x) (r .first) (r .number) s (c .before .before .medial-item-set-range .ensures))
 
 pub complete-medial-items-spec : {M : Type 1} → statement M
 complete-medial-items-spec =

@@ -1,9 +1,9 @@
 use Rattle.completion.proofs.Searching.{second-read}
 use Rattle.completion.proofs.Waiting.{rules-length}
 use Rattle.item.specs.Item.{ruleAt}
-use Rattle.completion.specs.Search.{secondAt}
+use Rattle.completion.specs.inner.Search.{secondAt}
 use borrow.Author.Count.{below-more}
-use Rattle.grammar.specs.Decoded.{rulesIn}
+use Rattle.grammar.specs.inner.Decoded.{rulesIn}
 use borrow.Author.Needs.{needs}
 use native.Mathlib.Omega.{arith}
 use Prim.Native.Nat.{ℕ, _-_, _≤_, _<_}
@@ -34,23 +34,25 @@ cast-second c = search needs
 -- src/medial.rt:34:12
 second-requires : tie.Need-second-requires Inv-loop μ-loop
 second-requires c κs =
-    let a = c .before .before .before .before .args in
-    let rs = rulesIn (a .rules .now) (a .count) in
-    omega (arith, c .rule .ensures, c .before .before .before .before .pre .1 .rules (c .before .before .loop .p) (c .before .before .loop .inv .0) (c .before .loop-test .taken), rules-length (a .rules .now) (a .count), c .before .before .before .before .pre .0)
+    let given = c .before .before .before .before .args in
+    let required = c .before .before .before .before .pre in
+    let rs = rulesIn (given .rules .now) (given .count) in
+    omega (arith, c .rule .ensures, required .1 .rules (c .before .before .loop .p) (c .before .before .loop .inv .0) (c .before .loop-test .taken), rules-length (given .rules .now) (given .count), required .0)
 
 -- src/medial.rt:35:13
 returns : tie.Need-returns Inv-loop μ-loop
 returns c =
-    let a = c .before .before .before .before .before .before .args in
-    let rs = rulesIn (a .rules .now) (a .count) in
-    let l = c .before .before .before .before .loop in
-    let there : ruleAt (a .items .now) (l .p) < a .count =
-    omega (arith, c .before .before .before .before .before .before .pre .1 .rules (l .p) (l .inv .0) (c .before .before .before .loop-test .taken), rules-length (a .rules .now) (a .count)) in
+    let given = c .before .before .before .before .before .before .args in
+    let required = c .before .before .before .before .before .before .pre in
+    let looped = c .before .before .before .before .loop in
+    let rs = rulesIn (given .rules .now) (given .count) in
+    let there : ruleAt (given .items .now) (looped .p) < given .count =
+    omega (arith, required .1 .rules (looped .p) (looped .inv .0) (c .before .before .before .loop-test .taken), rules-length (given .rules .now) (given .count)) in
     record {
-      from-on = l .inv .0;
-      up-to = l .inv .1;
-      below = λ q low high. l .inv .2 q high low;
-      not-below = λ h. omega (arith, c .if1 .taken, second-read (a .rules .now) (a .count) (a .items .now) (l .p) (c .before .before .rule .result) (c .before .second .result) (c .before .before .rule .ensures) there (c .before .second .ensures .0));
+      from-on = looped .inv .0;
+      up-to = looped .inv .1;
+      below = λ q low high. looped .inv .2 q high low;
+      not-below = λ h. omega (arith, c .if1 .taken, second-read (given .rules .now) (given .count) (given .items .now) (looped .p) (c .before .before .rule .result) (c .before .second .result) (c .before .before .rule .ensures) there (c .before .second .ensures .0));
     }
 
 -- src/medial.rt:37:9
@@ -64,25 +66,26 @@ loop-less c = search needs
 -- src/medial.rt:33:5
 loop-again : tie.Need-loop-again Inv-loop μ-loop
 loop-again c =
-    let a = c .before .before .before .before .before .before .args in
-    let rs = rulesIn (a .rules .now) (a .count) in
-    let l = c .before .before .before .before .loop in
-    let there : ruleAt (a .items .now) (l .p) < a .count =
-    omega (arith, c .before .before .before .before .before .before .pre .1 .rules (l .p) (l .inv .0) (c .before .before .before .loop-test .taken), rules-length (a .rules .now) (a .count)) in (
+    let given = c .before .before .before .before .before .before .args in
+    let required = c .before .before .before .before .before .before .pre in
+    let looped = c .before .before .before .before .loop in
+    let rs = rulesIn (given .rules .now) (given .count) in
+    let there : ruleAt (given .items .now) (looped .p) < given .count =
+    omega (arith, required .1 .rules (looped .p) (looped .inv .0) (c .before .before .before .loop-test .taken), rules-length (given .rules .now) (given .count)) in (
       search needs,
       search needs,
-      below-more (λ (q : ℕ). a .from ≤ q → secondAt rs (a .items .now) q < a .x) (l .p) (l .inv .2)
-          (λ low. omega (arith, c .if1 .left, second-read (a .rules .now) (a .count) (a .items .now) (l .p) (c .before .before .rule .result) (c .before .second .result) (c .before .before .rule .ensures) there (c .before .second .ensures .0))),
+      below-more (λ (q : ℕ). given .from ≤ q → secondAt rs (given .items .now) q < given .x) (looped .p) (looped .inv .2)
+          (λ low. omega (arith, c .if1 .left, second-read (given .rules .now) (given .count) (given .items .now) (looped .p) (c .before .before .rule .result) (c .before .second .result) (c .before .before .rule .ensures) there (c .before .second .ensures .0))),
     )
 
 -- src/medial.rt:21:1
 returns-2 : tie.Need-returns-2 Inv-loop μ-loop
 returns-2 c =
-    let l = c .before .loop in
+    let looped = c .before .loop in
     record {
-      from-on = l .inv .0;
-      up-to = l .inv .1;
-      below = λ q low high. l .inv .2 q high low;
+      from-on = looped .inv .0;
+      up-to = looped .inv .1;
+      below = λ q low high. looped .inv .2 q high low;
       not-below = λ h. absurd (omega (arith, c .loop-test .left));
     }
 

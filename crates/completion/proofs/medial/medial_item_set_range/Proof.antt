@@ -1,5 +1,5 @@
 use Rattle.completion.proofs.Searching.{found, searchable-from}
-use Rattle.grammar.specs.Decoded.{rulesIn}
+use Rattle.grammar.specs.inner.Decoded.{rulesIn}
 use Prim.Native.Nat.{_-_}
 use borrow.Author.Needs.{needs}
 use Rattle.completion.proofs.medial.medial_item_set_range.Statement.{statement}

@@ -12,20 +12,25 @@ use Rattle.completion.proofs.pass.enqueue.Tie as tie
 
 -- src/pass.rt:43:9
 returns : tie.Need-returns
-returns c = sym (stays (passOf (c .before .before .before .before .args .at) (c .before .before .before .before .args .items .now) (c .before .before .before .before .args .queue .now)) _ (c .if1 .taken))
+returns c =
+    let given = c .before .before .before .before .args in
+    sym (stays (passOf (given .at) (given .items .now) (given .queue .now)) _ (c .if1 .taken))
 
 -- src/pass.rt:48:61
 cast-push : tie.Need-cast-push
 cast-push c =
-    let there : c .before .before .before .before .before .args .place < c .before .before .before .before .before .args .at .items = c .before .before .before .before .before .pre .1 (c .before .if1 .left) in
-    record { fits = omega (arith, c .before .before .before .before .before .pre .0 .few-items, c .before .before .before .before .before .pre .0 .items-fit) }
+    let given = c .before .before .before .before .before .args in
+    let required = c .before .before .before .before .before .pre in
+    let there : given .place < given .at .items = required .1 (c .before .if1 .left) in
+    record { fits = omega (arith, required .0 .few-items, required .0 .items-fit) }
 
 -- src/pass.rt:48:11
 push-requires : tie.Need-push-requires
 push-requires c κs =
-    let a = c .before .before .before .before .before .args in
-    let s = passOf (a .at) (a .items .now) (a .queue .now) in
-    (sound-places s (c .before .before .before .before .before .pre .0), le-refl (length (a .queue .now)), has-place s (c .before .before .before .before .before .pre .0) (a .place) (c .before .before .before .before .before .pre .1 (c .before .if1 .left)))
+    let given = c .before .before .before .before .before .args in
+    let required = c .before .before .before .before .before .pre in
+    let s = passOf (given .at) (given .items .now) (given .queue .now) in
+    (sound-places s (required .0), le-refl (length (given .queue .now)), has-place s (required .0) (given .place) (required .1 (c .before .if1 .left)))
 
 -- src/pass.rt:49:25
 enum-told : tie.Need-enum-told
@@ -42,8 +47,11 @@ same-length c = search needs
 -- src/pass.rt:38:1
 returns-2 : tie.Need-returns-2
 returns-2 c =
-    let a = c .before .before .before .before .before .before .before .before .before .before .args in
-    queue-refused (passOf (a .at) (a .items .now) (a .queue .now)) (a .place) (c .before .before .before .before .push .last .1 .0) (c .before .before .before .before .before .before .if1 .left) (sym (c .before .before .before .before .push .ensures .0) ∙ c .enum-told .given .1) (c .before .before .before .before .push .ensures .1)
+    let given = c .before .before .before .before .before .before .before .before .before .before .args in
+    let stop-tested = c .before .before .before .before .before .before .if1 in
+    let pushed = c .before .before .before .before .push in
+    queue-refused (passOf (given .at) (given .items .now) (given .queue .now)) (given .place) (pushed .last .1 .0) (stop-tested .left)
+    (sym (pushed .ensures .0) ∙ c .enum-told .given .1) (pushed .ensures .1)
 
 -- src/pass.rt:38:1
 same-length-2 : tie.Need-same-length-2
@@ -52,8 +60,11 @@ same-length-2 c = search needs
 -- src/pass.rt:38:1
 returns-3 : tie.Need-returns-3
 returns-3 c =
-    let a = c .before .before .before .before .before .before .before .before .before .before .before .args in
-    queue-took (passOf (a .at) (a .items .now) (a .queue .now)) (a .place) _ (c .before .before .before .before .before .push .last .1 .0) (c .before .before .before .before .before .before .before .if1 .left) (sym (c .before .before .before .before .before .push .ensures .0) ∙ c .before .n .given .1) (c .before .before .before .before .before .push .ensures .1)
+    let given = c .before .before .before .before .before .before .before .before .before .before .before .args in
+    let stop-tested = c .before .before .before .before .before .before .before .if1 in
+    let pushed = c .before .before .before .before .before .push in
+    queue-took (passOf (given .at) (given .items .now) (given .queue .now)) (given .place) _ (pushed .last .1 .0) (stop-tested .left)
+    (sym (pushed .ensures .0) ∙ c .before .n .given .1) (pushed .ensures .1)
 
 pub enqueue-spec : {M : Type 1} → statement M
 enqueue-spec =

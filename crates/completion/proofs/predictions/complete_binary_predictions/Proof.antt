@@ -1,7 +1,7 @@
 use Rattle.completion.proofs.Waiting.{rules-length}
 use Rattle.completion.specs.Complete.{completeBinary, completeBinaryPredictions}
 use Rattle.completion.specs.Pass.{passOf}
-use Rattle.grammar.specs.Decoded.{rulesIn}
+use Rattle.grammar.specs.inner.Decoded.{rulesIn}
 use Rattle.laws.proofs.Turns.{over-next, over-none}
 use Rattle.laws.specs.Turns.{over}
 use borrow.Author.Needs.{needs}
@@ -28,7 +28,9 @@ loop-holds c = (search needs, λ q. over-none _ _, refl)
 
 -- src/predictions.rt:120:9
 complete-binary-requires : tie.Need-complete-binary-requires Inv-loop μ-loop
-complete-binary-requires c κs = (c .before .before .before .before .before .pre .0, c .before .before .before .before .before .pre .1, c .before .loop-test .taken)
+complete-binary-requires c κs =
+    let required = c .before .before .before .before .before .pre in
+    (required .0, required .1, c .before .loop-test .taken)
 
 -- src/predictions.rt:119:9
 add-r : tie.Need-add-r Inv-loop μ-loop
@@ -41,12 +43,13 @@ loop-less c = search needs
 -- src/predictions.rt:119:5
 loop-again : tie.Need-loop-again Inv-loop μ-loop
 loop-again c =
-    let a = c .before .before .before .before .before .before .before .before .args in
-    let rs = rulesIn (a .rules .now) (a .count) in
-    let l = c .before .before .before .before .before .loop in (
+    let given = c .before .before .before .before .before .before .before .before .args in
+    let looped = c .before .before .before .before .before .loop in
+    let rs = rulesIn (given .rules .now) (given .count) in (
       search needs,
-      λ q. over-next (l .r) (completeBinary rs (a .rows .now) (a .k) (a .x)) (passOf (a .at) (a .items .now) q) (passOf (l .now) (l .items) q) _ (l .inv .1 q) (c .before .before .complete-binary .ensures q),
-      c .before .before .complete-binary .kept .1 .1 .0 ∙ l .inv .2,
+      λ q. over-next (looped .r) (completeBinary rs (given .rows .now) (given .k) (given .x)) (passOf (given .at) (given .items .now) q)
+          (passOf (looped .now) (looped .items) q) _ (looped .inv .1 q) (c .before .before .complete-binary .ensures q),
+      c .before .before .complete-binary .kept .1 .1 .0 ∙ looped .inv .2,
     )
 
 -- src/predictions.rt:106:1
@@ -57,11 +60,11 @@ same-length c = c .before .loop .inv .2
 returns : tie.Need-returns Inv-loop μ-loop
 unfolding completeBinaryPredictions
 returns c =
-    let a = c .before .before .before .before .args in
-    let rs = rulesIn (a .rules .now) (a .count) in
-    let l = c .before .loop in
-    let all : l .r ≡ length rs = omega (arith, l .inv .0, c .loop-test .left, rules-length (a .rules .now) (a .count)) in
-    λ q. l .inv .1 q ∙ ap (λ (n : ℕ). over n (completeBinary rs (a .rows .now) (a .k) (a .x)) (passOf (a .at) (a .items .now) q)) all
+    let given = c .before .before .before .before .args in
+    let rs = rulesIn (given .rules .now) (given .count) in
+    let looped = c .before .loop in
+    let all : looped .r ≡ length rs = omega (arith, looped .inv .0, c .loop-test .left, rules-length (given .rules .now) (given .count)) in
+    λ q. looped .inv .1 q ∙ ap (λ (n : ℕ). over n (completeBinary rs (given .rows .now) (given .k) (given .x)) (passOf (given .at) (given .items .now) q)) all
 
 pub complete-binary-predictions-spec : {M : Type 1} → statement M
 complete-binary-predictions-spec =

@@ -1,10 +1,10 @@
 use borrow.Author.Tests.{not-true, not-false}
 use Rattle.completion.proofs.Soundness.{store-sound}
-use Rattle.completion.specs.Ready.{Sound}
+use Rattle.completion.specs.inner.Ready.{PassFits}
 use Rattle.completion.specs.Pass.{Pass, andThen, enqueue}
 use Rattle.completion.proofs.Waiting.{rules-length, rule-second, store-place, unary-stopped, unary-two, unary-passed, unary-waits}
 use Rattle.completion.specs.Pass.{passOf}
-use Rattle.grammar.specs.Decoded.{rulesIn}
+use Rattle.grammar.specs.inner.Decoded.{rulesIn}
 use native.Mathlib.Omega.{arith}
 use Prim.Native.Nat.{_-_, _<_}
 use mathlib.Core.Path.{sym, ap, _∙_, subst}
@@ -15,24 +15,26 @@ use Rattle.completion.proofs.predictions.complete_unary.Tie as tie
 -- src/predictions.rt:42:9
 returns : tie.Need-returns
 returns c =
-    let a = c .before .before .before .before .before .args in
-    let rs = rulesIn (a .rules .now) (a .count) in
-    let s = passOf (a .at) (a .items .now) (a .queue .now) in
-    sym (unary-stopped rs (a .rows .now) (a .k) (a .x) (a .r) s (c .if1 .taken))
+    let given = c .before .before .before .before .before .args in
+    let rs = rulesIn (given .rules .now) (given .count) in
+    let s = passOf (given .at) (given .items .now) (given .queue .now) in
+    sym (unary-stopped rs (given .rows .now) (given .k) (given .x) (given .r) s (c .if1 .taken))
 
 -- src/predictions.rt:44:8
 second-requires : tie.Need-second-requires
 second-requires c κs =
-    omega (arith, rules-length (c .before .before .before .before .before .args .rules .now) (c .before .before .before .before .before .args .count), c .before .before .before .before .before .pre .0 .few-rules)
+    let given = c .before .before .before .before .before .args in
+    omega (arith, rules-length (given .rules .now) (given .count), c .before .before .before .before .before .pre .0 .few-rules)
 
 -- src/predictions.rt:45:9
 returns-2 : tie.Need-returns-2
 returns-2 c =
-    let a = c .before .before .before .before .before .before .before .args in
-    let rs = rulesIn (a .rules .now) (a .count) in
-    let s = passOf (a .at) (a .items .now) (a .queue .now) in
-    sym (unary-two rs (a .rows .now) (a .k) (a .x) (a .r) s (c .before .before .if1 .left) (c .before .second .result)
-    (c .before .second .ensures .0 ∙ rule-second (a .rules .now) (a .count) (a .r) (c .before .before .before .before .before .before .before .pre .2)) (c .if2 .taken))
+    let given = c .before .before .before .before .before .before .before .args in
+    let required = c .before .before .before .before .before .before .before .pre in
+    let rs = rulesIn (given .rules .now) (given .count) in
+    let s = passOf (given .at) (given .items .now) (given .queue .now) in
+    sym (unary-two rs (given .rows .now) (given .k) (given .x) (given .r) s (c .before .before .if1 .left) (c .before .second .result)
+    (c .before .second .ensures .0 ∙ rule-second (given .rules .now) (given .count) (given .r) (required .2)) (c .if2 .taken))
 
 -- src/predictions.rt:47:9
 waits-requires : tie.Need-waits-requires
@@ -41,25 +43,29 @@ waits-requires c κs = search needs
 -- src/predictions.rt:48:9
 returns-3 : tie.Need-returns-3
 returns-3 c =
-    let a = c .before .before .before .before .before .before .before .before .before .args in
-    let rs = rulesIn (a .rules .now) (a .count) in
-    let s = passOf (a .at) (a .items .now) (a .queue .now) in
-    sym (unary-passed rs (a .rows .now) (a .k) (a .x) (a .r) s (c .before .before .before .before .if1 .left) (sym (not-true (c .before .waits .result) (c .if3 .taken)) ∙ c .before .waits .ensures))
+    let given = c .before .before .before .before .before .before .before .before .before .args in
+    let rs = rulesIn (given .rules .now) (given .count) in
+    let s = passOf (given .at) (given .items .now) (given .queue .now) in
+    sym (unary-passed rs (given .rows .now) (given .k) (given .x) (given .r) s (c .before .before .before .before .if1 .left)
+    (sym (not-true (c .before .waits .result) (c .if3 .taken)) ∙ c .before .waits .ensures))
 
 -- src/predictions.rt:51:9
 store-requires : tie.Need-store-requires
 store-requires c κs =
-    (omega (arith, c .before .before .before .before .before .before .before .before .before .before .pre .1 .few-sets, c .before .before .before .before .before .before .before .before .before .before .pre .1 .row), omega (arith, rules-length (c .before .before .before .before .before .before .before .before .before .before .args .rules .now) (c .before .before .before .before .before .before .before .before .before .before .args .count), c .before .before .before .before .before .before .before .before .before .before .pre .0 .few-rules))
+    let given = c .before .before .before .before .before .before .before .before .before .before .args in
+    let required = c .before .before .before .before .before .before .before .before .before .before .pre in
+    (omega (arith, required .1 .few-sets, required .1 .row), omega (arith, rules-length (given .rules .now) (given .count), required .0 .few-rules))
 
 -- src/predictions.rt:52:5
 enqueue-requires : tie.Need-enqueue-requires
 enqueue-requires c κs =
-    let a = c .before .before .before .before .before .before .before .before .before .before .before .before .before .before .before .args in
-    let rs = rulesIn (a .rules .now) (a .count) in
-    let s = passOf (a .at) (a .items .now) (a .queue .now) in
-    let stored = c .before .before .before .before .store .ensures (a .queue .now) in (
-      subst Sound (sym stored) (store-sound (a .k) (a .r) s (c .before .before .before .before .before .before .before .before .before .before .before .before .before .before .before .pre .3)),
-      λ on. subst (λ (u : Pass). a .at .items < u .at .items) (sym stored) (store-place (a .k) (a .r) s (ap (λ (u : Pass). u .at .stopped) (sym stored) ∙ on)),
+    let given = c .before .before .before .before .before .before .before .before .before .before .before .before .before .before .before .args in
+    let required = c .before .before .before .before .before .before .before .before .before .before .before .before .before .before .before .pre in
+    let rs = rulesIn (given .rules .now) (given .count) in
+    let s = passOf (given .at) (given .items .now) (given .queue .now) in
+    let stored = c .before .before .before .before .store .ensures (given .queue .now) in (
+      subst PassFits (sym stored) (store-sound (given .k) (given .r) s (required .3)),
+      λ on. subst (λ (u : Pass). given .at .items < u .at .items) (sym stored) (store-place (given .k) (given .r) s (ap (λ (u : Pass). u .at .stopped) (sym stored) ∙ on)),
     )
 
 -- src/predictions.rt:27:1
@@ -73,13 +79,21 @@ same-length-2 c = search needs
 -- src/predictions.rt:27:1
 returns-4 : tie.Need-returns-4
 returns-4 c =
-    let a = c .before .before .before .before .before .before .before .before .before .before .before .before .before .before .before .before .before .before .args in
-    let rs = rulesIn (a .rules .now) (a .count) in
-    let s = passOf (a .at) (a .items .now) (a .queue .now) in
+    let given = c .before .before .before .before .before .before .before .before .before .before .before .before .before .before .before .before .before .before .args in
+    let required = c .before .before .before .before .before .before .before .before .before .before .before .before .before .before .before .before .before .before .pre in
+    let stop-tested = c .before .before .before .before .before .before .before .before .before .before .before .before .before .if1 in
+    let second-found = c .before .before .before .before .before .before .before .before .before .before .before .before .second in
+    let second-tested = c .before .before .before .before .before .before .before .before .before .before .before .if2 in
+    let wait-asked = c .before .before .before .before .before .before .before .before .before .before .waits in
+    let wait-tested = c .before .before .before .before .before .before .before .before .before .if3 in
+    let item-stored = c .before .before .before .before .before .before .before .store in
+    let rs = rulesIn (given .rules .now) (given .count) in
+    let s = passOf (given .at) (given .items .now) (given .queue .now) in
     c .before .before .enqueue .ensures
-    ∙ ap (λ (u : Pass). andThen u (enqueue (a .at .items))) (c .before .before .before .before .before .before .before .store .ensures (a .queue .now))
-    ∙ sym (unary-waits rs (a .rows .now) (a .k) (a .x) (a .r) s (c .before .before .before .before .before .before .before .before .before .before .before .before .before .if1 .left) (c .before .before .before .before .before .before .before .before .before .before .before .before .second .result)
-    (c .before .before .before .before .before .before .before .before .before .before .before .before .second .ensures .0 ∙ rule-second (a .rules .now) (a .count) (a .r) (c .before .before .before .before .before .before .before .before .before .before .before .before .before .before .before .before .before .before .pre .2)) (c .before .before .before .before .before .before .before .before .before .before .before .if2 .left) (sym (not-false (c .before .before .before .before .before .before .before .before .before .before .waits .result) (c .before .before .before .before .before .before .before .before .before .if3 .left)) ∙ c .before .before .before .before .before .before .before .before .before .before .waits .ensures))
+    ∙ ap (λ (u : Pass). andThen u (enqueue (given .at .items))) (item-stored .ensures (given .queue .now))
+    ∙ sym (unary-waits rs (given .rows .now) (given .k) (given .x) (given .r) s (stop-tested .left) (second-found .result)
+    (second-found .ensures .0 ∙ rule-second (given .rules .now) (given .count) (given .r) (required .2)) (second-tested .left)
+    (sym (not-false (wait-asked .result) (wait-tested .left)) ∙ wait-asked .ensures))
 
 pub complete-unary-spec : {M : Type 1} → statement M
 complete-unary-spec =

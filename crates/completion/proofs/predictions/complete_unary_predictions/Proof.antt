@@ -1,8 +1,8 @@
 use Rattle.completion.proofs.Waiting.{rules-length, unaries-sound}
-use Rattle.completion.specs.Ready.{Sound}
+use Rattle.completion.specs.inner.Ready.{PassFits}
 use Rattle.completion.specs.Complete.{completeUnary, completeUnaryPredictions}
 use Rattle.completion.specs.Pass.{passOf}
-use Rattle.grammar.specs.Decoded.{rulesIn}
+use Rattle.grammar.specs.inner.Decoded.{rulesIn}
 use Rattle.laws.proofs.Turns.{over-next, over-none}
 use Rattle.laws.specs.Turns.{over}
 use borrow.Author.Needs.{needs}
@@ -30,10 +30,16 @@ loop-holds c = (search needs, over-none _ _, refl, refl)
 -- src/predictions.rt:74:9
 complete-unary-requires : tie.Need-complete-unary-requires Inv-loop μ-loop
 complete-unary-requires c κs =
-    let a = c .before .before .before .before .before .before .before .args in
-    let rs = rulesIn (a .rules .now) (a .count) in
-    let l = c .before .before .before .loop in
-    (c .before .before .before .before .before .before .before .pre .0, c .before .before .before .before .before .before .before .pre .1, c .before .before .loop-test .taken, subst Sound (sym (l .inv .1)) (unaries-sound rs (a .rows .now) (a .k) (a .x) (l .r) (passOf (a .at) (a .items .now) (a .queue .now)) (c .before .before .before .before .before .before .before .pre .2)))
+    let given = c .before .before .before .before .before .before .before .args in
+    let required = c .before .before .before .before .before .before .before .pre in
+    let looped = c .before .before .before .loop in
+    let rs = rulesIn (given .rules .now) (given .count) in (
+      required .0,
+      required .1,
+      c .before .before .loop-test .taken,
+      subst PassFits (sym (looped .inv .1)) (unaries-sound rs (given .rows .now) (given .k) (given .x)
+          (looped .r) (passOf (given .at) (given .items .now) (given .queue .now)) (required .2)),
+    )
 
 -- src/predictions.rt:73:9
 add-r : tie.Need-add-r Inv-loop μ-loop
@@ -46,13 +52,15 @@ loop-less c = search needs
 -- src/predictions.rt:73:5
 loop-again : tie.Need-loop-again Inv-loop μ-loop
 loop-again c =
-    let a = c .before .before .before .before .before .before .before .before .before .before .before .before .args in
-    let rs = rulesIn (a .rules .now) (a .count) in
-    let l = c .before .before .before .before .before .before .before .before .loop in (
+    let given = c .before .before .before .before .before .before .before .before .before .before .before .before .args in
+    let looped = c .before .before .before .before .before .before .before .before .loop in
+    let rule-completed = c .before .before .before .before .complete-unary in
+    let rs = rulesIn (given .rules .now) (given .count) in (
       search needs,
-      over-next (l .r) (completeUnary rs (a .rows .now) (a .k) (a .x)) (passOf (a .at) (a .items .now) (a .queue .now)) (passOf (l .now) (l .items) (l .queue)) _ (l .inv .1) (c .before .before .before .before .complete-unary .ensures),
-      c .before .before .before .before .complete-unary .kept .1 .1 .0 ∙ l .inv .2,
-      c .before .before .before .before .complete-unary .kept .1 .1 .1 .1 .0 ∙ l .inv .3,
+      over-next (looped .r) (completeUnary rs (given .rows .now) (given .k) (given .x)) (passOf (given .at) (given .items .now) (given .queue .now))
+          (passOf (looped .now) (looped .items) (looped .queue)) _ (looped .inv .1) (rule-completed .ensures),
+      rule-completed .kept .1 .1 .0 ∙ looped .inv .2,
+      rule-completed .kept .1 .1 .1 .1 .0 ∙ looped .inv .3,
     )
 
 -- src/predictions.rt:59:1
@@ -67,11 +75,11 @@ same-length-2 c = c .before .loop .inv .3
 returns : tie.Need-returns Inv-loop μ-loop
 unfolding completeUnaryPredictions
 returns c =
-    let a = c .before .before .before .before .before .args in
-    let rs = rulesIn (a .rules .now) (a .count) in
-    let l = c .before .loop in
-    let all : l .r ≡ length rs = omega (arith, l .inv .0, c .loop-test .left, rules-length (a .rules .now) (a .count)) in
-    l .inv .1 ∙ ap (λ (n : ℕ). over n (completeUnary rs (a .rows .now) (a .k) (a .x)) (passOf (a .at) (a .items .now) (a .queue .now))) all
+    let given = c .before .before .before .before .before .args in
+    let rs = rulesIn (given .rules .now) (given .count) in
+    let looped = c .before .loop in
+    let all : looped .r ≡ length rs = omega (arith, looped .inv .0, c .loop-test .left, rules-length (given .rules .now) (given .count)) in
+    looped .inv .1 ∙ ap (λ (n : ℕ). over n (completeUnary rs (given .rows .now) (given .k) (given .x)) (passOf (given .at) (given .items .now) (given .queue .now))) all
 
 pub complete-unary-predictions-spec : {M : Type 1} → statement M
 complete-unary-predictions-spec =

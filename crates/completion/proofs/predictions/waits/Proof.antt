@@ -1,5 +1,5 @@
 use Rattle.completion.proofs.Waiting.{rules-length, rule-left, rule-first, waits-other, waits-same}
-use Rattle.grammar.specs.Decoded.{rulesIn}
+use Rattle.grammar.specs.inner.Decoded.{rulesIn}
 use native.Mathlib.Omega.{arith}
 use Prim.Native.Nat.{_-_}
 use mathlib.Core.Path.{_∙_}

@@ -1,7 +1,7 @@
 use Rattle.completion.proofs.Remaining.{Remaining, remaining-start, remaining-turn, remaining-falls, remaining-stopped, remaining-empty}
 use Rattle.completion.proofs.Pending.{left}
 use Rattle.completion.specs.Pass.{passOf}
-use Rattle.grammar.specs.Decoded.{rulesIn}
+use Rattle.grammar.specs.inner.Decoded.{rulesIn}
 use native.Mathlib.Omega.{arith}
 use lib.ListN.{length}
 use Prim.Native.Nat.{_-_}
@@ -21,9 +21,9 @@ abbrev μ-loop : tie.MeasureT-loop
 -- src/sums.rt:113:5
 loop-holds : tie.Need-loop-holds Inv-loop μ-loop
 loop-holds c =
-    let a = c .before .before .before .before .args in
-    let rs = rulesIn (a .rules .now) (a .count) in
-    (remaining-start rs (a .starts .now) (a .rows .now) (passOf (a .at) (a .items .now) (a .queue .now)) (c .before .before .before .before .pre .1), refl, refl)
+    let given = c .before .before .before .before .args in
+    let rs = rulesIn (given .rules .now) (given .count) in
+    (remaining-start rs (given .starts .now) (given .rows .now) (passOf (given .at) (given .items .now) (given .queue .now)) (c .before .before .before .before .pre .1), refl, refl)
 
 -- src/sums.rt:115:13
 same-length : tie.Need-same-length Inv-loop μ-loop
@@ -36,27 +36,36 @@ same-length-2 c = c .before .before .before .before .loop .inv .2
 -- src/sums.rt:115:13
 returns : tie.Need-returns Inv-loop μ-loop
 returns c =
-    remaining-stopped (c .before .before .before .before .before .before .before .before .before .pre .0) (c .before .before .before .before .loop .inv .0) (c .if2 .taken)
+    let required = c .before .before .before .before .before .before .before .before .before .pre in
+    remaining-stopped (required .0) (c .before .before .before .before .loop .inv .0) (c .if2 .taken)
 
 -- src/sums.rt:117:9
 complete-sum-requires : tie.Need-complete-sum-requires Inv-loop μ-loop
 complete-sum-requires c κs =
-    let p = c .before .before .before .before .before .before .loop .inv .0 .pending in
-    ((c .before .before .before .before .before .before .before .before .before .before .before .pre .0 .rules-fit, c .before .before .before .before .before .before .before .before .before .before .before .pre .0 .rowed), (p .sound, p .charted, c .before .before .before .before .if1 .taken))
+    let required = c .before .before .before .before .before .before .before .before .before .before .before .pre in
+    let looped = c .before .before .before .before .before .before .loop in
+    let p = looped .inv .0 .pending in
+    ((required .0 .rules-fit, required .0 .rowed), (p .sound, p .charted, c .before .before .before .before .if1 .taken))
 
 -- src/sums.rt:113:5
 loop-less : tie.Need-loop-less Inv-loop μ-loop
 loop-less c =
-    let l = c .before .before .before .before .before .before .before .before .before .before .before .loop in
-    remaining-falls (c .before .before .before .before .before .before .before .before .before .before .before .before .before .before .before .before .pre .0) (l .inv .0) _ (c .before .before .before .before .before .before .before .before .before .if1 .taken) (c .before .before .before .before .complete-sum .ensures)
+    let required = c .before .before .before .before .before .before .before .before .before .before .before .before .before .before .before .before .pre in
+    let looped = c .before .before .before .before .before .before .before .before .before .before .before .loop in
+    let queue-tested = c .before .before .before .before .before .before .before .before .before .if1 in
+    remaining-falls (required .0) (looped .inv .0) _ (queue-tested .taken) (c .before .before .before .before .complete-sum .ensures)
 
 -- src/sums.rt:113:5
 loop-again : tie.Need-loop-again Inv-loop μ-loop
 loop-again c =
-    let l = c .before .before .before .before .before .before .before .before .before .before .before .loop in (
-      remaining-turn (c .before .before .before .before .before .before .before .before .before .before .before .before .before .before .before .before .pre .0) (l .inv .0) _ (c .before .before .before .before .before .before .before .if2 .left) (c .before .before .before .before .before .before .before .before .before .if1 .taken) (c .before .before .before .before .complete-sum .ensures),
-      c .before .before .before .before .complete-sum .kept .1 .1 .0 ∙ l .inv .1,
-      c .before .before .before .before .complete-sum .kept .1 .1 .1 .1 .1 .0 ∙ l .inv .2,
+    let required = c .before .before .before .before .before .before .before .before .before .before .before .before .before .before .before .before .pre in
+    let looped = c .before .before .before .before .before .before .before .before .before .before .before .loop in
+    let queue-tested = c .before .before .before .before .before .before .before .before .before .if1 in
+    let stop-tested = c .before .before .before .before .before .before .before .if2 in
+    let sum-completed = c .before .before .before .before .complete-sum in (
+      remaining-turn (required .0) (looped .inv .0) _ (stop-tested .left) (queue-tested .taken) (sum-completed .ensures),
+      sum-completed .kept .1 .1 .0 ∙ looped .inv .1,
+      sum-completed .kept .1 .1 .1 .1 .1 .0 ∙ looped .inv .2,
     )
 
 -- src/sums.rt:100:1
@@ -70,7 +79,8 @@ same-length-4 c = c .before .before .loop .inv .2
 -- src/sums.rt:100:1
 returns-2 : tie.Need-returns-2 Inv-loop μ-loop
 returns-2 c =
-    remaining-empty (c .before .before .before .before .before .before .before .pre .0) (c .before .before .loop .inv .0) (omega (arith, c .if1 .left))
+    let required = c .before .before .before .before .before .before .before .pre in
+    remaining-empty (required .0) (c .before .before .loop .inv .0) (omega (arith, c .if1 .left))
 
 pub complete-all-sums-entirely-spec : {M : Type 1} → statement M
 complete-all-sums-entirely-spec =

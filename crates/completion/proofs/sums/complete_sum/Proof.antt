@@ -2,11 +2,11 @@ use Rattle.completion.proofs.Summing.{sum-is}
 use Rattle.completion.proofs.Charting.{steady-refl, steady-pop}
 use Rattle.completion.proofs.Waiting.{rules-length, rule-left}
 use Rattle.completion.proofs.Soundness.{has-place}
-use Rattle.completion.specs.Ready.{IsSet, Sound, Charted}
+use Rattle.completion.specs.inner.Ready.{IsSet, PassFits, Charted}
 use Rattle.grammar.specs.Rules.{noRule}
 use Rattle.item.specs.Item.{HasPlace, originAt, ruleAt}
 use Rattle.completion.specs.Pass.{passOf}
-use Rattle.grammar.specs.Decoded.{leftIn, rulesIn}
+use Rattle.grammar.specs.inner.Decoded.{leftIn, rulesIn}
 use native.Mathlib.Omega.{arith}
 use lib.ListN.{getD}
 use Prim.Native.Nat.{_-_, _<_}
@@ -26,12 +26,13 @@ wide-requires c κs = search needs
 -- src/sums.rt:68:18
 origin-requires : tie.Need-origin-requires
 origin-requires c κs =
-    let a = c .before .before .before .before .before .before .before .args in
-    let rs = rulesIn (a .rules .now) (a .count) in
-    let s = passOf (a .at) (a .items .now) (a .queue .now) in
-    let top = getD (a .queue .now) 0 0 in
-    let there : top < a .at .items = c .before .before .before .before .before .before .before .pre .1 .0 .entries 0 (c .before .before .before .before .before .before .before .pre .1 .2) in
-    subst (HasPlace (a .items .now)) (sym (c .before .wide .ensures)) (has-place s (c .before .before .before .before .before .before .before .pre .1 .0) top there)
+    let given = c .before .before .before .before .before .before .before .args in
+    let required = c .before .before .before .before .before .before .before .pre in
+    let rs = rulesIn (given .rules .now) (given .count) in
+    let s = passOf (given .at) (given .items .now) (given .queue .now) in
+    let top = getD (given .queue .now) 0 0 in
+    let there : top < given .at .items = required .1 .0 .entries 0 (required .1 .2) in
+    subst (HasPlace (given .items .now)) (sym (c .before .wide .ensures)) (has-place s (required .1 .0) top there)
 
 -- src/sums.rt:68:9
 wide-requires-2 : tie.Need-wide-requires-2
@@ -40,12 +41,13 @@ wide-requires-2 c κs = search needs
 -- src/sums.rt:69:46
 rule-requires : tie.Need-rule-requires
 rule-requires c κs =
-    let a = c .before .before .before .before .before .before .before .before .before .before .args in
-    let rs = rulesIn (a .rules .now) (a .count) in
-    let s = passOf (a .at) (a .items .now) (a .queue .now) in
-    let top = getD (a .queue .now) 0 0 in
-    let there : top < a .at .items = c .before .before .before .before .before .before .before .before .before .before .pre .1 .0 .entries 0 (c .before .before .before .before .before .before .before .before .before .before .pre .1 .2) in
-    subst (HasPlace (a .items .now)) (sym (c .before .before .before .before .wide .ensures)) (has-place s (c .before .before .before .before .before .before .before .before .before .before .pre .1 .0) top there)
+    let given = c .before .before .before .before .before .before .before .before .before .before .args in
+    let required = c .before .before .before .before .before .before .before .before .before .before .pre in
+    let rs = rulesIn (given .rules .now) (given .count) in
+    let s = passOf (given .at) (given .items .now) (given .queue .now) in
+    let top = getD (given .queue .now) 0 0 in
+    let there : top < given .at .items = required .1 .0 .entries 0 (required .1 .2) in
+    subst (HasPlace (given .items .now)) (sym (c .before .before .before .before .wide .ensures)) (has-place s (required .1 .0) top there)
 
 -- src/sums.rt:69:41
 wide-requires-3 : tie.Need-wide-requires-3
@@ -54,36 +56,48 @@ wide-requires-3 c κs = search needs
 -- src/sums.rt:69:9
 left-requires : tie.Need-left-requires
 left-requires c κs =
-    let a = c .before .before .before .before .before .before .before .before .before .before .before .before .args in
-    let rs = rulesIn (a .rules .now) (a .count) in
-    let s = passOf (a .at) (a .items .now) (a .queue .now) in
-    let top = getD (a .queue .now) 0 0 in
-    let there : top < a .at .items = c .before .before .before .before .before .before .before .before .before .before .before .before .pre .1 .0 .entries 0 (c .before .before .before .before .before .before .before .before .before .before .before .before .pre .1 .2) in
-    let rule : c .wide3 .result ≡ ruleAt (a .items .now) top = c .wide3 .ensures ∙ c .before .rule .ensures ∙ ap (ruleAt (a .items .now)) (c .before .before .before .before .before .before .wide .ensures) in
-    omega (arith, rule, c .before .before .before .before .before .before .before .before .before .before .before .before .pre .1 .1 .rules top there, c .before .before .before .before .before .before .before .before .before .before .before .before .pre .0 .0 .few-rules)
+    let given = c .before .before .before .before .before .before .before .before .before .before .before .before .args in
+    let required = c .before .before .before .before .before .before .before .before .before .before .before .before .pre in
+    let top-read = c .before .before .before .before .before .before .wide in
+    let rs = rulesIn (given .rules .now) (given .count) in
+    let s = passOf (given .at) (given .items .now) (given .queue .now) in
+    let top = getD (given .queue .now) 0 0 in
+    let there : top < given .at .items = required .1 .0 .entries 0 (required .1 .2) in
+    let rule : c .wide3 .result ≡ ruleAt (given .items .now) top = c .wide3 .ensures ∙ c .before .rule .ensures ∙ ap (ruleAt (given .items .now)) (top-read .ensures) in
+    omega (arith, rule, required .1 .1 .rules top there, required .0 .0 .few-rules)
 
 -- src/sums.rt:70:9
 pop-sum-requires : tie.Need-pop-sum-requires
 pop-sum-requires c κs =
-    record { sound = c .before .before .before .before .before .before .before .before .before .before .before .before .before .before .before .pre .1 .0; few-rules = c .before .before .before .before .before .before .before .before .before .before .before .before .before .before .before .pre .0 .0 .few-rules; rules = c .before .before .before .before .before .before .before .before .before .before .before .before .before .before .before .pre .1 .1 .rules }
+    let required = c .before .before .before .before .before .before .before .before .before .before .before .before .before .before .before .pre in
+    record { sound = required .1 .0; few-rules = required .0 .0 .few-rules; rules = required .1 .1 .rules }
 
 -- src/sums.rt:71:5
 complete-requires : tie.Need-complete-requires
 complete-requires c κs =
-    let a = c .before .before .before .before .before .before .before .before .before .before .before .before .before .before .before .before .before .before .before .before .args in
-    let rs = rulesIn (a .rules .now) (a .count) in
-    let s = passOf (a .at) (a .items .now) (a .queue .now) in
-    let top = getD (a .queue .now) 0 0 in
-    let there : top < a .at .items = c .before .before .before .before .before .before .before .before .before .before .before .before .before .before .before .before .before .before .before .before .pre .1 .0 .entries 0 (c .before .before .before .before .before .before .before .before .before .before .before .before .before .before .before .before .before .before .before .before .pre .1 .2) in
-    let rule : c .before .before .before .before .before .before .before .before .wide3 .result ≡ ruleAt (a .items .now) top = c .before .before .before .before .before .before .before .before .wide3 .ensures ∙ c .before .before .before .before .before .before .before .before .before .rule .ensures ∙ ap (ruleAt (a .items .now)) (c .before .before .before .before .before .before .before .before .before .before .before .before .before .before .wide .ensures) in
-    let few : ruleAt (a .items .now) top < a .count = omega (arith, c .before .before .before .before .before .before .before .before .before .before .before .before .before .before .before .before .before .before .before .before .pre .1 .1 .rules top there, rules-length (a .rules .now) (a .count)) in
-    let set : c .before .before .before .before .before .before .before .before .before .before .before .wide2 .result ≡ originAt (a .items .now) top = c .before .before .before .before .before .before .before .before .before .before .before .wide2 .ensures ∙ c .before .before .before .before .before .before .before .before .before .before .before .before .origin .ensures ∙ ap (originAt (a .items .now)) (c .before .before .before .before .before .before .before .before .before .before .before .before .before .before .wide .ensures) in
-    let symbol : c .before .before .before .before .before .before .before .left .result ≡ getD rs (ruleAt (a .items .now) top) noRule .left = c .before .before .before .before .before .before .before .left .ensures .0 ∙ ap (leftIn (a .rules .now)) rule ∙ rule-left (a .rules .now) (a .count) (ruleAt (a .items .now) top) few in
-    let popped = steady-pop rs (a .starts .now) s (c .before .before .before .before .before .before .before .before .before .before .before .wide2 .result) (c .before .before .before .before .before .before .before .left .result) s (steady-refl rs (a .starts .now) s (c .before .before .before .before .before .before .before .before .before .before .before .before .before .before .before .before .before .before .before .before .pre .1 .0) (c .before .before .before .before .before .before .before .before .before .before .before .before .before .before .before .before .before .before .before .before .pre .1 .1)) in (
-      c .before .before .before .before .before .before .before .before .before .before .before .before .before .before .before .before .before .before .before .before .pre .0,
+    let given = c .before .before .before .before .before .before .before .before .before .before .before .before .before .before .before .before .before .before .before .before .args in
+    let required = c .before .before .before .before .before .before .before .before .before .before .before .before .before .before .before .before .before .before .before .before .pre in
+    let top-read = c .before .before .before .before .before .before .before .before .before .before .before .before .before .before .wide in
+    let origin-read = c .before .before .before .before .before .before .before .before .before .before .before .before .origin in
+    let origin-widened = c .before .before .before .before .before .before .before .before .before .before .before .wide2 in
+    let rule-read = c .before .before .before .before .before .before .before .before .before .rule in
+    let rule-widened = c .before .before .before .before .before .before .before .before .wide3 in
+    let left-read = c .before .before .before .before .before .before .before .left in
+    let sum-popped = c .before .before .before .before .pop-sum in
+    let rs = rulesIn (given .rules .now) (given .count) in
+    let s = passOf (given .at) (given .items .now) (given .queue .now) in
+    let top = getD (given .queue .now) 0 0 in
+    let there : top < given .at .items = required .1 .0 .entries 0 (required .1 .2) in
+    let rule : rule-widened .result ≡ ruleAt (given .items .now) top = rule-widened .ensures ∙ rule-read .ensures ∙ ap (ruleAt (given .items .now)) (top-read .ensures) in
+    let few : ruleAt (given .items .now) top < given .count = omega (arith, required .1 .1 .rules top there, rules-length (given .rules .now) (given .count)) in
+    let set : origin-widened .result ≡ originAt (given .items .now) top = origin-widened .ensures ∙ origin-read .ensures ∙ ap (originAt (given .items .now)) (top-read .ensures) in
+    let symbol : left-read .result ≡ getD rs (ruleAt (given .items .now) top) noRule .left =
+    left-read .ensures .0 ∙ ap (leftIn (given .rules .now)) rule ∙ rule-left (given .rules .now) (given .count) (ruleAt (given .items .now) top) few in
+    let popped = steady-pop rs (given .starts .now) s (origin-widened .result) (left-read .result) s (steady-refl rs (given .starts .now) s (required .1 .0) (required .1 .1)) in (
+      required .0,
       (
-        (subst (IsSet (a .starts .now)) (sym set) (c .before .before .before .before .before .before .before .before .before .before .before .before .before .before .before .before .before .before .before .before .pre .1 .1 .origins top there), omega (arith, symbol, c .before .before .before .before .before .before .before .before .before .before .before .before .before .before .before .before .before .before .before .before .pre .0 .0 .lefts (ruleAt (a .items .now) top))),
-        (subst Sound (sym (c .before .before .before .before .pop-sum .ensures)) (popped .sound), subst (Charted rs (a .starts .now)) (sym (c .before .before .before .before .pop-sum .ensures)) (popped .charted)),
+        (subst (IsSet (given .starts .now)) (sym set) (required .1 .1 .origins top there), omega (arith, symbol, required .0 .0 .lefts (ruleAt (given .items .now) top))),
+        (subst PassFits (sym (sum-popped .ensures)) (popped .sound), subst (Charted rs (given .starts .now)) (sym (sum-popped .ensures)) (popped .charted)),
       ),
     )
 
@@ -98,17 +112,26 @@ same-length-2 c = search needs
 -- src/sums.rt:62:1
 returns : tie.Need-returns
 returns c =
-    let a = c .before .before .before .before .before .before .before .before .before .before .before .before .before .before .before .before .before .before .before .before .before .before .before .before .before .args in
-    let rs = rulesIn (a .rules .now) (a .count) in
-    let s = passOf (a .at) (a .items .now) (a .queue .now) in
-    let top = getD (a .queue .now) 0 0 in
-    let there : top < a .at .items = c .before .before .before .before .before .before .before .before .before .before .before .before .before .before .before .before .before .before .before .before .before .before .before .before .before .pre .1 .0 .entries 0 (c .before .before .before .before .before .before .before .before .before .before .before .before .before .before .before .before .before .before .before .before .before .before .before .before .before .pre .1 .2) in
-    let rule : c .before .before .before .before .before .before .before .before .before .before .before .before .before .wide3 .result ≡ ruleAt (a .items .now) top = c .before .before .before .before .before .before .before .before .before .before .before .before .before .wide3 .ensures ∙ c .before .before .before .before .before .before .before .before .before .before .before .before .before .before .rule .ensures ∙ ap (ruleAt (a .items .now)) (c .before .before .before .before .before .before .before .before .before .before .before .before .before .before .before .before .before .before .before .wide .ensures) in
-    let few : ruleAt (a .items .now) top < a .count = omega (arith, c .before .before .before .before .before .before .before .before .before .before .before .before .before .before .before .before .before .before .before .before .before .before .before .before .before .pre .1 .1 .rules top there, rules-length (a .rules .now) (a .count)) in
-    let set : c .before .before .before .before .before .before .before .before .before .before .before .before .before .before .before .before .wide2 .result ≡ originAt (a .items .now) top = c .before .before .before .before .before .before .before .before .before .before .before .before .before .before .before .before .wide2 .ensures ∙ c .before .before .before .before .before .before .before .before .before .before .before .before .before .before .before .before .before .origin .ensures ∙ ap (originAt (a .items .now)) (c .before .before .before .before .before .before .before .before .before .before .before .before .before .before .before .before .before .before .before .wide .ensures) in
-    let symbol : c .before .before .before .before .before .before .before .before .before .before .before .before .left .result ≡ getD rs (ruleAt (a .items .now) top) noRule .left = c .before .before .before .before .before .before .before .before .before .before .before .before .left .ensures .0 ∙ ap (leftIn (a .rules .now)) rule ∙ rule-left (a .rules .now) (a .count) (ruleAt (a .items .now) top) few in
-    sum-is rs (a .starts .now) (a .rows .now) (c .before .before .before .before .before .before .before .before .before .before .before .before .before .before .before .before .wide2 .result) (c .before .before .before .before .before .before .before .before .before .before .before .before .left .result) s
-    (passOf (c .before .before .before .before .before .before .before .before .before .pop-sum .result) (a .items .now) (c .before .before .before .before .before .before .before .before .before .pop-sum .last .1 .1 .1 .0)) _ set symbol (c .before .before .before .before .before .before .before .before .before .pop-sum .ensures) (c .before .before .before .before .complete .ensures)
+    let given = c .before .before .before .before .before .before .before .before .before .before .before .before .before .before .before .before .before .before .before .before .before .before .before .before .before .args in
+    let required = c .before .before .before .before .before .before .before .before .before .before .before .before .before .before .before .before .before .before .before .before .before .before .before .before .before .pre in
+    let top-read = c .before .before .before .before .before .before .before .before .before .before .before .before .before .before .before .before .before .before .before .wide in
+    let origin-read = c .before .before .before .before .before .before .before .before .before .before .before .before .before .before .before .before .before .origin in
+    let origin-widened = c .before .before .before .before .before .before .before .before .before .before .before .before .before .before .before .before .wide2 in
+    let rule-read = c .before .before .before .before .before .before .before .before .before .before .before .before .before .before .rule in
+    let rule-widened = c .before .before .before .before .before .before .before .before .before .before .before .before .before .wide3 in
+    let left-read = c .before .before .before .before .before .before .before .before .before .before .before .before .left in
+    let sum-popped = c .before .before .before .before .before .before .before .before .before .pop-sum in
+    let rs = rulesIn (given .rules .now) (given .count) in
+    let s = passOf (given .at) (given .items .now) (given .queue .now) in
+    let top = getD (given .queue .now) 0 0 in
+    let there : top < given .at .items = required .1 .0 .entries 0 (required .1 .2) in
+    let rule : rule-widened .result ≡ ruleAt (given .items .now) top = rule-widened .ensures ∙ rule-read .ensures ∙ ap (ruleAt (given .items .now)) (top-read .ensures) in
+    let few : ruleAt (given .items .now) top < given .count = omega (arith, required .1 .1 .rules top there, rules-length (given .rules .now) (given .count)) in
+    let set : origin-widened .result ≡ originAt (given .items .now) top = origin-widened .ensures ∙ origin-read .ensures ∙ ap (originAt (given .items .now)) (top-read .ensures) in
+    let symbol : left-read .result ≡ getD rs (ruleAt (given .items .now) top) noRule .left =
+    left-read .ensures .0 ∙ ap (leftIn (given .rules .now)) rule ∙ rule-left (given .rules .now) (given .count) (ruleAt (given .items .now) top) few in
+    sum-is rs (given .starts .now) (given .rows .now) (origin-widened .result) (left-read .result) s
+    (passOf (sum-popped .result) (given .items .now) (sum-popped .last .1 .1 .1 .0)) _ set symbol (sum-popped .ensures) (c .before .before .before .before .complete .ensures)
 
 pub complete-sum-spec : {M : Type 1} → statement M
 complete-sum-spec =

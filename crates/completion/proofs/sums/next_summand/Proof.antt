@@ -12,8 +12,8 @@ use Rattle.completion.proofs.sums.next_summand.Tie as tie
 -- src/sums.rt:39:11
 pop-requires : tie.Need-pop-requires
 pop-requires c κs =
-    let a = c .before .before .before .args in
-    sound-places (passOf (a .at) (a .items .now) (a .queue .now)) (c .before .before .before .pre .0)
+    let given = c .before .before .before .args in
+    sound-places (passOf (given .at) (given .items .now) (given .queue .now)) (c .before .before .before .pre .0)
 
 -- src/sums.rt:40:26
 enum-told : tie.Need-enum-told
@@ -30,9 +30,10 @@ same-length c = search needs
 -- src/sums.rt:32:1
 returns : tie.Need-returns
 returns c =
-    let a = c .before .before .before .before .before .before .before .before .args in
-    let none : a .at .queued ≡ 0 = pop-empty-tells (a .queue .now) (a .at .queued) (sym (c .before .before .before .before .pop .ensures .0) ∙ c .enum-told .given .1) in
-    absurd (omega (arith, c .before .before .before .before .before .before .before .before .pre .1))
+    let given = c .before .before .before .before .before .before .before .before .args in
+    let required = c .before .before .before .before .before .before .before .before .pre in
+    let none : given .at .queued ≡ 0 = pop-empty-tells (given .queue .now) (given .at .queued) (sym (c .before .before .before .before .pop .ensures .0) ∙ c .enum-told .given .1) in
+    absurd (omega (arith, required .1))
 
 -- src/sums.rt:32:1
 same-length-2 : tie.Need-same-length-2
@@ -41,8 +42,9 @@ same-length-2 c = search needs
 -- src/sums.rt:32:1
 returns-2 : tie.Need-returns-2
 returns-2 c =
-    let a = c .before .before .before .before .before .before .before .before .before .args in
-    popped-entry (passOf (a .at) (a .items .now) (a .queue .now)) _ _ (c .before .before .before .before .before .pop .last .1 .0) (sym (c .before .before .before .before .before .pop .ensures .0) ∙ c .before .left .given .1) (c .before .before .before .before .before .pop .ensures .1)
+    let given = c .before .before .before .before .before .before .before .before .before .args in
+    let popped = c .before .before .before .before .before .pop in
+    popped-entry (passOf (given .at) (given .items .now) (given .queue .now)) _ _ (popped .last .1 .0) (sym (popped .ensures .0) ∙ c .before .left .given .1) (popped .ensures .1)
 
 pub next-summand-spec : {M : Type 1} → statement M
 next-summand-spec =

@@ -4,12 +4,12 @@ use mathlib.Core.List.{[]}
 use Rattle.completion.proofs.Summing.{sum-turn, read-next}
 use Rattle.completion.proofs.Charting.{next-sound, goes-on-sum}
 use Rattle.completion.specs.Sums.{sumEnds, nextSummand, popSum}
-use Rattle.completion.specs.Ready.{RulesRead}
+use Rattle.completion.specs.inner.Ready.{RulesRead}
 use Rattle.laws.proofs.Turns.{until-rests}
 use Rattle.laws.specs.Turns.{until}
 use borrow.Author.Tests.{not-true, not-false}
 use Rattle.completion.specs.Pass.{passOf}
-use Rattle.grammar.specs.Decoded.{rulesIn}
+use Rattle.grammar.specs.inner.Decoded.{rulesIn}
 use native.Mathlib.Omega.{arith}
 use lib.ListN.{length}
 use Prim.Native.Nat.{_-_, _<_}
@@ -38,38 +38,41 @@ sum-ends-requires c κs = c .before .loop .inv .1
 -- src/sums.rt:56:9
 next-summand-requires : tie.Need-next-summand-requires Inv-loop μ-loop
 next-summand-requires c κs =
-    let a = c .before .before .before .before .before .before .before .args in
-    let rs = rulesIn (a .rules .now) (a .count) in
-    let l = c .before .before .before .before .loop in
-    let u = passOf (l .now) (a .items .now) (l .queue) in
-    let on : sumEnds rs (a .k) (a .x) u ≡ false = sym (c .before .before .sum-ends .ensures) ∙ not-true (c .before .before .sum-ends .result) (c .before .if1 .taken) in
-    let some : 0 < l .now .queued = goes-on-sum rs [] u (a .k) (a .x) u on in
-    (l .inv .1 .sound, some)
+    let given = c .before .before .before .before .before .before .before .args in
+    let looped = c .before .before .before .before .loop in
+    let rs = rulesIn (given .rules .now) (given .count) in
+    let u = passOf (looped .now) (given .items .now) (looped .queue) in
+    let on : sumEnds rs (given .k) (given .x) u ≡ false = sym (c .before .before .sum-ends .ensures) ∙ not-true (c .before .before .sum-ends .result) (c .before .if1 .taken) in
+    let some : 0 < looped .now .queued = goes-on-sum rs [] u (given .k) (given .x) u on in
+    (looped .inv .1 .sound, some)
 
 -- src/sums.rt:55:5
 loop-less : tie.Need-loop-less Inv-loop μ-loop
 unfolding nextSummand
 loop-less c =
-    let a = c .before .before .before .before .before .before .before .before .before .before .args in
-    let rs = rulesIn (a .rules .now) (a .count) in
-    let l = c .before .before .before .before .before .before .before .loop in
-    let u = passOf (l .now) (a .items .now) (l .queue) in
-    let on : sumEnds rs (a .k) (a .x) u ≡ false = sym (c .before .before .before .before .before .sum-ends .ensures) ∙ not-true (c .before .before .before .before .before .sum-ends .result) (c .before .before .before .before .if1 .taken) in
-    let some : 0 < l .now .queued = goes-on-sum rs [] u (a .k) (a .x) u on in
+    let given = c .before .before .before .before .before .before .before .before .before .before .args in
+    let looped = c .before .before .before .before .before .before .before .loop in
+    let end-asked = c .before .before .before .before .before .sum-ends in
+    let rs = rulesIn (given .rules .now) (given .count) in
+    let u = passOf (looped .now) (given .items .now) (looped .queue) in
+    let on : sumEnds rs (given .k) (given .x) u ≡ false = sym (end-asked .ensures) ∙ not-true (end-asked .result) (c .before .before .before .before .if1 .taken) in
+    let some : 0 < looped .now .queued = goes-on-sum rs [] u (given .k) (given .x) u on in
     omega (arith, ap (λ (u : Pass). u .at .queued) (c .before .before .next-summand .ensures))
 
 -- src/sums.rt:55:5
 loop-again : tie.Need-loop-again Inv-loop μ-loop
 loop-again c =
-    let a = c .before .before .before .before .before .before .before .before .before .before .args in
-    let rs = rulesIn (a .rules .now) (a .count) in
-    let l = c .before .before .before .before .before .before .before .loop in
-    let u = passOf (l .now) (a .items .now) (l .queue) in
-    let on : sumEnds rs (a .k) (a .x) u ≡ false = sym (c .before .before .before .before .before .sum-ends .ensures) ∙ not-true (c .before .before .before .before .before .sum-ends .result) (c .before .before .before .before .if1 .taken) in
-    let some : 0 < l .now .queued = goes-on-sum rs [] u (a .k) (a .x) u on in (
-      sum-turn rs (a .k) (a .x) u (passOf (c .before .before .next-summand .result) (a .items .now) (c .before .before .next-summand .last .1 .0)) on some (c .before .before .next-summand .ensures) ∙ l .inv .0,
-      subst (RulesRead rs) (sym (c .before .before .next-summand .ensures)) (read-next rs u (l .inv .1) some (next-sound u (l .inv .1 .sound) some)),
-      c .before .before .next-summand .kept .1 .0 ∙ l .inv .2,
+    let given = c .before .before .before .before .before .before .before .before .before .before .args in
+    let looped = c .before .before .before .before .before .before .before .loop in
+    let end-asked = c .before .before .before .before .before .sum-ends in
+    let summand-taken = c .before .before .next-summand in
+    let rs = rulesIn (given .rules .now) (given .count) in
+    let u = passOf (looped .now) (given .items .now) (looped .queue) in
+    let on : sumEnds rs (given .k) (given .x) u ≡ false = sym (end-asked .ensures) ∙ not-true (end-asked .result) (c .before .before .before .before .if1 .taken) in
+    let some : 0 < looped .now .queued = goes-on-sum rs [] u (given .k) (given .x) u on in (
+      sum-turn rs (given .k) (given .x) u (passOf (summand-taken .result) (given .items .now) (summand-taken .last .1 .0)) on some (summand-taken .ensures) ∙ looped .inv .0,
+      subst (RulesRead rs) (sym (summand-taken .ensures)) (read-next rs u (looped .inv .1) some (next-sound u (looped .inv .1 .sound) some)),
+      summand-taken .kept .1 .0 ∙ looped .inv .2,
     )
 
 -- src/sums.rt:50:1
@@ -79,11 +82,12 @@ same-length c = c .before .before .before .loop .inv .2
 -- src/sums.rt:50:1
 returns : tie.Need-returns Inv-loop μ-loop
 returns c =
-    let a = c .before .before .before .before .before .before .args in
-    let rs = rulesIn (a .rules .now) (a .count) in
-    let s = passOf (a .at) (a .items .now) (a .queue .now) in
-    let l = c .before .before .before .loop in
-    sym (until-rests (sumEnds rs (a .k) (a .x)) nextSummand (l .now .queued) (passOf (l .now) (a .items .now) (l .queue)) (sym (c .before .sum-ends .ensures) ∙ not-false (c .before .sum-ends .result) (c .if1 .left))) ∙ l .inv .0
+    let given = c .before .before .before .before .before .before .args in
+    let looped = c .before .before .before .loop in
+    let rs = rulesIn (given .rules .now) (given .count) in
+    let s = passOf (given .at) (given .items .now) (given .queue .now) in
+    sym (until-rests (sumEnds rs (given .k) (given .x)) nextSummand (looped .now .queued) (passOf (looped .now) (given .items .now) (looped .queue))
+    (sym (c .before .sum-ends .ensures) ∙ not-false (c .before .sum-ends .result) (c .if1 .left))) ∙ looped .inv .0
 
 pub pop-sum-spec : {M : Type 1} → statement M
 pop-sum-spec =

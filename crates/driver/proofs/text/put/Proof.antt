@@ -25,9 +25,9 @@ same-length c = search needs
 
 returns : tie.Need-returns
 returns c =
-    let at-copy = c .before .before in
-    let start = c .before .before .before .before .before .before in
-    (omega (arith, at-copy .copy .ensures .0), put-text (start .args .out .now) (start .args .bytes .now) _ _ _ (start .args .at) _ (omega arith) (at-copy .copy .ensures .1) (at-copy .copy .ensures .0))
+    let given = c .before .before .before .before .before .before .args in
+    let copied = c .before .before .copy in
+    (omega (arith, copied .ensures .0), put-text (given .out .now) (given .bytes .now) _ _ _ (given .at) _ (omega arith) (copied .ensures .1) (copied .ensures .0))
 
 pub put-spec : {M : Type 1} → statement M
 put-spec =

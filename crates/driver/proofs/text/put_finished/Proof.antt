@@ -19,7 +19,12 @@ same-length c = search needs
 
 returns : tie.Need-returns
 unfolding finishedLine
-returns c = (omega (arith, c .before .before .put .ensures .0), ends-with (take (c .before .before .before .before .before .before .before .args .at) (c .before .before .before .before .before .before .before .args .out .now)) _ _ true (c .before .before .before .before .before .if1 .taken) (c .before .before .put .ensures .1))
+returns c =
+    let given = c .before .before .before .before .before .before .before .args in (
+      omega (arith, c .before .before .put .ensures .0),
+      ends-with (take (given .at)
+          (given .out .now)) _ _ true (c .before .before .before .before .before .if1 .taken) (c .before .before .put .ensures .1),
+    )
 
 slice-aggregate-put-2 : tie.Need-slice-aggregate-put-2
 slice-aggregate-put-2 c = search needs
@@ -32,7 +37,12 @@ same-length-2 c = search needs
 
 returns-2 : tie.Need-returns-2
 unfolding finishedLine
-returns-2 c = (omega (arith, c .before .before .put2 .ensures .0), ends-with (take (c .before .before .before .before .before .before .before .args .at) (c .before .before .before .before .before .before .before .args .out .now)) _ _ false (c .before .before .before .before .before .if1 .left) (c .before .before .put2 .ensures .1))
+returns-2 c =
+    let given = c .before .before .before .before .before .before .before .args in (
+      omega (arith, c .before .before .put2 .ensures .0),
+      ends-with (take (given .at)
+          (given .out .now)) _ _ false (c .before .before .before .before .before .if1 .left) (c .before .before .put2 .ensures .1),
+    )
 
 pub put-finished-spec : {M : Type 1} → statement M
 put-finished-spec =

@@ -22,22 +22,37 @@ slice-aggregate-put c = search needs
 
 put-requires-2 : tie.Need-put-requires-2
 put-requires-2 c κs =
-    omega (arith, c .before .before .before .before .put .ensures .0, c .before .before .before .before .put .kept .0, c .before .before .before .before .before .before .decimal .ensures .0 .1, twenty _ _ (c .before .before .before .before .before .before .before .before .wide .ensures .1) (c .before .before .before .before .before .before .decimal .ensures .1 .0), c .before .before .before .before .before .before .before .before .before .before .before .pre)
+    let required = c .before .before .before .before .before .before .before .before .before .before .before .pre in
+    let widened = c .before .before .before .before .before .before .before .before .wide in
+    let digits-made = c .before .before .before .before .before .before .decimal in
+    let head-put = c .before .before .before .before .put in
+    omega (arith, head-put .ensures .0, head-put .kept .0, digits-made .ensures .0 .1, twenty _ _ (widened .ensures .1) (digits-made .ensures .1 .0), required)
 
 slice-aggregate-put-2 : tie.Need-slice-aggregate-put-2
 slice-aggregate-put-2 c = search needs
 
 put-requires-3 : tie.Need-put-requires-3
-put-requires-3 c κs = omega (arith, c .before .before .before .before .put2 .ensures .0, c .before .before .before .before .put2 .kept .0, c .before .before .before .before .before .before .before .before .before .put .ensures .0, c .before .before .before .before .before .before .before .before .before .put .kept .0, c .before .before .before .before .before .before .before .before .before .before .before .decimal .ensures .0 .1, twenty _ _ (c .before .before .before .before .before .before .before .before .before .before .before .before .before .wide .ensures .1) (c .before .before .before .before .before .before .before .before .before .before .before .decimal .ensures .1 .0), c .before .before .before .before .before .before .before .before .before .before .before .before .before .before .before .before .pre)
+put-requires-3 c κs =
+    let required = c .before .before .before .before .before .before .before .before .before .before .before .before .before .before .before .before .pre in
+    let widened = c .before .before .before .before .before .before .before .before .before .before .before .before .before .wide in
+    let digits-made = c .before .before .before .before .before .before .before .before .before .before .before .decimal in
+    let head-put = c .before .before .before .before .before .before .before .before .before .put in
+    let digits-put = c .before .before .before .before .put2 in
+    omega (arith, digits-put .ensures .0, digits-put .kept .0, head-put .ensures .0, head-put .kept .0, digits-made .ensures .0 .1, twenty _ _ (widened .ensures .1) (digits-made .ensures .1 .0), required)
 
 same-length : tie.Need-same-length
 same-length c = search needs
 
 returns : tie.Need-returns
-returns c = (
-  omega (arith, c .before .before .put3 .ensures .0, c .before .before .before .before .before .before .before .put2 .ensures .0, c .before .before .before .before .before .before .before .before .before .before .before .before .put .ensures .0, c .before .before .before .before .before .before .before .before .before .before .before .before .before .before .decimal .ensures .0 .1, twenty _ _ (c .before .before .before .before .before .before .before .before .before .before .before .before .before .before .before .before .wide .ensures .1) (c .before .before .before .before .before .before .before .before .before .before .before .before .before .before .decimal .ensures .1 .0)),
-  a-line _ _ _ _ _ _ _ _ _ (c .before .before .before .before .before .before .before .before .before .before .before .before .before .before .before .before .wide .ensures .0) (c .before .before .before .before .before .before .before .before .before .before .before .before .before .before .decimal .ensures .1 .0) (c .before .before .before .before .before .before .before .before .before .before .before .before .before .before .decimal .ensures .1 .1) (c .before .before .before .before .before .before .before .before .before .before .before .before .put .ensures .1) (c .before .before .before .before .before .before .before .put2 .ensures .1) (c .before .before .put3 .ensures .1),
-)
+returns c =
+    let widened = c .before .before .before .before .before .before .before .before .before .before .before .before .before .before .before .before .wide in
+    let digits-made = c .before .before .before .before .before .before .before .before .before .before .before .before .before .before .decimal in
+    let head-put = c .before .before .before .before .before .before .before .before .before .before .before .before .put in
+    let digits-put = c .before .before .before .before .before .before .before .put2 in (
+      omega (arith, c .before .before .put3 .ensures .0, digits-put .ensures .0, head-put .ensures .0, digits-made .ensures .0 .1, twenty _ _ (widened .ensures .1) (digits-made .ensures .1 .0)),
+      a-line _ _ _ _ _ _ _ _ _ (widened .ensures .0) (digits-made .ensures .1 .0) (digits-made .ensures .1 .1) (head-put .ensures .1) (digits-put .ensures .1)
+          (c .before .before .put3 .ensures .1),
+    )
 
 pub put-line-spec : {M : Type 1} → statement M
 put-line-spec =

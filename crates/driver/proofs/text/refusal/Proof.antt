@@ -15,7 +15,10 @@ same-length : tie.Need-same-length
 same-length c = search needs
 
 returns : tie.Need-returns
-returns c = (counts _ _ (omega (arith, c .before .before .put-line .ensures .0, c .before .before .put-line .kept .0, c .before .before .before .before .before .before .pre)), c .before .before .put-line .ensures .1)
+returns c =
+    let required = c .before .before .before .before .before .before .pre in
+    let line-put = c .before .before .put-line in
+    (counts _ _ (omega (arith, line-put .ensures .0, line-put .kept .0, required)), line-put .ensures .1)
 
 pub refusal-spec : {M : Type 1} → statement M
 refusal-spec = tie.close (tie.spec slice-aggregate-put-line put-line-requires same-length returns)

@@ -30,11 +30,16 @@ same-length : tie.Need-same-length
 same-length c = search needs
 
 returns : tie.Need-returns
-returns c = (
-  counts _ _
-      (omega (arith, c .before .before .put-line3 .ensures .0, c .before .before .put-line3 .kept .0, c .before .before .before .before .before .before .before .put-finished .ensures .0, c .before .before .before .before .before .before .before .put-finished .kept .0, c .before .before .before .before .before .before .before .before .before .before .before .put-line2 .ensures .0, c .before .before .before .before .before .before .before .before .before .before .before .put-line2 .kept .0, c .before .before .before .before .before .before .before .before .before .before .before .before .before .before .before .before .put-line .ensures .0, c .before .before .before .before .before .before .before .before .before .before .before .before .before .before .before .before .put-line .kept .0, c .before .before .before .before .before .before .before .before .before .before .before .before .before .before .before .before .before .before .before .before .pre)),
-  a-report _ _ _ _ _ _ _ _ (c .before .before .before .before .before .before .before .before .before .before .before .before .before .before .before .before .put-line .ensures .1) (c .before .before .before .before .before .before .before .before .before .before .before .put-line2 .ensures .1) (c .before .before .before .before .before .before .before .put-finished .ensures .1) (c .before .before .put-line3 .ensures .1),
-)
+returns c =
+    let required = c .before .before .before .before .before .before .before .before .before .before .before .before .before .before .before .before .before .before .before .before .pre in
+    let read-put = c .before .before .before .before .before .before .before .before .before .before .before .before .before .before .before .before .put-line in
+    let stopped-put = c .before .before .before .before .before .before .before .before .before .before .before .put-line2 in
+    let finished-put = c .before .before .before .before .before .before .before .put-finished in
+    let set-put = c .before .before .put-line3 in (
+      counts _ _
+          (omega (arith, set-put .ensures .0, set-put .kept .0, finished-put .ensures .0, finished-put .kept .0, stopped-put .ensures .0, stopped-put .kept .0, read-put .ensures .0, read-put .kept .0, required)),
+      a-report _ _ _ _ _ _ _ _ (read-put .ensures .1) (stopped-put .ensures .1) (finished-put .ensures .1) (set-put .ensures .1),
+    )
 
 pub report-spec : {M : Type 1} → statement M
 report-spec =

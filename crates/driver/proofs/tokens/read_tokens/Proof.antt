@@ -1,8 +1,9 @@
 -- `driver::tokens::read_tokens` meets its contract. The measure is the number of parts that are left.
-use mathlib.Core.Path.{_∙_}
+use mathlib.Core.Path.{sym, _∙_}
 use native.Mathlib.Omega.{arith}
+use borrow.Author.Tests.{ltb-true, ltb-false}
 use borrow.Author.Needs.{needs}
-use Rattle.driver.proofs.Reading.{Reading, reading-start, reading-next, ended-by, all-read}
+use Rattle.driver.proofs.Reading.{Reading, reading-start, reading-last, reading-full, refused-by, all-read}
 use Rattle.driver.proofs.tokens.read_tokens.Statement.{statement}
 use Rattle.driver.proofs.tokens.read_tokens.Tie as tie
 
@@ -42,16 +43,22 @@ same-length-4 : tie.Need-same-length-4 Inv-loop μ-loop
 same-length-4 c = c .before .before .before .before .before .before .before .before .before .before .before .read-part .kept .1 .1 .1 .1 .1 .0 ∙ c .before .before .before .before .before .before .before .before .before .before .before .before .before .before .before .before .before .loop .inv .queue-long
 
 returns : tie.Need-returns Inv-loop μ-loop
-returns c = ended-by (c .before .before .before .before .before .before .before .before .before .before .before .read-part .result) _ (c .before .before .before .before .before .before .before .before .before .before .before .before .before .before .before .before .before .loop .inv .so-far) (c .before .before .before .before .before .before .before .before .before .before .before .read-part .ensures .0) (c .before .answer2 .given .1)
+returns c =
+    let part = c .before .before .before .before .before .before .before .before .before .before .before .read-part in
+    refused-by (part .result) (c .before .before .before .before .before .before .before .before .before .before .before .before .before .before .before .before .before .loop .inv .so-far) (omega (arith, c .before .before .before .before .before .before .before .before .before .before .before .before .before .before .before .before .loop-test .taken)) (part .ensures .0) (c .before .answer2 .given .1)
+
+is-last-requires : tie.Need-is-last-requires Inv-loop μ-loop
+is-last-requires c κs = search needs
 
 loop-less : tie.Need-loop-less Inv-loop μ-loop
 loop-less c = search needs
 
 loop-again : tie.Need-loop-again Inv-loop μ-loop
 loop-again c =
-    let part = c .before .before .before .before .before .before .before .before .before .before .before .before .read-part in
-    reading-next _ _ _ _ (part .result) _ _ (c .before .before .before .before .before .before .before .before .before .before .before .before .before .before .before .before .before .before .loop .inv) (part .ensures .0) (c .before .before .answer .given .1) (part .ensures .1) (omega (arith, c .before .before .before .before .before .before .before .before .before .before .before .before .before .before .before .before .before .loop-test .taken))
+    let part = c .before .before .before .before .before .before .before .before .before .before .before .before .before .read-part in
+    reading-last _ _ _ _ (part .result) _ (c .before .before .before .before .before .before .before .before .before .before .before .before .before .before .before .before .before .before .before .loop .inv) (part .ensures .0) (c .before .before .before .answer .given .1) (part .ensures .1) (omega (arith, c .before .before .before .before .before .before .before .before .before .before .before .before .before .before .before .before .before .before .loop-test .taken))
     (part .kept .1 .1 .0) (part .kept .1 .1 .1 .0) (part .kept .1 .1 .1 .1 .0) (part .kept .1 .1 .1 .1 .1 .0)
+    (ltb-true _ _ (sym (c .before .is-last .ensures) ∙ c .if1 .taken))
 
 sub-parts : tie.Need-sub-parts Inv-loop μ-loop
 sub-parts c = search needs
@@ -61,9 +68,10 @@ loop-less-2 c = search needs
 
 loop-again-2 : tie.Need-loop-again-2 Inv-loop μ-loop
 loop-again-2 c =
-    let part = c .before .before .before .before .before .before .before .before .before .before .before .before .read-part in
-    reading-next _ _ _ _ (part .result) _ _ (c .before .before .before .before .before .before .before .before .before .before .before .before .before .before .before .before .before .before .loop .inv) (part .ensures .0) (c .before .before .answer .given .1) (part .ensures .1) (omega (arith, c .before .before .before .before .before .before .before .before .before .before .before .before .before .before .before .before .before .loop-test .taken))
+    let part = c .before .before .before .before .before .before .before .before .before .before .before .before .before .read-part in
+    reading-full _ _ _ _ (part .result) _ (c .before .before .before .before .before .before .before .before .before .before .before .before .before .before .before .before .before .before .before .loop .inv) (part .ensures .0) (c .before .before .before .answer .given .1) (part .ensures .1) (omega (arith, c .before .before .before .before .before .before .before .before .before .before .before .before .before .before .before .before .before .before .loop-test .taken))
     (part .kept .1 .1 .0) (part .kept .1 .1 .1 .0) (part .kept .1 .1 .1 .1 .0) (part .kept .1 .1 .1 .1 .1 .0)
+    (ltb-false _ _ (sym (c .before .is-last .ensures) ∙ c .if1 .left))
 
 same-length-5 : tie.Need-same-length-5 Inv-loop μ-loop
 same-length-5 c = c .before .loop .inv .items-long
@@ -96,6 +104,7 @@ read-tokens-spec =
     same-length-3
     same-length-4
     returns
+    is-last-requires
     loop-less
     loop-again
     sub-parts

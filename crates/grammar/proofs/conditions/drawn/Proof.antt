@@ -40,8 +40,8 @@ sub-result c = search needs
 
 returns-5 : tie.Need-returns-5
 returns-5 c =
-    let start = c .before .before .before .before .before .before .before in
-    says-ltb (c .before .second .result) (start .args .n - 2)
+    let given = c .before .before .before .before .before .before .before .args in
+    says-ltb (c .before .second .result) (given .n - 2)
     (λ l. record { no-token = omega arith; no-wrapper = omega arith; first = omega arith; second = inr (omega arith) })
     (λ l d. high-second _ _ _ _ d (omega arith) (omega arith))
 

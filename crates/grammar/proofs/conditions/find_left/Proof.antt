@@ -1,6 +1,6 @@
 -- `grammar::conditions::find_left` meets its contract. The invariant: no rule passed has that left side.
 use borrow.Author.Count.{below-more}
-use Rattle.grammar.specs.Decoded.{leftIn}
+use Rattle.grammar.specs.inner.Decoded.{leftIn}
 use borrow.Author.Needs.{needs}
 use native.Mathlib.Omega.{arith}
 use mathlib.Core.Path.{_≡_, _∙_}

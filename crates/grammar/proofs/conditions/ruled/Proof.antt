@@ -1,7 +1,7 @@
 -- `grammar::conditions::ruled` meets its contract. The invariant: every rule passed is as asked.
 use Rattle.laws.proofs.Decides.{says-yes, says-no}
 use borrow.Author.Tests.{not-true, not-false}
-use Rattle.grammar.specs.Checking.{Ruled}
+use Rattle.grammar.specs.inner.Checking.{Ruled}
 use Rattle.grammar.proofs.Asked.{ruled-none, ruled-more, ruled-last}
 use borrow.Author.Needs.{needs}
 use native.Mathlib.Omega.{arith}
@@ -23,24 +23,24 @@ drawn-requires c κs = search needs
 
 returns : tie.Need-returns Inv-loop μ-loop
 returns c =
-    let at-loop-test = c .before .before in
-    says-no (λ h. c .before .drawn .ensures .if-no (not-true _ (c .if1 .taken)) (h .drawn _ (omega arith) (at-loop-test .loop-test .taken)))
+    let entered = c .before .before .loop-test in
+    says-no (λ h. c .before .drawn .ensures .if-no (not-true _ (c .if1 .taken)) (h .drawn _ (omega arith) (entered .taken)))
 
 adjoins-requires : tie.Need-adjoins-requires Inv-loop μ-loop
 adjoins-requires c κs = search needs
 
 returns-2 : tie.Need-returns-2 Inv-loop μ-loop
 returns-2 c =
-    let at-loop-test = c .before .before .before .before in
-    says-no (λ h. c .before .adjoins .ensures .if-no (not-true _ (c .if2 .taken)) (h .adjoins _ (omega arith) (at-loop-test .loop-test .taken)))
+    let entered = c .before .before .before .before .loop-test in
+    says-no (λ h. c .before .adjoins .ensures .if-no (not-true _ (c .if2 .taken)) (h .adjoins _ (omega arith) (entered .taken)))
 
 precedes-requires : tie.Need-precedes-requires Inv-loop μ-loop
 precedes-requires c κs = search needs
 
 returns-3 : tie.Need-returns-3 Inv-loop μ-loop
 returns-3 c =
-    let at-loop-test = c .before .before .before .before .before .before in
-    says-no (λ h. c .before .precedes .ensures .if-no (not-true _ (c .if3 .taken)) (h .precedes _ (omega arith) (at-loop-test .loop-test .taken)))
+    let entered = c .before .before .before .before .before .before .loop-test in
+    says-no (λ h. c .before .precedes .ensures .if-no (not-true _ (c .if3 .taken)) (h .precedes _ (omega arith) (entered .taken)))
 
 add-r : tie.Need-add-r Inv-loop μ-loop
 add-r c = search needs
@@ -49,13 +49,14 @@ loop-less : tie.Need-loop-less Inv-loop μ-loop
 loop-less c = search needs
 
 loop-again : tie.Need-loop-again Inv-loop μ-loop
-loop-again c = (
-  omega arith,
-  ruled-more _ _ _ _ (c .before .before .before .before .before .before .before .loop .inv .1)
-      (c .before .before .before .before .before .drawn .ensures .if-yes (not-false _ (c .before .before .before .before .if1 .left)))
-      (c .before .before .before .adjoins .ensures .if-yes (not-false _ (c .before .before .if2 .left)))
-      (c .before .precedes .ensures .if-yes (not-false _ (c .if3 .left))),
-)
+loop-again c =
+    let looped = c .before .before .before .before .before .before .before .loop in (
+      omega arith,
+      ruled-more _ _ _ _ (looped .inv .1)
+          (c .before .before .before .before .before .drawn .ensures .if-yes (not-false _ (c .before .before .before .before .if1 .left)))
+          (c .before .before .before .adjoins .ensures .if-yes (not-false _ (c .before .before .if2 .left)))
+          (c .before .precedes .ensures .if-yes (not-false _ (c .if3 .left))),
+    )
 
 returns-4 : tie.Need-returns-4 Inv-loop μ-loop
 returns-4 c = says-yes (ruled-last _ _ _ _ _ (c .before .loop .inv .1) (c .loop-test .left))

@@ -35,8 +35,8 @@ sub-result c = search needs
 
 returns-4 : tie.Need-returns-4
 returns-4 c =
-    let start = c .before .before .before .before .before .before in
-    says-ltb (c .before .first .result) (start .args .n - 2)
+    let given = c .before .before .before .before .before .before .args in
+    says-ltb (c .before .first .result) (given .n - 2)
     (λ l. record { left = omega arith; second = omega arith; no-token = omega arith; no-wrapper = omega arith }) (λ l d. omega arith)
 
 pub wraps-spec : {M : Type 1} → statement M

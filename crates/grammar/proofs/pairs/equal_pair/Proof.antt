@@ -1,7 +1,7 @@
 -- `grammar::pairs::equal_pair` meets its contract. The invariants: no pair of lower rules is equal, and none of the rules passed equals this one.
 use Rattle.grammar.proofs.Asked.{PairsPassed, RowPassed, no-pairs, no-row, row-more, pairs-more, pairs-all}
 use Rattle.laws.proofs.Decides.{says-yes, says-no}
-use Rattle.grammar.specs.Checking.{EqualPair}
+use Rattle.grammar.specs.inner.Checking.{EqualPair}
 use mathlib.Core.Bool.{Bool, false}
 use Rattle.laws.specs.Decides.{Decides}
 use borrow.Author.Needs.{needs}

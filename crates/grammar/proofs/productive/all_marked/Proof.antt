@@ -1,6 +1,6 @@
 -- `grammar::productive::all_marked` meets its contract. The invariant: all symbols passed are marked.
 use borrow.Author.Tests.{not-true, not-false}
-use Rattle.grammar.specs.Checking.{AllMarked}
+use Rattle.grammar.specs.inner.Checking.{AllMarked}
 use Rattle.laws.proofs.Decides.{says-yes, says-no}
 use Rattle.grammar.proofs.Marks.{none-marked, more-marked, last-marked, one-unmarked}
 use borrow.Author.Needs.{needs}

@@ -40,9 +40,9 @@ loop2-less c = search needs
 
 loop2-again : tie.Need-loop2-again Inv-loop2 μ-loop2 Inv-loop μ-loop
 loop2-again c =
-    let at-loop2-test = c .before .before .before in
-    let at-loop2 = c .before .before .before .before in
-    round-passes _ _ _ _ _ _ _ _ (at-loop2 .loop2 .inv) (at-loop2-test .loop2-test .taken)
+    let rules-looped = c .before .before .before .before .loop2 in
+    let rule-entered = c .before .before .before .loop2-test in
+    round-passes _ _ _ _ _ _ _ _ (rules-looped .inv) (rule-entered .taken)
     (c .before .fires .ensures .if-no (not-true _ (c .if1 .taken)))
 
 left-requires : tie.Need-left-requires Inv-loop2 μ-loop2 Inv-loop μ-loop
@@ -50,10 +50,10 @@ left-requires c κs = search needs
 
 array-write-marks : tie.Need-array-write-marks Inv-loop2 μ-loop2 Inv-loop μ-loop
 array-write-marks c =
-    let at-loop2-test = c .before .before .before .before in
-    let at-loop2 = c .before .before .before .before .before in
-    let start = c .before .before .before .before .before .before .before .before in
-    omega (arith, start .pre .3 .left (at-loop2 .loop2 .r) (at-loop2-test .loop2-test .taken))
+    let required = c .before .before .before .before .before .before .before .before .pre in
+    let rules-looped = c .before .before .before .before .before .loop2 in
+    let rule-entered = c .before .before .before .before .loop2-test in
+    omega (arith, required .3 .left (rules-looped .r) (rule-entered .taken))
 
 add-r-2 : tie.Need-add-r-2 Inv-loop2 μ-loop2 Inv-loop μ-loop
 add-r-2 c = search needs
@@ -63,13 +63,13 @@ loop2-less-2 c = search needs
 
 loop2-again-2 : tie.Need-loop2-again-2 Inv-loop2 μ-loop2 Inv-loop μ-loop
 loop2-again-2 c =
-    let at-fires = c .before .before in
-    let at-loop2-test = c .before .before .before .before in
-    let at-loop2 = c .before .before .before .before .before in
-    let start = c .before .before .before .before .before .before .before .before in
-    round-marks _ _ _ _ _ _ _ _ _ (at-loop2 .loop2 .inv) (at-loop2-test .loop2-test .taken)
-    (at-fires .fires .ensures .if-yes (not-false _ (c .before .if1 .left))) (c .left .ensures .0)
-    (omega (arith, start .pre .3 .left (at-loop2 .loop2 .r) (at-loop2-test .loop2-test .taken)))
+    let required = c .before .before .before .before .before .before .before .before .pre in
+    let rules-looped = c .before .before .before .before .before .loop2 in
+    let rule-entered = c .before .before .before .before .loop2-test in
+    let fire-asked = c .before .before .fires in
+    round-marks _ _ _ _ _ _ _ _ _ (rules-looped .inv) (rule-entered .taken)
+    (fire-asked .ensures .if-yes (not-false _ (c .before .if1 .left))) (c .left .ensures .0)
+    (omega (arith, required .3 .left (rules-looped .r) (rule-entered .taken)))
 
 loop-less : tie.Need-loop-less Inv-loop2 μ-loop2 Inv-loop μ-loop
 loop-less c = c .before .before .loop2 .inv .less (not-false _ (c .if2 .left))
@@ -85,11 +85,11 @@ all-marked-requires c κs = search needs
 
 returns : tie.Need-returns Inv-loop2 μ-loop2 Inv-loop μ-loop
 returns c =
-    let at-if2 = c .before .before in
-    let at-loop2 = c .before .before .before .before in
-    let start = c .before .before .before .before .before .before .before in
-    decided _ _ _ _ _ _ (start .pre .0) (at-loop2 .loop2 .inv .right)
-    (λ q l. at-loop2 .loop2 .inv .quiet (not-true _ (at-if2 .if2 .taken)) q (omega arith)) (c .all-marked .ensures)
+    let required = c .before .before .before .before .before .before .before .pre in
+    let rules-looped = c .before .before .before .before .loop2 in
+    let mark-tested = c .before .before .if2 in
+    decided _ _ _ _ _ _ (required .0) (rules-looped .inv .right)
+    (λ q l. rules-looped .inv .quiet (not-true _ (mark-tested .taken)) q (omega arith)) (c .all-marked .ensures)
 
 pub all-productive-spec : {M : Type 1} → statement M
 all-productive-spec =

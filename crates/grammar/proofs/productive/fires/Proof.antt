@@ -30,27 +30,27 @@ second-requires c κs = search needs
 
 returns-3 : tie.Need-returns-3
 returns-3 c =
-    let at-if2 = c .before .before in
-    let at-first = c .before .before .before .before in
-    let at-if1 = c .before .before .before .before .before in
-    let at-left = c .before .before .before .before .before .before .before in
+    let left-read = c .before .before .before .before .before .before .before .left in
+    let left-tested = c .before .before .before .before .before .if1 in
+    let first-read = c .before .before .before .before .first in
+    let first-tested = c .before .before .if2 in
     says-yes
-    (fires-one _ _ _ _ _ _ (at-left .left .ensures .0) (at-first .first .ensures .0) (c .before .second .ensures .0) (at-if1 .if1 .left) (not-false _ (at-if2 .if2 .left)) (c .if3 .taken))
+    (fires-one _ _ _ _ _ _ (left-read .ensures .0) (first-read .ensures .0) (c .before .second .ensures .0) (left-tested .left) (not-false _ (first-tested .left)) (c .if3 .taken))
 
 element-copy-out-result : tie.Need-element-copy-out-result
 element-copy-out-result c =
-    let start = c .before .before .before .before .before .before .before .before in
-    low-second _ _ _ (start .pre .1) (c .before .second .ensures .0) (c .if3 .left)
+    let required = c .before .before .before .before .before .before .before .before .pre in
+    low-second _ _ _ (required .1) (c .before .second .ensures .0) (c .if3 .left)
 
 returns-4 : tie.Need-returns-4
 returns-4 c =
-    let at-second = c .before .before in
-    let at-if2 = c .before .before .before in
-    let at-first = c .before .before .before .before .before in
-    let at-if1 = c .before .before .before .before .before .before in
-    let at-left = c .before .before .before .before .before .before .before .before in
-    fires-two _ _ _ _ _ _ (at-left .left .ensures .0) (at-first .first .ensures .0) (at-second .second .ensures .0) (at-if1 .if1 .left)
-    (not-false _ (at-if2 .if2 .left)) (c .before .if3 .left)
+    let left-read = c .before .before .before .before .before .before .before .before .left in
+    let left-tested = c .before .before .before .before .before .before .if1 in
+    let first-read = c .before .before .before .before .before .first in
+    let first-tested = c .before .before .before .if2 in
+    let second-read = c .before .before .second in
+    fires-two _ _ _ _ _ _ (left-read .ensures .0) (first-read .ensures .0) (second-read .ensures .0) (left-tested .left)
+    (not-false _ (first-tested .left)) (c .before .if3 .left)
 
 pub fires-spec : {M : Type 1} → statement M
 fires-spec =

@@ -1,5 +1,5 @@
 -- `grammar::productive::mark_tokens` meets its contract. The invariant: the tokens passed are marked, and nothing else.
-use Rattle.grammar.specs.Checking.{TokensMarked}
+use Rattle.grammar.specs.inner.Checking.{TokensMarked}
 use Rattle.grammar.proofs.Marks.{no-tokens, more-tokens, last-token}
 use borrow.Author.Needs.{needs}
 use native.Mathlib.Omega.{arith}

@@ -1,13 +1,7 @@
 -- `first_word` meets its contract: the part ends where the items do.
 use native.Mathlib.Omega.{arith}
 use borrow.Author.Tests.{eq-eqb, ne-eqb}
-use Rattle.host.specs.Reports.{firstWord}
-use borrow.Author.Tests.{eq-eqb, ne-eqb}
-use Rattle.host.specs.Reports.{firstWord}
-use borrow.Author.Tests.{eq-eqb, ne-eqb}
-use Rattle.host.specs.Reports.{firstWord}
-use borrow.Author.Tests.{eq-eqb, ne-eqb}
-use Rattle.host.specs.Reports.{firstWord}
+use Rattle.host.specs.inner.Parts.{firstWord}
 use Rattle.host.proofs.parse_words.first_word.Statement.{statement}
 use Rattle.host.proofs.parse_words.first_word.Tie as tie
 

@@ -24,19 +24,21 @@ room-requires c κs = search needs
 
 put-units-requires : tie.Need-put-units-requires
 put-units-requires c κs =
-    let a = c .before .before .before .before .before .before .args in
-    let w = c .before .before .before .before .width .result in
-    let fits : a .p + w ≤ min usableUnits (length (a .store .now)) =
-    leb-true (a .p + w) (min usableUnits (length (a .store .now))) (sym (c .before .before .room .ensures)
+    let given = c .before .before .before .before .before .before .args in
+    let measured = c .before .before .before .before .width in
+    let w = measured .result in
+    let fits : given .p + w ≤ min usableUnits (length (given .store .now)) =
+    leb-true (given .p + w) (min usableUnits (length (given .store .now))) (sym (c .before .before .room .ensures)
     ∙ c .before .if2 .taken) in
-    omega (arith, fits, c .before .before .before .before .width .ensures)
+    omega (arith, fits, measured .ensures)
 
 add-behind : tie.Need-add-behind
 add-behind c =
-    let a = c .before .before .before .before .before .before .before .before .before .args in
-    let w = c .before .before .before .before .before .before .before .width .result in
-    let fits : a .p + w ≤ min usableUnits (length (a .store .now)) =
-    leb-true (a .p + w) (min usableUnits (length (a .store .now))) (sym (c .before .before .before .before .before .room .ensures)
+    let given = c .before .before .before .before .before .before .before .before .before .args in
+    let measured = c .before .before .before .before .before .before .before .width in
+    let w = measured .result in
+    let fits : given .p + w ≤ min usableUnits (length (given .store .now)) =
+    leb-true (given .p + w) (min usableUnits (length (given .store .now))) (sym (c .before .before .before .before .before .room .ensures)
     ∙ c .before .before .before .before .if2 .taken) in
     omega (arith, fits)
 
@@ -45,20 +47,23 @@ same-length c = search needs
 
 returns-2 : tie.Need-returns-2
 returns-2 c =
-    let a = c .before .before .before .before .before .before .before .before .before .args in
-    let w = c .before .before .before .before .before .before .before .width .result in
-    let fits : a .p + w ≤ min usableUnits (length (a .store .now)) =
-    leb-true (a .p + w) (min usableUnits (length (a .store .now))) (sym (c .before .before .before .before .before .room .ensures)
+    let given = c .before .before .before .before .before .before .before .before .before .args in
+    let measured = c .before .before .before .before .before .before .before .width in
+    let width-tested = c .before .before .before .before .before .before .if1 in
+    let w = measured .result in
+    let fits : given .p + w ≤ min usableUnits (length (given .store .now)) =
+    leb-true (given .p + w) (min usableUnits (length (given .store .now))) (sym (c .before .before .before .before .before .room .ensures)
     ∙ c .before .before .before .before .if2 .taken) in
-    wrote (a .store .now) (a .p) (listOf (a .units)) w _ (c .before .before .before .before .before .before .if1 .left)
-    (c .before .before .before .before .before .before .before .width .ensures) fits (c .before .before .put-units .ensures)
+    wrote (given .store .now) (given .p) (listOf (given .units)) w _ (width-tested .left)
+    (measured .ensures) fits (c .before .before .put-units .ensures)
 
 returns-3 : tie.Need-returns-3
 returns-3 c =
-    let a = c .before .before .before .before .before .args in
-    let w = c .before .before .before .width .result in
-    not-wrote (a .store .now) (a .p) (listOf (a .units)) w (c .before .before .if1 .left) (c .before .before .before .width .ensures)
-    (leb-false (a .p + w) (min usableUnits (length (a .store .now))) (sym (c .before .room .ensures) ∙ c .if2 .left))
+    let given = c .before .before .before .before .before .args in
+    let measured = c .before .before .before .width in
+    let w = measured .result in
+    not-wrote (given .store .now) (given .p) (listOf (given .units)) w (c .before .before .if1 .left) (measured .ensures)
+    (leb-false (given .p + w) (min usableUnits (length (given .store .now))) (sym (c .before .room .ensures) ∙ c .if2 .left))
 
 pub place-units-spec : {M : Type 1} → statement M
 place-units-spec =

@@ -34,27 +34,32 @@ width-requires c κs = search needs
 
 add-behind : tie.Need-add-behind
 add-behind c =
+    let required = c .before .before .before .before .before .before .before .before .before .pre in
     omega (
       arith,
       c .width .ensures,
       few (c .before .before .before .units-of .result),
-      c .before .before .before .before .before .before .before .before .before .pre,
+      required,
     )
 
 returns-2 : tie.Need-returns-2
 unfolding readHere
 returns-2 c =
-    sym (ap (takeNode _ _) (sym (c .before .before .before .before .before .before .before .spelt .ensures)
-    ∙ c .before .before .before .before .before .node .given .1)
+    let given = c .before .before .before .before .before .before .before .before .before .args in
+    let spelling-read = c .before .before .before .before .before .before .before .spelt in
+    let node-told = c .before .before .before .before .before .node in
+    sym (ap (takeNode _ _) (sym (spelling-read .ensures)
+    ∙ node-told .given .1)
     ∙ take-like _ _ _ _ (c .before .before .before .units-of .ensures) (sym (c .before .before .stand .ensures)
     ∙ c .before .if1 .taken)
-    ∙ ap (λ w. answer done (node (c .before .before .before .before .before .node .given .0 .0)
-    (c .before .before .before .before .before .before .before .before .before .args .q + w))) (sym (c .width .ensures)))
+    ∙ ap (λ w. answer done (node (node-told .given .0 .0)
+    (given .q + w))) (sym (c .width .ensures)))
 
 returns-3 : tie.Need-returns-3
 unfolding readHere
 returns-3 c =
-    sym (ap (takeNode _ _) (sym (c .before .before .before .before .before .before .spelt .ensures)
+    let spelling-read = c .before .before .before .before .before .before .spelt in
+    sym (ap (takeNode _ _) (sym (spelling-read .ensures)
     ∙ c .before .before .before .before .node .given .1)
     ∙ take-none _ _ _ _ (c .before .before .units-of .ensures) (sym (c .before .stand .ensures) ∙ c .if1 .left))
 

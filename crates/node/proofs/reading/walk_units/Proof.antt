@@ -35,12 +35,14 @@ enum-known-behind c = search needs
 
 -- In a turn that goes on, a node was read, and the position behind it is onward and within the store.
 node-read : (c : tie.After-known-told Inv-loop μ-loop)
-    → readUnits (c .before .before .before .before .before .before .args .s .now) (c .before .before .before .before .loop .at)
+    → let given = c .before .before .before .before .before .before .args in
+    readUnits (given .s .now) (c .before .before .before .before .loop .at)
     ≡ answer done (node (c .before .behind .given .0 .0) (c .before .behind .given .0 .1 .0))
 node-read c = sym (c .before .before .before .read-units .ensures) ∙ ap found (c .before .behind .given .1)
 
 onward : (c : tie.After-known-told Inv-loop μ-loop)
-    → Onward (c .before .before .before .before .before .before .args .s .now) (c .before .before .before .before .loop .at)
+    → let given = c .before .before .before .before .before .before .args in
+    Onward (given .s .now) (c .before .before .before .before .loop .at)
     (c .before .behind .given .0 .1 .0)
 onward c = read-onward _ _ _ _ (node-read c)
 
@@ -51,28 +53,32 @@ loop-less : tie.Need-loop-less Inv-loop μ-loop
 loop-less c = omega (arith, onward c)
 
 loop-again : tie.Need-loop-again Inv-loop μ-loop
-loop-again c = record {
-  left = sym (walk-node _ _ _ _ _ (node-read c)) ∙ c .before .before .before .before .loop .inv .left;
-  counted = omega (arith, onward c, c .before .before .before .before .loop .inv .counted);
-}
+loop-again c =
+    let looped = c .before .before .before .before .loop in
+    record {
+      left = sym (walk-node _ _ _ _ _ (node-read c)) ∙ looped .inv .left;
+      counted = omega (arith, onward c, looped .inv .counted);
+    }
 
 enum-told : tie.Need-enum-told Inv-loop μ-loop
 enum-told c = search needs
 
 returns : tie.Need-returns Inv-loop μ-loop
 returns c =
+    let looped = c .before .before .before .loop in
     let is = sym (c .before .before .read-units .ensures) ∙ ap found (c .enum-told .given .1) in
-    sym (walk-end _ (c .before .before .before .loop .at) (c .before .before .before .loop .count) is)
-    ∙ c .before .before .before .loop .inv .left
+    sym (walk-end _ (looped .at) (looped .count) is)
+    ∙ looped .inv .left
 
 enum-told-2 : tie.Need-enum-told-2 Inv-loop μ-loop
 enum-told-2 c = search needs
 
 returns-2 : tie.Need-returns-2 Inv-loop μ-loop
 returns-2 c =
+    let looped = c .before .before .before .loop in
     let is = sym (c .before .before .read-units .ensures) ∙ ap found (c .enum-told2 .given .1) in
-    sym (walk-fault _ (c .before .before .before .loop .at) (c .before .before .before .loop .count) is)
-    ∙ c .before .before .before .loop .inv .left
+    sym (walk-fault _ (looped .at) (looped .count) is)
+    ∙ looped .inv .left
 
 pub walk-units-spec : {M : Type 1} → statement M
 walk-units-spec =

@@ -72,11 +72,12 @@ paired-requires c κs = search needs
 returns-4 : tie.Need-returns-4
 unfolding nearSpelt
 returns-4 c =
+    let row-tested = c .before .before .before .before .before .before .if1 in
     c .paired .ensures ∙ simp (
       c .before .factor4 .ensures,
       c .before .before .factor3 .ensures,
       c .before .before .before .before .unit .ensures .0,
-      le-ltb _ _ (c .before .before .before .before .before .before .if1 .left),
+      le-ltb _ _ (row-tested .left),
       le-ltb _ _ (c .before .before .before .before .before .if2 .left),
       le-ltb _ _ (c .before .before .before .if3 .left),
     )

@@ -3,7 +3,7 @@ use Prim.Native.Nat.{_-_, _≤_}
 use native.Mathlib.Omega.{arith}
 use borrow.Author.Needs.{needs}
 use Rattle.bits.specs.Width.{rowWords}
-use Rattle.parse.proofs.Telling.{holds, part-fails, passes}
+use Rattle.laws.proofs.Decides.{says-yes, part-fails, passes}
 use Rattle.parse.proofs.Below.{WordIn, words-below, below-words}
 use Rattle.parse.proofs.Passing.{Passed, none-passed, one-passed}
 use Rattle.parse.proofs.rows.row_below.Statement.{statement}
@@ -35,9 +35,9 @@ word-below-requires c κs = search needs
 
 returns : tie.Need-returns Inv-loop μ-loop
 returns c =
-    let args = c .before .before .before .before .before .before .args in
+    let given = c .before .before .before .before .before .before .args in
     part-fails (c .before .word-below .ensures) (c .if1 .taken)
-    (λ h. below-words rowWords (args .symbols) (args .rows .now) (args .k) h _ (c .before .before .before .loop-test .taken))
+    (λ h. below-words rowWords (given .symbols) (given .rows .now) (given .k) h _ (c .before .before .before .loop-test .taken))
 
 add-i : tie.Need-add-i Inv-loop μ-loop
 add-i c = search needs
@@ -50,8 +50,8 @@ loop-again c = (one-passed _ 0 _ (c .before .before .before .before .loop .inv .
 
 returns-2 : tie.Need-returns-2 Inv-loop μ-loop
 returns-2 c =
-    let args = c .before .before .before .args in
-    holds (words-below rowWords (args .symbols) (args .rows .now) (args .k) (λ i l. c .before .loop .inv .0 .each i (omega arith) (omega arith)))
+    let given = c .before .before .before .args in
+    says-yes (words-below rowWords (given .symbols) (given .rows .now) (given .k) (λ i l. c .before .loop .inv .0 .each i (omega arith) (omega arith)))
 
 pub row-below-spec : {M : Type 1} → statement M
 row-below-spec =

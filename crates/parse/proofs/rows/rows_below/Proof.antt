@@ -4,8 +4,8 @@ use native.Mathlib.Omega.{arith}
 use borrow.Author.Needs.{needs}
 use Rattle.laws.specs.Bits.{Below, rowOf}
 use Rattle.bits.specs.Width.{rowWords}
-use Rattle.parse.specs.Parts.{RowsBelow}
-use Rattle.parse.proofs.Telling.{holds, part-fails, passes}
+use Rattle.parse.specs.inner.Parts.{RowsBelow}
+use Rattle.laws.proofs.Decides.{says-yes, part-fails, passes}
 use Rattle.parse.proofs.Passing.{Passed, none-passed, one-passed}
 use Rattle.parse.proofs.rows.rows_below.Statement.{statement}
 use Rattle.parse.proofs.rows.rows_below.Tie as tie
@@ -38,7 +38,7 @@ loop-again : tie.Need-loop-again Inv-loop μ-loop
 loop-again c = (one-passed _ 0 _ (c .before .before .before .loop .inv .0) (passes (c .before .row-below .ensures) (c .if1 .left)), search needs)
 
 returns-2 : tie.Need-returns-2 Inv-loop μ-loop
-returns-2 c = holds (record { each = λ k l. c .before .loop .inv .0 .each k (omega arith) (omega arith) })
+returns-2 c = says-yes (record { each = λ k l. c .before .loop .inv .0 .each k (omega arith) (omega arith) })
 
 pub rows-below-spec : {M : Type 1} → statement M
 rows-below-spec =

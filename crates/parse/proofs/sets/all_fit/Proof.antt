@@ -2,11 +2,11 @@
 use Prim.Native.Nat.{ℕ, _-_}
 use native.Mathlib.Omega.{arith}
 use borrow.Author.Needs.{needs}
-use Rattle.grammar.specs.Decoded.{rulesIn}
+use Rattle.grammar.specs.inner.Decoded.{rulesIn}
 use Rattle.item.specs.Item.{itemAt}
-use Rattle.parse.specs.Parts.{AllFit}
+use Rattle.parse.specs.inner.Parts.{AllFit}
 use Rattle.parse.specs.WellFormed.{Fits}
-use Rattle.parse.proofs.Telling.{holds, part-fails, passes}
+use Rattle.laws.proofs.Decides.{says-yes, part-fails, passes}
 use Rattle.parse.proofs.Passing.{Passed, none-passed, one-passed}
 use Rattle.parse.proofs.sets.all_fit.Statement.{statement}
 use Rattle.parse.proofs.sets.all_fit.Tie as tie
@@ -36,7 +36,7 @@ loop-again : tie.Need-loop-again Inv-loop μ-loop
 loop-again c = one-passed _ _ _ (c .before .before .before .loop .inv) (passes (c .before .item-fits .ensures) (c .if1 .left))
 
 returns-2 : tie.Need-returns-2 Inv-loop μ-loop
-returns-2 c = holds (record { each = λ p a b. c .before .loop .inv .each p a (omega arith) })
+returns-2 c = says-yes (record { each = λ p a b. c .before .loop .inv .each p a (omega arith) })
 
 pub all-fit-spec : {M : Type 1} → statement M
 all-fit-spec =

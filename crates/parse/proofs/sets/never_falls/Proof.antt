@@ -2,8 +2,8 @@
 use Prim.Native.Nat.{_+_, _-_, _≤_}
 use native.Mathlib.Omega.{arith}
 use borrow.Author.Needs.{needs}
-use Rattle.parse.specs.Parts.{NeverFalls}
-use Rattle.parse.proofs.Telling.{holds, fails}
+use Rattle.parse.specs.inner.Parts.{NeverFalls}
+use Rattle.laws.proofs.Decides.{says-yes, says-no}
 use Rattle.parse.proofs.Fitting.{Up}
 use Rattle.parse.proofs.Passing.{Passed, none-passed, one-passed}
 use Rattle.parse.proofs.sets.never_falls.Statement.{statement}
@@ -37,7 +37,7 @@ shared-slice-read-if1-2 : tie.Need-shared-slice-read-if1-2 Inv-loop μ-loop
 shared-slice-read-if1-2 c = search needs
 
 returns : tie.Need-returns Inv-loop μ-loop
-returns c = fails (λ (h : NeverFalls _ _). omega (arith, h .each (c .before .before .before .before .loop .k) (omega arith)))
+returns c = says-no (λ (h : NeverFalls _ _). omega (arith, h .each (c .before .before .before .before .loop .k) (omega arith)))
 
 add-k : tie.Need-add-k Inv-loop μ-loop
 add-k c = search needs
@@ -49,7 +49,7 @@ loop-again : tie.Need-loop-again Inv-loop μ-loop
 loop-again c = (one-passed _ 0 _ (c .before .before .before .before .loop .inv .0) (c .if1 .left), search needs)
 
 returns-2 : tie.Need-returns-2 Inv-loop μ-loop
-returns-2 c = holds (record { each = λ k l. c .before .loop .inv .0 .each k (omega arith) (omega arith) })
+returns-2 c = says-yes (record { each = λ k l. c .before .loop .inv .0 .each k (omega arith) (omega arith) })
 
 pub never-falls-spec : {M : Type 1} → statement M
 never-falls-spec =

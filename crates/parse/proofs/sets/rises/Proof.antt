@@ -2,8 +2,8 @@
 use Prim.Native.Nat.{_-_, _≤_}
 use native.Mathlib.Omega.{arith}
 use borrow.Author.Needs.{needs}
-use Rattle.parse.specs.Parts.{Rises}
-use Rattle.parse.proofs.Telling.{holds, part-fails, passes, lower}
+use Rattle.parse.specs.inner.Parts.{Rises}
+use Rattle.laws.proofs.Decides.{says-yes, part-fails, passes, says-lower}
 use Rattle.parse.proofs.Fitting.{Before}
 use Rattle.parse.proofs.Passing.{Passed, none-passed, one-passed}
 use Rattle.parse.proofs.sets.rises.Statement.{statement}
@@ -31,7 +31,7 @@ returns : tie.Need-returns Inv-loop μ-loop
 returns c =
     λ count am.
     let next = c .before .precedes .ensures count (am .each _ (omega arith) (omega arith)) (am .each _ (omega arith) (omega arith)) in
-    part-fails (lower _ _ next) (c .if1 .taken) (λ (h : Rises _ _ _ _). h .each _ (c .before .before .before .loop .inv .0 .low) (c .before .before .loop-test .taken))
+    part-fails (says-lower _ _ next) (c .if1 .taken) (λ (h : Rises _ _ _ _). h .each _ (c .before .before .before .loop .inv .0 .low) (c .before .before .loop-test .taken))
 
 add-p : tie.Need-add-p Inv-loop μ-loop
 add-p c = search needs
@@ -42,12 +42,12 @@ loop-less c = search needs
 loop-again : tie.Need-loop-again Inv-loop μ-loop
 loop-again c = (
   one-passed _ _ _ (c .before .before .before .loop .inv .0)
-      (λ count am. passes (lower _ _ (c .before .precedes .ensures count (am .each _ (omega arith) (omega arith)) (am .each _ (omega arith) (omega arith)))) (c .if1 .left)),
+      (λ count am. passes (says-lower _ _ (c .before .precedes .ensures count (am .each _ (omega arith) (omega arith)) (am .each _ (omega arith) (omega arith)))) (c .if1 .left)),
   search needs,
 )
 
 returns-2 : tie.Need-returns-2 Inv-loop μ-loop
-returns-2 c = λ count am. holds (record { each = λ p a b. c .before .loop .inv .0 .each p a (omega arith) count am })
+returns-2 c = λ count am. says-yes (record { each = λ p a b. c .before .loop .inv .0 .each p a (omega arith) count am })
 
 pub rises-spec : {M : Type 1} → statement M
 rises-spec =

@@ -1,9 +1,9 @@
 -- `sets::set_fits` meets its contract: the items fit, and then rise.
 use borrow.Author.Needs.{needs}
-use Rattle.grammar.specs.Decoded.{rulesIn}
-use Rattle.parse.specs.Parts.{AllFit, SetFits}
+use Rattle.grammar.specs.inner.Decoded.{rulesIn}
+use Rattle.parse.specs.inner.Parts.{AllFit, SetFits}
 use Rattle.parse.proofs.Fitting.{fit-among, among-more}
-use Rattle.parse.proofs.Telling.{part-fails, passes, same}
+use Rattle.laws.proofs.Decides.{part-fails, passes, decides-map}
 use Rattle.parse.proofs.sets.set_fits.Statement.{statement}
 use Rattle.parse.proofs.sets.set_fits.Tie as tie
 
@@ -27,9 +27,8 @@ rises-requires c κs =
 returns-2 : tie.Need-returns-2
 returns-2 c =
     let count = c .before .before .before .before .args .count in
-    same (c .rises .ensures count (fit-among _ _ count _ _ _ (fit (c .before))))
-    (λ rise. record { fit = fit (c .before); rise = rise })
-    (λ (h : SetFits _ _ _ _ _). h .rise)
+    decides-map (λ rise. record { fit = fit (c .before); rise = rise }) (λ (h : SetFits _ _ _ _ _). h .rise)
+    (c .rises .ensures count (fit-among _ _ count _ _ _ (fit (c .before))))
 
 pub set-fits-spec : {M : Type 1} → statement M
 set-fits-spec = tie.close (tie.spec all-fit-requires returns rises-requires returns-2)

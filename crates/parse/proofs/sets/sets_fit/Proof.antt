@@ -3,11 +3,11 @@ use Prim.Native.Nat.{ℕ, _+_, _-_, _≤_}
 use native.Mathlib.Omega.{arith}
 use lib.ListN.{getD}
 use borrow.Author.Needs.{needs}
-use Rattle.grammar.specs.Decoded.{rulesIn}
-use Rattle.parse.specs.Tells.{Tells}
-use Rattle.parse.specs.Parts.{SetFits, SetsFit}
+use Rattle.grammar.specs.inner.Decoded.{rulesIn}
+use Rattle.laws.specs.Decides.{Decides}
+use Rattle.parse.specs.inner.Parts.{SetFits, SetsFit}
 use Rattle.parse.proofs.Fitting.{rising}
-use Rattle.parse.proofs.Telling.{holds, part-fails, passes, moved}
+use Rattle.laws.proofs.Decides.{says-yes, part-fails, passes, decides-of}
 use Rattle.parse.proofs.Passing.{Passed, none-passed, one-passed}
 use Rattle.parse.proofs.sets.sets_fit.Statement.{statement}
 use Rattle.parse.proofs.sets.sets_fit.Tie as tie
@@ -47,21 +47,23 @@ wide-requires-2 c κs = search needs
 
 set-fits-requires : tie.Need-set-fits-requires Inv-loop μ-loop
 set-fits-requires c κs =
-    let start = c .before .before .before .before .before .before .before .before in
+    let given = c .before .before .before .before .before .before .before .before .args in
+    let required = c .before .before .before .before .before .before .before .before .pre in
     let k = c .before .before .before .before .before .loop .k in
-    let starts = start .args .starts .now in
+    let starts = given .starts .now in
     let from = c .before .before .wide .ensures in
     let to = c .wide2 .ensures in
-    let up = start .pre .1 .1 .each k (omega arith) in
-    let last = rising starts (start .args .e) (start .pre .1 .1) (start .args .e + 1) (k + 1) (omega arith) (omega arith) in
-    ((start .pre .0 .0, omega (arith, from, to, up)), omega (arith, to, last, start .pre .1 .0))
+    let up = required .1 .1 .each k (omega arith) in
+    let last = rising starts (given .e) (required .1 .1) (given .e + 1) (k + 1) (omega arith) (omega arith) in
+    ((required .0 .0, omega (arith, from, to, up)), omega (arith, to, last, required .1 .0))
 
 -- What `set_fits` tells of the set between two starts.
 told : (c : tie.After-set-fits Inv-loop μ-loop)
-    → let args = c .before .before .before .before .before .before .before .before .before .args in
-    let k = c .before .before .before .before .before .before .loop .k in
-    Tells (c .set-fits .result) (SetFits (rulesIn (args .rules .now) (args .count)) (args .items .now) k (getD (args .starts .now) k 0) (getD (args .starts .now) (k + 1) 0))
-told c = moved (SetFits _ _ _) (c .before .before .before .wide .ensures) (c .before .wide2 .ensures) (c .set-fits .ensures)
+    → let given = c .before .before .before .before .before .before .before .before .before .args in
+    let looped = c .before .before .before .before .before .before .loop in
+    Decides (c .set-fits .result) (SetFits (rulesIn (given .rules .now) (given .count)) (given .items .now) (looped .k) (getD (given .starts .now) (looped .k) 0)
+    (getD (given .starts .now) (looped .k + 1) 0))
+told c = decides-of (SetFits _ _ _) (c .before .before .before .wide .ensures) (c .before .wide2 .ensures) (c .set-fits .ensures)
 
 returns : tie.Need-returns Inv-loop μ-loop
 returns c = part-fails (told (c .before)) (c .if1 .taken) (λ (h : SetsFit _ _ _ _). h .each _ (omega arith))
@@ -73,10 +75,12 @@ loop-less : tie.Need-loop-less Inv-loop μ-loop
 loop-less c = search needs
 
 loop-again : tie.Need-loop-again Inv-loop μ-loop
-loop-again c = (one-passed _ 0 _ (c .before .before .before .before .before .before .before .loop .inv .0) (passes (told (c .before)) (c .if1 .left)), search needs)
+loop-again c =
+    let looped = c .before .before .before .before .before .before .before .loop in
+    (one-passed _ 0 _ (looped .inv .0) (passes (told (c .before)) (c .if1 .left)), search needs)
 
 returns-2 : tie.Need-returns-2 Inv-loop μ-loop
-returns-2 c = holds (record { each = λ k l. c .before .loop .inv .0 .each k (omega arith) (omega arith) })
+returns-2 c = says-yes (record { each = λ k l. c .before .loop .inv .0 .each k (omega arith) (omega arith) })
 
 pub sets-fit-spec : {M : Type 1} → statement M
 sets-fit-spec =

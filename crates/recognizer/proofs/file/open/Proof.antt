@@ -4,7 +4,7 @@ use native.Mathlib.Omega.{arith}
 use borrow.Author.Needs.{needs}
 use Rattle.grammar.proofs.Verdicts.{AcceptedFile, accepted-file}
 use Rattle.grammar.specs.Answers.{numberOf}
-use Rattle.recognizer.specs.Calls.{FileFault}
+use Rattle.demands.specs.Calls.{FileFault}
 use Rattle.recognizer.proofs.file.open.Statement.{statement}
 use Rattle.recognizer.proofs.file.open.Tie as tie
 
@@ -43,14 +43,17 @@ returns-2 c =
 
 returns-3 : tie.Need-returns-3
 returns-3 c =
-    let a : AcceptedFile (c .before .before .before .before .before .before .before .before .args .file .now) = accepted-file _ _ (c .before .before .before .before .before .read .ensures .0) (c .before .before .before .enum-told3 .given .1) in
+    let given = c .before .before .before .before .before .before .before .before .args in
+    let file-read = c .before .before .before .before .before .read in
+    let verdict-told = c .before .before .before .enum-told3 in
+    let a : AcceptedFile (given .file .now) = accepted-file _ _ (file-read .ensures .0) (verdict-told .given .1) in
     record {
       whole = a .formed;
       accepted = a .accepted;
       symbols = c .before .before .symbols .ensures .0;
       tokens = c .before .tokens .ensures .0;
       rules = c .rule-count .ensures .0;
-      decoded = c .before .before .before .before .before .read .ensures .1 .accepted (ap numberOf (c .before .before .before .enum-told3 .given .1)) .rules;
+      decoded = file-read .ensures .1 .accepted (ap numberOf (verdict-told .given .1)) .rules;
     }
 
 pub open-spec : {M : Type 1} → statement M

@@ -1,8 +1,8 @@
 use Rattle.recognizer.proofs.OneToken.{first-asks, sums-ask}
-use Rattle.recognizer.specs.Steppable.{wordsOf}
-use Rattle.grammar.specs.Decoded.{rulesIn}
+use Rattle.parse.specs.Words.{wordsOf}
+use Rattle.grammar.specs.inner.Decoded.{rulesIn}
 use Rattle.completion.specs.Sums.{completeAllSums}
-use Rattle.completion.specs.Pending.{Pending}
+use Rattle.completion.specs.inner.Pending.{Pending}
 use Rattle.completion.specs.Pass.{Pass}
 use Prim.Native.Nat.{_-_}
 use mathlib.Core.Path.{sym, ap, _∙_, subst}
@@ -13,17 +13,20 @@ use Rattle.recognizer.proofs.step.complete_token.Tie as tie
 -- src/step.rt:43:9
 complete-requires : tie.Need-complete-requires
 complete-requires c κs =
-    let a = c .before .before .before .before .before .before .args in
-    let v = wordsOf (a .items .now) (a .starts .now) (a .rows .now) (a .queue .now) in
-    first-asks (a .rules .now) (a .sizes) (a .table .now) (a .state) v (c .before .before .before .before .before .before .pre .0) (a .t) (c .before .before .before .before .before .before .pre .1)
+    let given = c .before .before .before .before .before .before .args in
+    let required = c .before .before .before .before .before .before .pre in
+    let v = wordsOf (given .items .now) (given .starts .now) (given .rows .now) (given .queue .now) in
+    first-asks (given .rules .now) (given .sizes) (given .table .now) (given .state) v (required .0) (given .t) (required .1)
 
 -- src/step.rt:54:5
 complete-all-sums-entirely-requires : tie.Need-complete-all-sums-entirely-requires
 complete-all-sums-entirely-requires c κs =
-    let a = c .before .before .before .before .before .before .before .before .before .before .before .before .before .args in
-    let v = wordsOf (a .items .now) (a .starts .now) (a .rows .now) (a .queue .now) in
-    let asked = sums-ask (a .rules .now) (a .sizes) (a .table .now) (a .state) v (c .before .before .before .before .before .before .before .before .before .before .before .before .before .pre .0) (a .t) in
-    (asked .0, subst (Pending (rulesIn (a .rules .now) (a .sizes .rules)) (a .starts .now)) (sym (c .before .before .before .before .before .before .complete .ensures)) (asked .1))
+    let given = c .before .before .before .before .before .before .before .before .before .before .before .before .before .args in
+    let required = c .before .before .before .before .before .before .before .before .before .before .before .before .before .pre in
+    let scanned = c .before .before .before .before .before .before .complete in
+    let v = wordsOf (given .items .now) (given .starts .now) (given .rows .now) (given .queue .now) in
+    let asked = sums-ask (given .rules .now) (given .sizes) (given .table .now) (given .state) v (required .0) (given .t) in
+    (asked .0, subst (Pending (rulesIn (given .rules .now) (given .sizes .rules)) (given .starts .now)) (sym (scanned .ensures)) (asked .1))
 
 -- src/step.rt:23:1
 same-length : tie.Need-same-length
@@ -36,9 +39,11 @@ same-length-2 c = search needs
 -- src/step.rt:23:1
 returns : tie.Need-returns
 returns c =
-    let a = c .before .before .before .before .before .before .before .before .before .before .before .before .before .before .before .before .before .before .args in
-    let v = wordsOf (a .items .now) (a .starts .now) (a .rows .now) (a .queue .now) in
-    c .before .before .before .before .complete-all-sums-entirely .ensures ∙ ap (λ (u : Pass). completeAllSums (rulesIn (a .rules .now) (a .sizes .rules)) (a .starts .now) (a .rows .now) u) (c .before .before .before .before .before .before .before .before .before .before .before .complete .ensures)
+    let given = c .before .before .before .before .before .before .before .before .before .before .before .before .before .before .before .before .before .before .args in
+    let scanned = c .before .before .before .before .before .before .before .before .before .before .before .complete in
+    let v = wordsOf (given .items .now) (given .starts .now) (given .rows .now) (given .queue .now) in
+    c .before .before .before .before .complete-all-sums-entirely .ensures ∙ ap
+    (λ (u : Pass). completeAllSums (rulesIn (given .rules .now) (given .sizes .rules)) (given .starts .now) (given .rows .now) u) (scanned .ensures)
 
 pub complete-token-spec : {M : Type 1} → statement M
 complete-token-spec =

@@ -7,18 +7,20 @@ use Rattle.recognizer.proofs.step.give_up.Statement.{statement}
 use Rattle.recognizer.proofs.step.give_up.Tie as tie
 
 -- src/step.rt:64:40
-mul-clear-words : tie.Need-mul-clear-words
-mul-clear-words c = search needs
+mul-clear : tie.Need-mul-clear
+mul-clear c = search needs
 
 -- src/step.rt:64:5
-clear-words-requires : tie.Need-clear-words-requires
-clear-words-requires c κs =
-    (c .before .before .before .pre, le-refl (length (c .before .before .before .args .items .now)), record { zero = λ i past. List·getD-eq-default (c .before .before .before .args .items .now) 0 {n = i} past })
+clear-requires : tie.Need-clear-requires
+clear-requires c κs =
+    let given = c .before .before .before .args in
+    (c .before .before .before .pre, le-refl (length (given .items .now)), record { zero = λ i past. List·getD-eq-default (given .items .now) 0 {n = i} past })
 
 -- src/step.rt:66:5
-clear-words-requires-2 : tie.Need-clear-words-requires-2
-clear-words-requires-2 c κs =
-    (omega arith, le-refl (length (c .before .before .before .before .before .before .before .args .queue .now)), record { zero = λ i past. List·getD-eq-default (c .before .before .before .before .before .before .before .args .queue .now) 0 {n = i} past })
+clear-requires-2 : tie.Need-clear-requires-2
+clear-requires-2 c κs =
+    let given = c .before .before .before .before .before .before .before .args in
+    (omega arith, le-refl (length (given .queue .now)), record { zero = λ i past. List·getD-eq-default (given .queue .now) 0 {n = i} past })
 
 -- src/step.rt:58:1
 same-length : tie.Need-same-length
@@ -36,9 +38,9 @@ pub give-up-spec : {M : Type 1} → statement M
 give-up-spec =
     tie.close
     (tie.spec
-    mul-clear-words
-    clear-words-requires
-    clear-words-requires-2
+    mul-clear
+    clear-requires
+    clear-requires-2
     same-length
     same-length-2
     returns)

@@ -1,14 +1,15 @@
-use Rattle.recognizer.specs.Steppable.{FullAt}
-use Rattle.recognizer.specs.Steps.{Outcome, completed}
-use Rattle.advance.specs.Ready.{Ready}
-use Rattle.advance.specs.Advance.{padded, lent, Advances}
+use Rattle.recognizer.specs.inner.Steppable.{FullAt}
+use Rattle.demands.specs.Steps.{Outcome, completed}
+use Rattle.advance.specs.inner.Ready.{Advanceable}
+use Rattle.advance.specs.inner.Advances.{lent, Advances}
 use Rattle.completion.specs.Pass.{passOf}
-use Rattle.grammar.specs.Decoded.{rulesIn}
+use Rattle.grammar.specs.inner.Decoded.{rulesIn}
 use lib.ListN.{take}
 use Rattle.item.specs.Item.{itemWords}
 use Rattle.recognizer.proofs.OneToken.{full-at, advance-asks, advance-refused, advance-done, pass-refused}
-use Rattle.recognizer.proofs.Ways.{is-no-token, is-not-predicted, Predicted}
-use Rattle.recognizer.specs.Steppable.{grammarFrom, wordsOf}
+use Rattle.demands.proofs.Ways.{is-no-token, is-not-predicted, Predicted}
+use Rattle.parse.specs.Words.{wordsOf, padded}
+use Rattle.recognizer.specs.inner.Steppable.{grammarFrom}
 use Rattle.completion.specs.Pass.{Pass}
 use Rattle.bits.specs.Width.{rowWords}
 use Rattle.laws.specs.Bits.{rowOf}
@@ -25,16 +26,17 @@ use Rattle.recognizer.proofs.step.step.Tie as tie
 -- src/step.rt:96:9
 returns : tie.Need-returns
 returns c =
-    let a = c .before .before .before .before .before .before .args in
-    let v = wordsOf (a .items .now) (a .starts .now) (a .rows .now) (a .queue .now) in
-    sym (is-no-token (grammarFrom (a .rules .now) (a .sizes)) (a .table .now) (a .state) v (a .t) (c .if1 .taken))
+    let given = c .before .before .before .before .before .before .args in
+    let v = wordsOf (given .items .now) (given .starts .now) (given .rows .now) (given .queue .now) in
+    sym (is-no-token (grammarFrom (given .rules .now) (given .sizes)) (given .table .now) (given .state) v (given .t) (c .if1 .taken))
 
 -- src/step.rt:99:9
 has-at-requires : tie.Need-has-at-requires
 has-at-requires c κs =
-    let a = c .before .before .before .before .before .before .before .args in
-    let v = wordsOf (a .items .now) (a .starts .now) (a .rows .now) (a .queue .now) in
-    (omega (arith, c .before .before .before .before .before .before .before .pre .well-formed .set-fits), omega (arith, c .before .if1 .left, c .before .before .before .before .before .before .before .pre .accepted .room, c .before .before .before .before .before .before .before .pre .accepted .few-symbols))
+    let given = c .before .before .before .before .before .before .before .args in
+    let required = c .before .before .before .before .before .before .before .pre in
+    let v = wordsOf (given .items .now) (given .starts .now) (given .rows .now) (given .queue .now) in
+    (omega (arith, required .well-formed .set-fits), omega (arith, c .before .if1 .left, required .accepted .room, required .accepted .few-symbols))
 
 -- src/step.rt:100:9
 same-length : tie.Need-same-length
@@ -43,29 +45,37 @@ same-length c = search needs
 -- src/step.rt:100:9
 returns-2 : tie.Need-returns-2
 returns-2 c =
-    let a = c .before .before .before .before .before .before .before .before .before .args in
-    let v = wordsOf (a .items .now) (a .starts .now) (a .rows .now) (a .queue .now) in
-    sym (is-not-predicted (grammarFrom (a .rules .now) (a .sizes)) (a .table .now) (a .state) v (a .t) (c .before .before .before .if1 .left)
-    (holds-false (rowOf rowWords (a .rows .now) (a .state .set)) (a .t) (sym (c .before .has-at .ensures) ∙ not-true (c .before .has-at .result) (c .if2 .taken))))
+    let given = c .before .before .before .before .before .before .before .before .before .args in
+    let v = wordsOf (given .items .now) (given .starts .now) (given .rows .now) (given .queue .now) in
+    sym (is-not-predicted (grammarFrom (given .rules .now) (given .sizes)) (given .table .now) (given .state) v (given .t) (c .before .before .before .if1 .left)
+    (holds-false (rowOf rowWords (given .rows .now) (given .state .set)) (given .t) (sym (c .before .has-at .ensures) ∙ not-true (c .before .has-at .result) (c .if2 .taken))))
 
 -- src/step.rt:102:9
 complete-token-requires : tie.Need-complete-token-requires
-complete-token-requires c κs = (c .before .before .before .before .before .before .before .before .before .before .before .before .before .pre, c .before .before .before .before .before .before .before .if1 .left)
+complete-token-requires c κs =
+    let required = c .before .before .before .before .before .before .before .before .before .before .before .before .before .pre in
+    let token-tested = c .before .before .before .before .before .before .before .if1 in
+    (required, token-tested .left)
 
 -- src/step.rt:105:9
 give-up-requires : tie.Need-give-up-requires
 give-up-requires c κs =
-    omega (arith, c .before .before .before .before .before .before .before .before .before .before .before .before .before .before .before .before .before .before .before .before .before .pre .well-formed .items-fit, c .before .before .before .before .before .before .before .complete-token .kept .1 .1 .1 .1 .0)
+    let required = c .before .before .before .before .before .before .before .before .before .before .before .before .before .before .before .before .before .before .before .before .before .pre in
+    let passed = c .before .before .before .before .before .before .before .complete-token in
+    omega (arith, required .well-formed .items-fit, passed .kept .1 .1 .1 .1 .0)
 
 -- src/step.rt:106:32
 full-requires : tie.Need-full-requires
 full-requires c κs =
-    let a = c .before .before .before .before .before .before .before .before .before .before .before .before .before .before .before .before .before .before .before .before .before .before .before .before .before .before .args in
-    let v = wordsOf (a .items .now) (a .starts .now) (a .rows .now) (a .queue .now) in
-    let pass : Pass = passOf (c .before .before .before .before .before .before .before .before .before .before .before .before .complete-token .result) (c .before .before .before .before .before .before .before .before .before .before .before .before .complete-token .last .1 .1 .1 .1 .0) (c .before .before .before .before .before .before .before .before .before .before .before .before .complete-token .last .1 .1 .1 .1 .1 .1 .1 .0) in
-    let is : pass ≡ completed (grammarFrom (a .rules .now) (a .sizes)) (a .state) v (a .t) = c .before .before .before .before .before .before .before .before .before .before .before .before .complete-token .ensures in
-    let stops : c .before .before .before .before .before .before .before .before .before .before .before .before .complete-token .result .stopped ≡ completed (grammarFrom (a .rules .now) (a .sizes)) (a .state) v (a .t) .at .stopped = ap (λ (u : Pass). u .at .stopped) is in
-    subst FullAt (sym stops) (full-at (a .rules .now) (a .sizes) (a .table .now) (a .state) v (c .before .before .before .before .before .before .before .before .before .before .before .before .before .before .before .before .before .before .before .before .before .before .before .before .before .before .pre) (a .t) (λ e. c .before .before .before .before .before .before .before .if3 .taken (stops ∙ e)))
+    let given = c .before .before .before .before .before .before .before .before .before .before .before .before .before .before .before .before .before .before .before .before .before .before .before .before .before .before .args in
+    let required = c .before .before .before .before .before .before .before .before .before .before .before .before .before .before .before .before .before .before .before .before .before .before .before .before .before .before .pre in
+    let passed = c .before .before .before .before .before .before .before .before .before .before .before .before .complete-token in
+    let stop-tested = c .before .before .before .before .before .before .before .if3 in
+    let v = wordsOf (given .items .now) (given .starts .now) (given .rows .now) (given .queue .now) in
+    let pass : Pass = passOf (passed .result) (passed .last .1 .1 .1 .1 .0) (passed .last .1 .1 .1 .1 .1 .1 .1 .0) in
+    let is : pass ≡ completed (grammarFrom (given .rules .now) (given .sizes)) (given .state) v (given .t) = passed .ensures in
+    let stops : passed .result .stopped ≡ completed (grammarFrom (given .rules .now) (given .sizes)) (given .state) v (given .t) .at .stopped = ap (λ (u : Pass). u .at .stopped) is in
+    subst FullAt (sym stops) (full-at (given .rules .now) (given .sizes) (given .table .now) (given .state) v required (given .t) (λ e. stop-tested .taken (stops ∙ e)))
 
 -- src/step.rt:106:9
 same-length-2 : tie.Need-same-length-2
@@ -86,27 +96,38 @@ same-length-5 c = search needs
 -- src/step.rt:106:9
 returns-3 : tie.Need-returns-3
 returns-3 c =
-    let a = c .before .before .before .before .before .before .before .before .before .before .before .before .before .before .before .before .before .before .before .before .before .before .before .before .before .before .before .args in
-    let v = wordsOf (a .items .now) (a .starts .now) (a .rows .now) (a .queue .now) in
-    let pass : Pass = passOf (c .before .before .before .before .before .before .before .before .before .before .before .before .before .complete-token .result) (c .before .before .before .before .before .before .before .before .before .before .before .before .before .complete-token .last .1 .1 .1 .1 .0) (c .before .before .before .before .before .before .before .before .before .before .before .before .before .complete-token .last .1 .1 .1 .1 .1 .1 .1 .0) in
-    let is : pass ≡ completed (grammarFrom (a .rules .now) (a .sizes)) (a .state) v (a .t) = c .before .before .before .before .before .before .before .before .before .before .before .before .before .complete-token .ensures in
-    let stops : c .before .before .before .before .before .before .before .before .before .before .before .before .before .complete-token .result .stopped ≡ completed (grammarFrom (a .rules .now) (a .sizes)) (a .state) v (a .t) .at .stopped = ap (λ (u : Pass). u .at .stopped) is in
-    let there : Predicted (a .state) v (a .t) = holds-true (rowOf rowWords (a .rows .now) (a .state .set)) (a .t) (sym (c .before .before .before .before .before .before .before .before .before .before .before .before .before .before .before .before .before .before .before .has-at .ensures) ∙ not-false (c .before .before .before .before .before .before .before .before .before .before .before .before .before .before .before .before .before .before .before .has-at .result) (c .before .before .before .before .before .before .before .before .before .before .before .before .before .before .before .before .before .before .if2 .left)) in
-    pass-refused (a .rules .now) (a .sizes) (a .table .now) (a .state) v (c .before .before .before .before .before .before .before .before .before .before .before .before .before .before .before .before .before .before .before .before .before .before .before .before .before .before .before .pre) (a .t) (c .before .before .before .before .before .before .before .before .before .before .before .before .before .before .before .before .before .before .before .before .before .if1 .left) there (λ e. c .before .before .before .before .before .before .before .before .if3 .taken (stops ∙ e)) _ (c .before .before .before .before .before .give-up .last .0) (c .before .before .before .before .before .give-up .last .1 .0)
+    let given = c .before .before .before .before .before .before .before .before .before .before .before .before .before .before .before .before .before .before .before .before .before .before .before .before .before .before .before .args in
+    let required = c .before .before .before .before .before .before .before .before .before .before .before .before .before .before .before .before .before .before .before .before .before .before .before .before .before .before .before .pre in
+    let token-tested = c .before .before .before .before .before .before .before .before .before .before .before .before .before .before .before .before .before .before .before .before .before .if1 in
+    let looked-up = c .before .before .before .before .before .before .before .before .before .before .before .before .before .before .before .before .before .before .before .has-at in
+    let prediction-tested = c .before .before .before .before .before .before .before .before .before .before .before .before .before .before .before .before .before .before .if2 in
+    let passed = c .before .before .before .before .before .before .before .before .before .before .before .before .before .complete-token in
+    let stop-tested = c .before .before .before .before .before .before .before .before .if3 in
+    let pass-cleared = c .before .before .before .before .before .give-up in
+    let v = wordsOf (given .items .now) (given .starts .now) (given .rows .now) (given .queue .now) in
+    let pass : Pass = passOf (passed .result) (passed .last .1 .1 .1 .1 .0) (passed .last .1 .1 .1 .1 .1 .1 .1 .0) in
+    let is : pass ≡ completed (grammarFrom (given .rules .now) (given .sizes)) (given .state) v (given .t) = passed .ensures in
+    let stops : passed .result .stopped ≡ completed (grammarFrom (given .rules .now) (given .sizes)) (given .state) v (given .t) .at .stopped = ap (λ (u : Pass). u .at .stopped) is in
+    let there : Predicted (given .state) v (given .t) =
+    holds-true (rowOf rowWords (given .rows .now) (given .state .set)) (given .t) (sym (looked-up .ensures) ∙ not-false (looked-up .result) (prediction-tested .left)) in
+    pass-refused (given .rules .now) (given .sizes) (given .table .now) (given .state) v required (given .t) (token-tested .left) there
+    (λ e. stop-tested .taken (stops ∙ e)) _ (pass-cleared .last .0) (pass-cleared .last .1 .0)
     (c .full .ensures ∙ stops)
-    (c .before .before .before .before .before .give-up .ensures .0 ∙ ap (λ (u : Pass). padded (length (u .items)) (take (itemWords * a .state .items) (u .items))) is)
-    (c .before .before .before .before .before .give-up .ensures .1 ∙ ap (λ (u : Pass). padded (length (u .queue)) (take 0 (u .queue))) is)
+    (pass-cleared .ensures .0 ∙ ap (λ (u : Pass). padded (length (u .items)) (take (itemWords * given .state .items) (u .items))) is)
+    (pass-cleared .ensures .1 ∙ ap (λ (u : Pass). padded (length (u .queue)) (take 0 (u .queue))) is)
 
 -- src/step.rt:108:9
 advance-requires : tie.Need-advance-requires
 advance-requires c κs =
-    let a = c .before .before .before .before .before .before .before .before .before .before .before .before .before .before .before .before .before .before .before .before .before .before .args in
-    let v = wordsOf (a .items .now) (a .starts .now) (a .rows .now) (a .queue .now) in
-    let pass : Pass = passOf (c .before .before .before .before .before .before .before .before .complete-token .result) (c .before .before .before .before .before .before .before .before .complete-token .last .1 .1 .1 .1 .0) (c .before .before .before .before .before .before .before .before .complete-token .last .1 .1 .1 .1 .1 .1 .1 .0) in
-    let is : pass ≡ completed (grammarFrom (a .rules .now) (a .sizes)) (a .state) v (a .t) = c .before .before .before .before .before .before .before .before .complete-token .ensures in
-    let stops : c .before .before .before .before .before .before .before .before .complete-token .result .stopped ≡ completed (grammarFrom (a .rules .now) (a .sizes)) (a .state) v (a .t) .at .stopped = ap (λ (u : Pass). u .at .stopped) is in
-    subst (λ (u : Pass). Ready (a .rules .now) (a .sizes .rules) (a .table .now) (a .state) (lent (u .items) (a .starts .now) (a .rows .now)) (u .at .items)) (sym is)
-    (advance-asks (a .rules .now) (a .sizes) (a .table .now) (a .state) v (c .before .before .before .before .before .before .before .before .before .before .before .before .before .before .before .before .before .before .before .before .before .before .pre) (a .t) (sym stops ∙ c .before .before .before .if3 .left))
+    let given = c .before .before .before .before .before .before .before .before .before .before .before .before .before .before .before .before .before .before .before .before .before .before .args in
+    let required = c .before .before .before .before .before .before .before .before .before .before .before .before .before .before .before .before .before .before .before .before .before .before .pre in
+    let passed = c .before .before .before .before .before .before .before .before .complete-token in
+    let v = wordsOf (given .items .now) (given .starts .now) (given .rows .now) (given .queue .now) in
+    let pass : Pass = passOf (passed .result) (passed .last .1 .1 .1 .1 .0) (passed .last .1 .1 .1 .1 .1 .1 .1 .0) in
+    let is : pass ≡ completed (grammarFrom (given .rules .now) (given .sizes)) (given .state) v (given .t) = passed .ensures in
+    let stops : passed .result .stopped ≡ completed (grammarFrom (given .rules .now) (given .sizes)) (given .state) v (given .t) .at .stopped = ap (λ (u : Pass). u .at .stopped) is in
+    subst (λ (u : Pass). Advanceable (given .rules .now) (given .sizes .rules) (given .table .now) (given .state) (lent (u .items) (given .starts .now) (given .rows .now)) (u .at .items)) (sym is)
+    (advance-asks (given .rules .now) (given .sizes) (given .table .now) (given .state) v required (given .t) (sym stops ∙ c .before .before .before .if3 .left))
 
 -- src/step.rt:119:46
 enum-told : tie.Need-enum-told
@@ -135,18 +156,28 @@ same-length-9 c = search needs
 -- src/step.rt:81:1
 returns-4 : tie.Need-returns-4
 returns-4 c =
-    let a = c .before .before .before .before .before .before .before .before .before .before .before .before .before .before .before .before .before .before .before .before .before .before .before .before .before .before .before .before .before .before .before .args in
-    let v = wordsOf (a .items .now) (a .starts .now) (a .rows .now) (a .queue .now) in
-    let pass : Pass = passOf (c .before .before .before .before .before .before .before .before .before .before .before .before .before .before .before .before .before .complete-token .result) (c .before .before .before .before .before .before .before .before .before .before .before .before .before .before .before .before .before .complete-token .last .1 .1 .1 .1 .0) (c .before .before .before .before .before .before .before .before .before .before .before .before .before .before .before .before .before .complete-token .last .1 .1 .1 .1 .1 .1 .1 .0) in
-    let is : pass ≡ completed (grammarFrom (a .rules .now) (a .sizes)) (a .state) v (a .t) = c .before .before .before .before .before .before .before .before .before .before .before .before .before .before .before .before .before .complete-token .ensures in
-    let stops : c .before .before .before .before .before .before .before .before .before .before .before .before .before .before .before .before .before .complete-token .result .stopped ≡ completed (grammarFrom (a .rules .now) (a .sizes)) (a .state) v (a .t) .at .stopped = ap (λ (u : Pass). u .at .stopped) is in
-    let there : Predicted (a .state) v (a .t) = holds-true (rowOf rowWords (a .rows .now) (a .state .set)) (a .t) (sym (c .before .before .before .before .before .before .before .before .before .before .before .before .before .before .before .before .before .before .before .before .before .before .before .has-at .ensures) ∙ not-false (c .before .before .before .before .before .before .before .before .before .before .before .before .before .before .before .before .before .before .before .before .before .before .before .has-at .result) (c .before .before .before .before .before .before .before .before .before .before .before .before .before .before .before .before .before .before .before .before .before .before .if2 .left)) in
-    let items = c .before .before .before .before .before .before .before .before .advance .last .1 .1 .1 .1 .0 in
-    let starts = c .before .before .before .before .before .before .before .before .advance .last .1 .1 .1 .1 .1 .0 in
-    let rows = c .before .before .before .before .before .before .before .before .advance .last .1 .1 .1 .1 .1 .1 .0 in
-    ap (λ (u : Pass). let o : Outcome = record { number = 9; state = a .state; words = wordsOf items starts rows (u .queue) } in o) is
-    ∙ advance-refused (a .rules .now) (a .sizes) (a .table .now) (a .state) v (c .before .before .before .before .before .before .before .before .before .before .before .before .before .before .before .before .before .before .before .before .before .before .before .before .before .before .before .before .before .before .before .pre) (a .t) (sym stops ∙ c .before .before .before .before .before .before .before .before .before .before .before .before .if3 .left) (c .before .before .before .before .before .before .before .before .before .before .before .before .before .before .before .before .before .before .before .before .before .before .before .before .before .if1 .left) there (c .before .before .before .before .before .before .before .before .advance .result) items starts rows
-    (subst (λ (u : Pass). Advances (rulesIn (a .rules .now) (a .sizes .rules)) (a .table .now) (a .state) (lent (u .items) (a .starts .now) (a .rows .now)) (u .at .items) (c .before .before .before .before .before .before .before .before .advance .result) (lent items starts rows)) is (c .before .before .before .before .before .before .before .before .advance .ensures))
+    let given = c .before .before .before .before .before .before .before .before .before .before .before .before .before .before .before .before .before .before .before .before .before .before .before .before .before .before .before .before .before .before .before .args in
+    let required = c .before .before .before .before .before .before .before .before .before .before .before .before .before .before .before .before .before .before .before .before .before .before .before .before .before .before .before .before .before .before .before .pre in
+    let token-tested = c .before .before .before .before .before .before .before .before .before .before .before .before .before .before .before .before .before .before .before .before .before .before .before .before .before .if1 in
+    let looked-up = c .before .before .before .before .before .before .before .before .before .before .before .before .before .before .before .before .before .before .before .before .before .before .before .has-at in
+    let prediction-tested = c .before .before .before .before .before .before .before .before .before .before .before .before .before .before .before .before .before .before .before .before .before .before .if2 in
+    let passed = c .before .before .before .before .before .before .before .before .before .before .before .before .before .before .before .before .before .complete-token in
+    let stop-tested = c .before .before .before .before .before .before .before .before .before .before .before .before .if3 in
+    let moved-on = c .before .before .before .before .before .before .before .before .advance in
+    let v = wordsOf (given .items .now) (given .starts .now) (given .rows .now) (given .queue .now) in
+    let pass : Pass = passOf (passed .result) (passed .last .1 .1 .1 .1 .0) (passed .last .1 .1 .1 .1 .1 .1 .1 .0) in
+    let is : pass ≡ completed (grammarFrom (given .rules .now) (given .sizes)) (given .state) v (given .t) = passed .ensures in
+    let stops : passed .result .stopped ≡ completed (grammarFrom (given .rules .now) (given .sizes)) (given .state) v (given .t) .at .stopped = ap (λ (u : Pass). u .at .stopped) is in
+    let there : Predicted (given .state) v (given .t) =
+    holds-true (rowOf rowWords (given .rows .now) (given .state .set)) (given .t) (sym (looked-up .ensures) ∙ not-false (looked-up .result) (prediction-tested .left)) in
+    let items = moved-on .last .1 .1 .1 .1 .0 in
+    let starts = moved-on .last .1 .1 .1 .1 .1 .0 in
+    let rows = moved-on .last .1 .1 .1 .1 .1 .1 .0 in
+    ap (λ (u : Pass). let o : Outcome = record { number = 9; state = given .state; words = wordsOf items starts rows (u .queue) } in o) is
+    ∙ advance-refused (given .rules .now) (given .sizes) (given .table .now) (given .state) v required (given .t) (sym stops ∙ stop-tested .left)
+    (token-tested .left) there (moved-on .result) items starts rows
+    (subst (λ (u : Pass). Advances (rulesIn (given .rules .now) (given .sizes .rules)) (given .table .now) (given .state)
+    (lent (u .items) (given .starts .now) (given .rows .now)) (u .at .items) (moved-on .result) (lent items starts rows)) is (moved-on .ensures))
     (c .enum-told .given .1)
 
 -- src/step.rt:81:1
@@ -168,18 +199,28 @@ same-length-13 c = search needs
 -- src/step.rt:81:1
 returns-5 : tie.Need-returns-5
 returns-5 c =
-    let a = c .before .before .before .before .before .before .before .before .before .before .before .before .before .before .before .before .before .before .before .before .before .before .before .before .before .before .before .before .before .before .before .before .args in
-    let v = wordsOf (a .items .now) (a .starts .now) (a .rows .now) (a .queue .now) in
-    let pass : Pass = passOf (c .before .before .before .before .before .before .before .before .before .before .before .before .before .before .before .before .before .before .complete-token .result) (c .before .before .before .before .before .before .before .before .before .before .before .before .before .before .before .before .before .before .complete-token .last .1 .1 .1 .1 .0) (c .before .before .before .before .before .before .before .before .before .before .before .before .before .before .before .before .before .before .complete-token .last .1 .1 .1 .1 .1 .1 .1 .0) in
-    let is : pass ≡ completed (grammarFrom (a .rules .now) (a .sizes)) (a .state) v (a .t) = c .before .before .before .before .before .before .before .before .before .before .before .before .before .before .before .before .before .before .complete-token .ensures in
-    let stops : c .before .before .before .before .before .before .before .before .before .before .before .before .before .before .before .before .before .before .complete-token .result .stopped ≡ completed (grammarFrom (a .rules .now) (a .sizes)) (a .state) v (a .t) .at .stopped = ap (λ (u : Pass). u .at .stopped) is in
-    let there : Predicted (a .state) v (a .t) = holds-true (rowOf rowWords (a .rows .now) (a .state .set)) (a .t) (sym (c .before .before .before .before .before .before .before .before .before .before .before .before .before .before .before .before .before .before .before .before .before .before .before .before .has-at .ensures) ∙ not-false (c .before .before .before .before .before .before .before .before .before .before .before .before .before .before .before .before .before .before .before .before .before .before .before .before .has-at .result) (c .before .before .before .before .before .before .before .before .before .before .before .before .before .before .before .before .before .before .before .before .before .before .before .if2 .left)) in
-    let items = c .before .before .before .before .before .before .before .before .before .advance .last .1 .1 .1 .1 .0 in
-    let starts = c .before .before .before .before .before .before .before .before .before .advance .last .1 .1 .1 .1 .1 .0 in
-    let rows = c .before .before .before .before .before .before .before .before .before .advance .last .1 .1 .1 .1 .1 .1 .0 in
+    let given = c .before .before .before .before .before .before .before .before .before .before .before .before .before .before .before .before .before .before .before .before .before .before .before .before .before .before .before .before .before .before .before .before .args in
+    let required = c .before .before .before .before .before .before .before .before .before .before .before .before .before .before .before .before .before .before .before .before .before .before .before .before .before .before .before .before .before .before .before .before .pre in
+    let token-tested = c .before .before .before .before .before .before .before .before .before .before .before .before .before .before .before .before .before .before .before .before .before .before .before .before .before .before .if1 in
+    let looked-up = c .before .before .before .before .before .before .before .before .before .before .before .before .before .before .before .before .before .before .before .before .before .before .before .before .has-at in
+    let prediction-tested = c .before .before .before .before .before .before .before .before .before .before .before .before .before .before .before .before .before .before .before .before .before .before .before .if2 in
+    let passed = c .before .before .before .before .before .before .before .before .before .before .before .before .before .before .before .before .before .before .complete-token in
+    let stop-tested = c .before .before .before .before .before .before .before .before .before .before .before .before .before .if3 in
+    let moved-on = c .before .before .before .before .before .before .before .before .before .advance in
+    let v = wordsOf (given .items .now) (given .starts .now) (given .rows .now) (given .queue .now) in
+    let pass : Pass = passOf (passed .result) (passed .last .1 .1 .1 .1 .0) (passed .last .1 .1 .1 .1 .1 .1 .1 .0) in
+    let is : pass ≡ completed (grammarFrom (given .rules .now) (given .sizes)) (given .state) v (given .t) = passed .ensures in
+    let stops : passed .result .stopped ≡ completed (grammarFrom (given .rules .now) (given .sizes)) (given .state) v (given .t) .at .stopped = ap (λ (u : Pass). u .at .stopped) is in
+    let there : Predicted (given .state) v (given .t) =
+    holds-true (rowOf rowWords (given .rows .now) (given .state .set)) (given .t) (sym (looked-up .ensures) ∙ not-false (looked-up .result) (prediction-tested .left)) in
+    let items = moved-on .last .1 .1 .1 .1 .0 in
+    let starts = moved-on .last .1 .1 .1 .1 .1 .0 in
+    let rows = moved-on .last .1 .1 .1 .1 .1 .1 .0 in
     ap (λ (u : Pass). let o : Outcome = record { number = 0; state = c .before .advanced .given .0 .0; words = wordsOf items starts rows (u .queue) } in o) is
-    ∙ advance-done (a .rules .now) (a .sizes) (a .table .now) (a .state) v (c .before .before .before .before .before .before .before .before .before .before .before .before .before .before .before .before .before .before .before .before .before .before .before .before .before .before .before .before .before .before .before .before .pre) (a .t) (sym stops ∙ c .before .before .before .before .before .before .before .before .before .before .before .before .before .if3 .left) (c .before .before .before .before .before .before .before .before .before .before .before .before .before .before .before .before .before .before .before .before .before .before .before .before .before .before .if1 .left) there (c .before .before .before .before .before .before .before .before .before .advance .result) items starts rows
-    (subst (λ (u : Pass). Advances (rulesIn (a .rules .now) (a .sizes .rules)) (a .table .now) (a .state) (lent (u .items) (a .starts .now) (a .rows .now)) (u .at .items) (c .before .before .before .before .before .before .before .before .before .advance .result) (lent items starts rows)) is (c .before .before .before .before .before .before .before .before .before .advance .ensures))
+    ∙ advance-done (given .rules .now) (given .sizes) (given .table .now) (given .state) v required (given .t) (sym stops ∙ stop-tested .left) (token-tested .left) there
+    (moved-on .result) items starts rows
+    (subst (λ (u : Pass). Advances (rulesIn (given .rules .now) (given .sizes .rules)) (given .table .now) (given .state)
+    (lent (u .items) (given .starts .now) (given .rows .now)) (u .at .items) (moved-on .result) (lent items starts rows)) is (moved-on .ensures))
     _ (c .before .advanced .given .1)
 
 pub step-spec : {M : Type 1} → statement M

@@ -1,82 +1,118 @@
 -- `recognizer::within::begin` meets its contract.
-use mathlib.Core.Path.{_∙_}
 use native.Mathlib.Omega.{arith}
+use mathlib.Core.Path.{sym}
+use Prim.Native.Nat.{_*_}
+use lib.Seq.{length-take-le}
+use Rattle.bits.specs.Width.{rowWords}
 use borrow.Author.Needs.{needs}
-use Rattle.recognizer.specs.Steppable.{wordsOf}
-use Rattle.recognizer.proofs.Beginning.{begun}
+use Rattle.parse.specs.Words.{wordsOf}
+use Rattle.recognizer.specs.inner.Cuts.{clearedWords}
+use Rattle.recognizer.proofs.Carving.{put-back-place}
 use Rattle.recognizer.proofs.within.begin.Statement.{statement}
 use Rattle.recognizer.proofs.within.begin.Tie as tie
-
-set-room-requires : tie.Need-set-room-requires
-set-room-requires c κs = search needs
 
 item-room-requires : tie.Need-item-room-requires
 item-room-requires c κs = search needs
 
 mul-item-end : tie.Need-mul-item-end
-mul-item-end c = omega (arith, c .item-room .ensures)
+mul-item-end c = search needs
 
-clear-front-requires : tie.Need-clear-front-requires
-clear-front-requires c κs = omega (arith, c .before .item-room .ensures)
+set-room-requires : tie.Need-set-room-requires
+set-room-requires c κs = search needs
 
-add-clear-front : tie.Need-add-clear-front
-add-clear-front c = omega (arith, c .before .before .before .before .before .before .before .set-room .ensures)
+add-start-end : tie.Need-add-start-end
+add-start-end c = search needs
 
-clear-front-requires-2 : tie.Need-clear-front-requires-2
-clear-front-requires-2 c κs = omega (arith, c .before .before .before .before .before .before .before .set-room .ensures, c .before .before .before .before .before .before .before .before .before .before .before .before .before .before .pre .0)
-
-mul-clear-front-rows : tie.Need-mul-clear-front-rows
-mul-clear-front-rows c = omega (arith, c .before .before .before .before .before .before .before .before .before .before .before .set-room .ensures)
-
-clear-front-rows-requires : tie.Need-clear-front-rows-requires
-clear-front-rows-requires c κs = omega (arith, c .before .before .before .before .before .before .before .before .before .before .before .set-room .ensures)
+mul-row-end : tie.Need-mul-row-end
+mul-row-end c = search needs
 
 queue-room-requires : tie.Need-queue-room-requires
 queue-room-requires c κs = search needs
 
-clear-front-requires-3 : tie.Need-clear-front-requires-3
-clear-front-requires-3 c κs = omega (arith, c .before .queue-room .ensures)
+slice-relend-prefix-clear-all : tie.Need-slice-relend-prefix-clear-all
+slice-relend-prefix-clear-all c = search needs
 
-put-at-requires : tie.Need-put-at-requires
-put-at-requires c κs =
-    (omega (arith, c .before .before .before .before .before .before .before .before .before .clear-front-rows .kept .0, c .before .before .before .before .before .before .before .before .before .before .before .before .before .before .before .before .before .before .before .before .before .before .before .before .before .before .before .before .pre .0), c .before .before .before .before .before .before .before .before .before .before .before .before .before .before .before .before .before .before .before .before .before .before .before .before .before .before .before .before .pre .1)
+slice-aggregate-clear-all : tie.Need-slice-aggregate-clear-all
+slice-aggregate-clear-all c =
+    let given = c .before .before .before .before .before .before .before .before .before .before .before .before .args in
+    let item-room = c .before .before .before .before .before .before .item-room in
+    sym (length-take-le _ (given .items .now) (omega (arith, item-room .ensures)))
+
+slice-relend-prefix-clear-all-2 : tie.Need-slice-relend-prefix-clear-all-2
+slice-relend-prefix-clear-all-2 c = search needs
+
+slice-aggregate-clear-all-2 : tie.Need-slice-aggregate-clear-all-2
+slice-aggregate-clear-all-2 c =
+    let given = c .before .before .before .before .before .before .before .before .before .before .before .before .before .args in
+    let some-set = c .before .before .before .before .before .before .before .before .before .before .before .before .before .pre in
+    sym (length-take-le _ (given .starts .now) (omega (arith, c .before .before .before .before .set-room .ensures, some-set .0)))
+
+slice-relend-prefix-clear-all-3 : tie.Need-slice-relend-prefix-clear-all-3
+slice-relend-prefix-clear-all-3 c = search needs
+
+slice-aggregate-clear-all-3 : tie.Need-slice-aggregate-clear-all-3
+slice-aggregate-clear-all-3 c =
+    let given = c .before .before .before .before .before .before .before .before .before .before .before .before .before .before .args in
+    sym (length-take-le _ (given .rows .now) (omega (arith, c .before .before .before .before .before .set-room .ensures)))
+
+slice-relend-prefix-clear-all-4 : tie.Need-slice-relend-prefix-clear-all-4
+slice-relend-prefix-clear-all-4 c = search needs
+
+slice-aggregate-clear-all-4 : tie.Need-slice-aggregate-clear-all-4
+slice-aggregate-clear-all-4 c =
+    let given = c .before .before .before .before .before .before .before .before .before .before .before .before .before .before .before .args in
+    sym (length-take-le _ (given .queue .now) (omega (arith, c .before .before .before .before .queue-room .ensures)))
+
+clear-all-requires : tie.Need-clear-all-requires
+clear-all-requires c κs =
+    let given = c .before .before .before .before .before .before .before .before .before .before .before .before .before .before .before .args in
+    let asked = c .before .before .before .before .before .before .before .before .before .before .before .before .before .before .before .pre in
+    let set-room = c .before .before .before .before .before .before .set-room in
+    (omega (arith, set-room .ensures, asked .0, length-take-le (rowWords * set-room .result) (given .rows .now) (omega (arith, set-room .ensures))), asked .1)
 
 same-length : tie.Need-same-length
-same-length c = c .before .before .before .before .before .before .before .before .before .before .before .before .before .before .before .before .before .before .before .before .clear-front .kept .0
+same-length c = search needs
 
 same-length-2 : tie.Need-same-length-2
-same-length-2 c = c .before .before .before .before .before .before .before .before .before .before .before .before .before .before .before .before .clear-front2 .kept .0
+same-length-2 c = search needs
 
 same-length-3 : tie.Need-same-length-3
-same-length-3 c = c .before .before .put-at .kept .0 ∙ c .before .before .before .before .before .before .before .before .before .before .before .before .clear-front-rows .kept .0
+same-length-3 c = search needs
 
 same-length-4 : tie.Need-same-length-4
-same-length-4 c = c .before .before .before .before .before .before .clear-front3 .kept .0
+same-length-4 c = search needs
 
 returns : tie.Need-returns
 returns c =
-    let start = c .before .before .before .before .before .before .before .before .before .before .before .before .before .before .before .before .before .before .before .before .before .before .before .before .before .before .before .before .before .before .before in
-    let words = wordsOf (start .args .items .now) (start .args .starts .now) (start .args .rows .now) (start .args .queue .now) in
-    begun (start .args .row .now) words (start .pre .0) (start .pre .1) _ _ _
-    (c .before .before .before .before .before .before .before .before .before .before .before .before .before .before .before .before .before .before .before .before .before .before .item-room .ensures) (c .before .before .before .before .before .before .before .before .before .before .before .before .before .before .before .before .before .before .before .before .before .before .before .before .set-room .ensures) (c .before .before .before .before .before .before .before .before .queue-room .ensures)
-    (c .before .before .before .before .before .before .before .before .before .before .before .before .before .before .before .before .before .before .before .before .clear-front .ensures) (c .before .before .before .before .before .before .before .before .before .before .before .before .before .before .before .before .clear-front2 .ensures) (c .before .before .before .before .before .before .before .before .before .before .before .before .clear-front-rows .ensures) (c .before .before .before .before .before .before .clear-front3 .ensures)
-    (c .before .before .put-at .ensures)
+    let given = c .before .before .before .before .before .before .before .before .before .before .before .before .before .before .before .before .before .before .before .before .before .before .before .before .args in
+    let item-room = c .before .before .before .before .before .before .before .before .before .before .before .before .before .before .before .before .before .before .item-room in
+    let set-room = c .before .before .before .before .before .before .before .before .before .before .before .before .before .before .before .set-room in
+    let queue-room = c .before .before .before .before .before .before .before .before .before .before .before .before .before .queue-room in
+    let cleared = c .before .before .before .before .before .before .before .before .clear-all in
+    let last = cleared .last .1 in
+    put-back-place (wordsOf (given .items .now) (given .starts .now) (given .rows .now) (given .queue .now))
+    (item-room .ensures) (set-room .ensures) (queue-room .ensures)
+    (clearedWords (given .row .now)) (wordsOf (last .0) (last .1 .0) (last .1 .1 .0) (last .1 .1 .1 .0)) (cleared .ensures)
 
 pub begin-spec : {M : Type 1} → statement M
 begin-spec =
     tie.close
     (tie.spec
-    set-room-requires
     item-room-requires
     mul-item-end
-    clear-front-requires
-    add-clear-front
-    clear-front-requires-2
-    mul-clear-front-rows
-    clear-front-rows-requires
+    set-room-requires
+    add-start-end
+    mul-row-end
     queue-room-requires
-    clear-front-requires-3
-    put-at-requires
+    slice-relend-prefix-clear-all
+    slice-aggregate-clear-all
+    slice-relend-prefix-clear-all-2
+    slice-aggregate-clear-all-2
+    slice-relend-prefix-clear-all-3
+    slice-aggregate-clear-all-3
+    slice-relend-prefix-clear-all-4
+    slice-aggregate-clear-all-4
+    clear-all-requires
     same-length
     same-length-2
     same-length-3

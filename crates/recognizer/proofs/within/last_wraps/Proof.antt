@@ -21,14 +21,14 @@ rule-requires c κs = search needs
 
 returns : tie.Need-returns
 returns c =
-    let start = c .before .before .before .before .before .before in
-    wraps-some (start .args .state) (start .args .items .now) (start .args .starts .now) _ (c .before .before .wide .ensures) _ (c .before .if1 .taken)
+    let given = c .before .before .before .before .before .before .args in
+    wraps-some (given .state) (given .items .now) (given .starts .now) _ (c .before .before .wide .ensures) _ (c .before .if1 .taken)
     (c .rule .ensures)
 
 returns-2 : tie.Need-returns-2
 returns-2 c =
-    let start = c .before .before .before .before .before in
-    wraps-none (start .args .state) (start .args .items .now) (start .args .starts .now) _ (c .before .wide .ensures) (c .if1 .left)
+    let given = c .before .before .before .before .before .args in
+    wraps-none (given .state) (given .items .now) (given .starts .now) _ (c .before .wide .ensures) (c .if1 .left)
 
 pub last-wraps-spec : {M : Type 1} → statement M
 last-wraps-spec =

@@ -36,8 +36,8 @@ part-result-end c = search needs
 
 returns : tie.Need-returns
 returns c =
-    let start = c .before .before .before .before .before .before in
-    ap (λ from. take (itemWords * start .args .state .items - itemWords * from) (drop (itemWords * from) (start .args .items .now))) (c .before .before .wide .ensures)
+    let given = c .before .before .before .before .before .before .args in
+    ap (λ from. take (itemWords * given .state .items - itemWords * from) (drop (itemWords * from) (given .items .now))) (c .before .before .wide .ensures)
 
 pub latest-part-spec : {M : Type 1} → statement M
 latest-part-spec =

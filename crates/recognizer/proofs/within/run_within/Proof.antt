@@ -6,7 +6,8 @@ use native.Mathlib.Numerals.{add-one-le}
 use native.Mathlib.Omega.{arith}
 use lib.ListN.{length}
 use borrow.Author.Needs.{scaled-fits}
-use Rattle.recognizer.specs.Steppable.{grammarFrom, wordsOf}
+use Rattle.parse.specs.Words.{wordsOf}
+use Rattle.recognizer.specs.inner.Steppable.{grammarFrom}
 use Rattle.recognizer.proofs.Turning.{Going, going-first, going-on, going-off, going-end}
 use Rattle.recognizer.proofs.within.run_within.Statement.{statement}
 use Rattle.recognizer.proofs.within.run_within.Tie as tie
@@ -21,11 +22,12 @@ abbrev μ-loop : tie.MeasureT-loop
 
 loop-holds : tie.Need-loop-holds Inv-loop μ-loop
 loop-holds c =
-    let a = c .before .before .before .before .before .args in going-first (a .tokens .now) (c .before .before .before .before .before .pre .0)
+    let given = c .before .before .before .before .before .args in going-first (given .tokens .now) (c .before .before .before .before .before .pre .0)
 
 mul-token-number : tie.Need-mul-token-number Inv-loop μ-loop
 mul-token-number c =
-    scaled-fits _ _ _ (c .loop-test .taken) (c .before .before .before .before .before .before .before .good .1 .1 .1 .1 .1 .1 .1 .1 .0 .1)
+    let well-lent = c .before .before .before .before .before .before .before .good in
+    scaled-fits _ _ _ (c .loop-test .taken) (well-lent .1 .1 .1 .1 .1 .1 .1 .1 .0 .1)
 
 shared-slice-read-token-number : tie.Need-shared-slice-read-token-number Inv-loop μ-loop
 shared-slice-read-token-number c = c .before .loop-test .taken
@@ -34,7 +36,9 @@ token-number-requires : tie.Need-token-number-requires Inv-loop μ-loop
 token-number-requires c κs = tt
 
 step-within-requires : tie.Need-step-within-requires Inv-loop μ-loop
-step-within-requires c κs = c .before .before .before .before .before .before .before .loop .inv .steppable
+step-within-requires c κs =
+    let looped = c .before .before .before .before .before .before .before .loop in
+    looped .inv .steppable
 
 enum-known-next : tie.Need-enum-known-next Inv-loop μ-loop
 enum-known-next c = c .match .keys1
@@ -44,35 +48,55 @@ enum-known-why c = c .match .keys2
 
 same-length : tie.Need-same-length Inv-loop μ-loop
 same-length c =
-    c .before .before .before .before .before .before .before .before .before .before .before .step-within .kept .1 .1 .1 .1 .0 ∙ c .before .before .before .before .before .before .before .before .before .before .before .before .before .before .before .before .before .before .before .loop .inv .sizes .items
+    let looped = c .before .before .before .before .before .before .before .before .before .before .before .before .before .before .before .before .before .before .before .loop in
+    let stepped = c .before .before .before .before .before .before .before .before .before .before .before .step-within in
+    stepped .kept .1 .1 .1 .1 .0 ∙ looped .inv .sizes .items
 
 same-length-2 : tie.Need-same-length-2 Inv-loop μ-loop
 same-length-2 c =
-    c .before .before .before .before .before .before .before .before .before .before .before .step-within .kept .1 .1 .1 .1 .1 .0 ∙ c .before .before .before .before .before .before .before .before .before .before .before .before .before .before .before .before .before .before .before .loop .inv .sizes .starts
+    let looped = c .before .before .before .before .before .before .before .before .before .before .before .before .before .before .before .before .before .before .before .loop in
+    let stepped = c .before .before .before .before .before .before .before .before .before .before .before .step-within in
+    stepped .kept .1 .1 .1 .1 .1 .0 ∙ looped .inv .sizes .starts
 
 same-length-3 : tie.Need-same-length-3 Inv-loop μ-loop
 same-length-3 c =
-    c .before .before .before .before .before .before .before .before .before .before .before .step-within .kept .1 .1 .1 .1 .1 .1 .0 ∙ c .before .before .before .before .before .before .before .before .before .before .before .before .before .before .before .before .before .before .before .loop .inv .sizes .rows
+    let looped = c .before .before .before .before .before .before .before .before .before .before .before .before .before .before .before .before .before .before .before .loop in
+    let stepped = c .before .before .before .before .before .before .before .before .before .before .before .step-within in
+    stepped .kept .1 .1 .1 .1 .1 .1 .0 ∙ looped .inv .sizes .rows
 
 same-length-4 : tie.Need-same-length-4 Inv-loop μ-loop
 same-length-4 c =
-    c .before .before .before .before .before .before .before .before .before .before .before .step-within .kept .1 .1 .1 .1 .1 .1 .1 .0 ∙ c .before .before .before .before .before .before .before .before .before .before .before .before .before .before .before .before .before .before .before .loop .inv .sizes .queue
+    let looped = c .before .before .before .before .before .before .before .before .before .before .before .before .before .before .before .before .before .before .before .loop in
+    let stepped = c .before .before .before .before .before .before .before .before .before .before .before .step-within in
+    stepped .kept .1 .1 .1 .1 .1 .1 .1 .0 ∙ looped .inv .sizes .queue
 
 returns : tie.Need-returns Inv-loop μ-loop
 returns c =
-    going-off (c .before .before .before .before .before .before .before .before .before .before .before .before .before .before .before .before .before .before .before .loop .inv) (c .before .before .before .before .before .before .before .before .before .before .before .before .before .before .before .before .before .before .loop-test .taken) (c .before .before .before .before .before .before .before .before .before .before .before .step-within .ensures) (c .before .before .before .before .before .before .before .before .before .before .before .before .before .before .before .before .token-number .ensures) (c .before .why .given .1)
+    let looped = c .before .before .before .before .before .before .before .before .before .before .before .before .before .before .before .before .before .before .before .loop in
+    let entered = c .before .before .before .before .before .before .before .before .before .before .before .before .before .before .before .before .before .before .loop-test in
+    let numbered = c .before .before .before .before .before .before .before .before .before .before .before .before .before .before .before .before .token-number in
+    let stepped = c .before .before .before .before .before .before .before .before .before .before .before .step-within in
+    going-off (looped .inv) (entered .taken) (stepped .ensures) (numbered .ensures) (c .before .why .given .1)
 
 add-taken : tie.Need-add-taken Inv-loop μ-loop
 add-taken c =
-    record { fits = lt-of-le-of-lt (add-one-le (c .before .before .before .before .before .before .before .before .before .before .before .before .before .before .before .before .before .before .loop-test .taken)) (c .before .before .before .before .before .before .before .before .before .before .before .before .before .before .before .before .before .before .before .before .before .before .before .before .before .good .1 .1 .1 .1 .1 .1 .1 .1 .0 .0) }
+    let well-lent = c .before .before .before .before .before .before .before .before .before .before .before .before .before .before .before .before .before .before .before .before .before .before .before .before .before .good in
+    let entered = c .before .before .before .before .before .before .before .before .before .before .before .before .before .before .before .before .before .before .loop-test in
+    record { fits = lt-of-le-of-lt (add-one-le (entered .taken)) (well-lent .1 .1 .1 .1 .1 .1 .1 .1 .0 .0) }
 
 loop-less : tie.Need-loop-less Inv-loop μ-loop
 loop-less c =
-    omega (arith, c .before .before .before .before .before .before .before .before .before .before .before .before .before .before .before .before .before .before .loop-test .taken)
+    let entered = c .before .before .before .before .before .before .before .before .before .before .before .before .before .before .before .before .before .before .loop-test in
+    omega (arith, entered .taken)
 
 loop-again : tie.Need-loop-again Inv-loop μ-loop
 loop-again c =
-    going-on (c .before .before .before .before .before .before .before .before .before .before .before .before .before .before .before .before .before .before .before .loop .inv) (c .before .before .before .before .before .before .before .before .before .before .before .before .before .before .before .before .before .before .loop-test .taken) (c .before .before .before .before .before .before .before .before .before .before .before .step-within .ensures) (c .before .before .before .before .before .before .before .before .before .before .before .before .before .before .before .before .token-number .ensures) (c .before .before .before .before .before .before .before .before .before .before .before .before .before .before .before .before .before .before .before .before .before .before .before .before .before .pre .1) (c .before .next .given .1)
+    let required = c .before .before .before .before .before .before .before .before .before .before .before .before .before .before .before .before .before .before .before .before .before .before .before .before .before .pre in
+    let looped = c .before .before .before .before .before .before .before .before .before .before .before .before .before .before .before .before .before .before .before .loop in
+    let entered = c .before .before .before .before .before .before .before .before .before .before .before .before .before .before .before .before .before .before .loop-test in
+    let numbered = c .before .before .before .before .before .before .before .before .before .before .before .before .before .before .before .before .token-number in
+    let stepped = c .before .before .before .before .before .before .before .before .before .before .before .step-within in
+    going-on (looped .inv) (entered .taken) (stepped .ensures) (numbered .ensures) (required .1) (c .before .next .given .1)
 
 same-length-5 : tie.Need-same-length-5 Inv-loop μ-loop
 same-length-5 c = c .before .loop .inv .sizes .items

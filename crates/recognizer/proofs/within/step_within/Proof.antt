@@ -3,10 +3,10 @@ use mathlib.Core.Path.{sym, subst}
 use native.Mathlib.Omega.{arith}
 use lib.Seq.{length-take-le}
 use borrow.Author.Needs.{needs}
-use Rattle.parse.specs.Words.{Words}
-use Rattle.recognizer.specs.Steps.{stepped}
+use Rattle.parse.specs.Words.{Words, wordsOf}
+use Rattle.demands.specs.Steps.{stepped}
 use Rattle.recognizer.specs.Answers.{outcomeOf}
-use Rattle.recognizer.specs.Steppable.{grammarFrom, wordsOf, Steppable}
+use Rattle.recognizer.specs.inner.Steppable.{grammarFrom, Steppable}
 use Rattle.recognizer.proofs.Carving.{starts-there, first-within, replaced-place}
 use Rattle.recognizer.proofs.within.step_within.Statement.{statement}
 use Rattle.recognizer.proofs.within.step_within.Tie as tie
@@ -34,41 +34,50 @@ slice-relend-prefix-step c = search needs
 
 slice-aggregate-step : tie.Need-slice-aggregate-step
 slice-aggregate-step c =
-    let a = c .before .before .before .before .before .before .before .before .before .before .before .before .args in sym (length-take-le _ (a .items .now) (omega (arith, c .before .before .before .before .before .before .item-room .ensures)))
+    let given = c .before .before .before .before .before .before .before .before .before .before .before .before .args in
+    let items-measured = c .before .before .before .before .before .before .item-room in
+    sym (length-take-le _ (given .items .now) (omega (arith, items-measured .ensures)))
 
 slice-relend-prefix-step-2 : tie.Need-slice-relend-prefix-step-2
 slice-relend-prefix-step-2 c =
-    let a = c .before .before .before .before .before .before .before .before .before .before .before .before .args in
-    let w = wordsOf (a .items .now) (a .starts .now) (a .rows .now) (a .queue .now) in
-    omega (arith, starts-there w (c .before .before .before .before .before .before .before .before .before .before .before .before .pre .well-formed), c .before .before .before .set-room .ensures)
+    let given = c .before .before .before .before .before .before .before .before .before .before .before .before .args in
+    let required = c .before .before .before .before .before .before .before .before .before .before .before .before .pre in
+    let w = wordsOf (given .items .now) (given .starts .now) (given .rows .now) (given .queue .now) in
+    omega (arith, starts-there w (required .well-formed), c .before .before .before .set-room .ensures)
 
 slice-aggregate-step-2 : tie.Need-slice-aggregate-step-2
 slice-aggregate-step-2 c =
-    let a = c .before .before .before .before .before .before .before .before .before .before .before .before .before .args in
-    let w = wordsOf (a .items .now) (a .starts .now) (a .rows .now) (a .queue .now) in
-    sym (length-take-le _ (a .starts .now) (omega (arith, starts-there w (c .before .before .before .before .before .before .before .before .before .before .before .before .before .pre .well-formed), c .before .before .before .before .set-room .ensures)))
+    let given = c .before .before .before .before .before .before .before .before .before .before .before .before .before .args in
+    let required = c .before .before .before .before .before .before .before .before .before .before .before .before .before .pre in
+    let w = wordsOf (given .items .now) (given .starts .now) (given .rows .now) (given .queue .now) in
+    sym (length-take-le _ (given .starts .now) (omega (arith, starts-there w (required .well-formed), c .before .before .before .before .set-room .ensures)))
 
 slice-relend-prefix-step-3 : tie.Need-slice-relend-prefix-step-3
 slice-relend-prefix-step-3 c = search needs
 
 slice-aggregate-step-3 : tie.Need-slice-aggregate-step-3
 slice-aggregate-step-3 c =
-    let a = c .before .before .before .before .before .before .before .before .before .before .before .before .before .before .args in sym (length-take-le _ (a .rows .now) (omega (arith, c .before .before .before .before .before .set-room .ensures)))
+    let given = c .before .before .before .before .before .before .before .before .before .before .before .before .before .before .args in
+    sym (length-take-le _ (given .rows .now) (omega (arith, c .before .before .before .before .before .set-room .ensures)))
 
 slice-relend-prefix-step-4 : tie.Need-slice-relend-prefix-step-4
 slice-relend-prefix-step-4 c = search needs
 
 slice-aggregate-step-4 : tie.Need-slice-aggregate-step-4
 slice-aggregate-step-4 c =
-    let a = c .before .before .before .before .before .before .before .before .before .before .before .before .before .before .before .args in sym (length-take-le _ (a .queue .now) (omega (arith, c .before .before .before .before .queue-room .ensures)))
+    let given = c .before .before .before .before .before .before .before .before .before .before .before .before .before .before .before .args in
+    sym (length-take-le _ (given .queue .now) (omega (arith, c .before .before .before .before .queue-room .ensures)))
 
 step-requires : tie.Need-step-requires
 step-requires c κs =
-    let a = c .before .before .before .before .before .before .before .before .before .before .before .before .before .before .before .args in
-    let w = wordsOf (a .items .now) (a .starts .now) (a .rows .now) (a .queue .now) in
-    subst (Steppable (grammarFrom (a .rules .now) (a .sizes)) (a .table .now) (a .state))
-    (first-within w (c .before .before .before .before .before .before .before .before .before .item-room .ensures) (c .before .before .before .before .before .before .set-room .ensures) (c .before .before .before .before .queue-room .ensures))
-    (c .before .before .before .before .before .before .before .before .before .before .before .before .before .before .before .pre)
+    let given = c .before .before .before .before .before .before .before .before .before .before .before .before .before .before .before .args in
+    let required = c .before .before .before .before .before .before .before .before .before .before .before .before .before .before .before .pre in
+    let items-measured = c .before .before .before .before .before .before .before .before .before .item-room in
+    let sets-measured = c .before .before .before .before .before .before .set-room in
+    let w = wordsOf (given .items .now) (given .starts .now) (given .rows .now) (given .queue .now) in
+    subst (Steppable (grammarFrom (given .rules .now) (given .sizes)) (given .table .now) (given .state))
+    (first-within w (items-measured .ensures) (sets-measured .ensures) (c .before .before .before .before .queue-room .ensures))
+    required
 
 same-length : tie.Need-same-length
 same-length c = search needs
@@ -84,13 +93,17 @@ same-length-4 c = search needs
 
 returns : tie.Need-returns
 returns c =
-    let a = c .before .before .before .before .before .before .before .before .before .before .before .before .before .before .before .before .before .before .before .before .before .before .before .before .args in
-    let w = wordsOf (a .items .now) (a .starts .now) (a .rows .now) (a .queue .now) in
-    let last = c .before .before .before .before .before .before .before .before .step .last .1 .1 .1 .1 in
-    replaced-place w (c .before .before .before .before .before .before .before .before .before .before .before .before .before .before .before .before .before .before .item-room .ensures) (c .before .before .before .before .before .before .before .before .before .before .before .before .before .before .before .set-room .ensures) (c .before .before .before .before .before .before .before .before .before .before .before .before .before .queue-room .ensures)
-    (λ (v : Words). stepped (grammarFrom (a .rules .now) (a .sizes)) (a .table .now) (a .state) v (a .t))
-    (outcomeOf (c .before .before .before .before .before .before .before .before .step .result) (wordsOf (last .0) (last .1 .0) (last .1 .1 .0) (last .1 .1 .1 .0)))
-    (c .before .before .before .before .before .before .before .before .step .ensures)
+    let given = c .before .before .before .before .before .before .before .before .before .before .before .before .before .before .before .before .before .before .before .before .before .before .before .before .args in
+    let items-measured = c .before .before .before .before .before .before .before .before .before .before .before .before .before .before .before .before .before .before .item-room in
+    let sets-measured = c .before .before .before .before .before .before .before .before .before .before .before .before .before .before .before .set-room in
+    let queue-measured = c .before .before .before .before .before .before .before .before .before .before .before .before .before .queue-room in
+    let step-taken = c .before .before .before .before .before .before .before .before .step in
+    let w = wordsOf (given .items .now) (given .starts .now) (given .rows .now) (given .queue .now) in
+    let last = step-taken .last .1 .1 .1 .1 in
+    replaced-place w (items-measured .ensures) (sets-measured .ensures) (queue-measured .ensures)
+    (λ (v : Words). stepped (grammarFrom (given .rules .now) (given .sizes)) (given .table .now) (given .state) v (given .t))
+    (outcomeOf (step-taken .result) (wordsOf (last .0) (last .1 .0) (last .1 .1 .0) (last .1 .1 .1 .0)))
+    (step-taken .ensures)
 
 pub step-within-spec : {M : Type 1} → statement M
 step-within-spec =

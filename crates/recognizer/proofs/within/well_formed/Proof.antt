@@ -1,10 +1,10 @@
 -- `recognizer::within::well_formed` meets its contract: what is told of the cut words is told of those within the capacities.
-use mathlib.Core.Bool.{false≢true}
 use mathlib.Core.Path.{sym}
 use native.Mathlib.Omega.{arith}
 use lib.Seq.{length-take-le}
 use borrow.Author.Needs.{needs}
-use Rattle.recognizer.specs.Steppable.{wordsOf}
+use Rattle.laws.proofs.Decides.{says-no}
+use Rattle.parse.specs.Words.{wordsOf}
 use Rattle.recognizer.proofs.Cutting.{no-room, cut-sets, tells-within}
 use Rattle.recognizer.proofs.within.well_formed.Statement.{statement}
 use Rattle.recognizer.proofs.within.well_formed.Tie as tie
@@ -14,12 +14,9 @@ set-room-requires c κs = search needs
 
 returns : tie.Need-returns
 returns c =
-    let start = c .before .before .before .before .before .before in
-    let words = wordsOf (start .args .items .now) (start .args .starts .now) (start .args .rows .now) (start .args .queue .now) in
-    record {
-      yes = λ e. absurd (false≢true e);
-      nay = λ e. no-room _ _ _ words (omega (arith, c .before .set-room .ensures, c .if1 .taken));
-    }
+    let given = c .before .before .before .before .before .before .args in
+    let words = wordsOf (given .items .now) (given .starts .now) (given .rows .now) (given .queue .now) in
+    says-no (no-room _ _ _ words (omega (arith, c .before .set-room .ensures, c .if1 .taken)))
 
 item-room-requires : tie.Need-item-room-requires
 item-room-requires c κs = search needs
@@ -46,7 +43,8 @@ slice-aggregate-well-formed-2 c =
 
 slice-aggregate-well-formed-3 : tie.Need-slice-aggregate-well-formed-3
 slice-aggregate-well-formed-3 c =
-    sym (length-take-le _ _ (omega (arith, c .before .before .before .before .before .before .set-room .ensures)))
+    let sets-measured = c .before .before .before .before .before .before .set-room in
+    sym (length-take-le _ _ (omega (arith, sets-measured .ensures)))
 
 slice-aggregate-well-formed-4 : tie.Need-slice-aggregate-well-formed-4
 slice-aggregate-well-formed-4 c =
@@ -54,13 +52,18 @@ slice-aggregate-well-formed-4 c =
 
 well-formed-requires : tie.Need-well-formed-requires
 well-formed-requires c κs =
-    (c .before .before .before .before .before .before .before .before .before .before .before .before .pre, cut-sets _ _ _ (c .before .before .before .before .before .before .before .set-room .ensures) (c .before .before .before .before .before .before .if1 .left))
+    let required = c .before .before .before .before .before .before .before .before .before .before .before .before .pre in
+    let sets-measured = c .before .before .before .before .before .before .before .set-room in
+    let room-tested = c .before .before .before .before .before .before .if1 in
+    (required, cut-sets _ _ _ (sets-measured .ensures) (room-tested .left))
 
 returns-2 : tie.Need-returns-2
 returns-2 c =
-    let start = c .before .before .before .before .before .before .before .before .before .before .before .before .before in
-    let words = wordsOf (start .args .items .now) (start .args .starts .now) (start .args .rows .now) (start .args .queue .now) in
-    tells-within _ _ _ words _ _ _ _ (c .before .before .before .before .before .before .item-room .ensures) (c .before .before .before .before .before .before .before .before .set-room .ensures) (c .before .before .before .before .before .queue-room .ensures) (c .well-formed .ensures)
+    let given = c .before .before .before .before .before .before .before .before .before .before .before .before .before .args in
+    let sets-measured = c .before .before .before .before .before .before .before .before .set-room in
+    let items-measured = c .before .before .before .before .before .before .item-room in
+    let words = wordsOf (given .items .now) (given .starts .now) (given .rows .now) (given .queue .now) in
+    tells-within _ _ _ words _ _ _ _ (items-measured .ensures) (sets-measured .ensures) (c .before .before .before .before .before .queue-room .ensures) (c .well-formed .ensures)
 
 pub well-formed-spec : {M : Type 1} → statement M
 well-formed-spec =

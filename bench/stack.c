@@ -1,0 +1,218 @@
+/* How many bytes of stack each call of the static library uses, its arguments and return address among them, and how many the header
+ * says. `bench/stack` builds and runs it. The stack below the caller is painted, and after the call the lowest word without its paint is
+ * looked for. The figure is the most of many calls: on a parse with files cut off, broken, small and the largest there can be, from the
+ * start to the first full buffer; on nodes of every kind and length. Fails where the header says less. x86-64. */
+#include <stdio.h>
+#include <stdlib.h>
+#include <string.h>
+
+#include "brinesaddle.h"
+
+enum { PAINTED_WORDS = 1 << 15, TOKENS = 4096, UNITS = BRINESADDLE_MAX_UNITS };
+
+static const uint64_t PAINT = 0xA5C3965A3C69F00F;
+
+/* The bytes of stack that a call uses. */
+__attribute__((noinline)) static size_t stack_of(void (*call)(void))
+{
+    volatile uint64_t *top, *lowest;
+    __asm__ volatile("mov %%rsp, %0" : "=r"(top));
+    for (volatile uint64_t *word = top - PAINTED_WORDS; word < top; word++)
+        *word = PAINT;
+    call();
+    for (lowest = top - PAINTED_WORDS; *lowest == PAINT;)
+        lowest++;
+    return (size_t)(top - lowest) * sizeof *top;
+}
+
+/* What the calls are made with. */
+static uint8_t file[4096];
+static size_t file_len, set, held, taken, first, count, position, behind;
+static uint32_t items[BRINESADDLE_MAX_ITEM_WORDS], starts[BRINESADDLE_MAX_START_WORDS], queue[BRINESADDLE_MAX_QUEUE_WORDS];
+static uint64_t rows[BRINESADDLE_MAX_ROW_WORDS];
+static uint16_t tokens[TOKENS], store[UNITS];
+static size_t tokens_len;
+static uint32_t yes, node[5], answer;
+
+#define FILE_LENT file, file_len
+#define LENT(words) words, sizeof(words) / sizeof *(words)
+#define WORDS LENT(items), LENT(starts), LENT(rows), LENT(queue)
+
+static void check(void) { answer = brinesaddle_check(FILE_LENT); }
+static void start(void) { answer = brinesaddle_start(FILE_LENT, &set, &held, WORDS); }
+static void token(void) { answer = brinesaddle_token(FILE_LENT, &set, &held, WORDS, tokens[0]); }
+static void run(void) { answer = brinesaddle_run(FILE_LENT, &set, &held, WORDS, tokens, tokens_len, &taken); }
+static void finished(void) { answer = brinesaddle_finished(FILE_LENT, set, held, WORDS, &yes); }
+static void latest_set(void) { answer = brinesaddle_latest_set(FILE_LENT, set, held, WORDS, &first, &count); }
+static void node_write(void) { answer = brinesaddle_node_write(store, UNITS, position, node, &behind); }
+static void node_read(void) { answer = brinesaddle_node_read(store, UNITS, position, node, &behind); }
+static void node_walk(void) { answer = brinesaddle_node_walk(store, UNITS, 0, &count, &behind); }
+
+enum { CHECK, START, TOKEN, RUN, FINISHED, LATEST_SET, NODE_WRITE, NODE_READ, NODE_WALK, CALLS };
+
+static const struct {
+    const char *name;
+    void (*call)(void);
+    size_t said;
+} calls[CALLS] = {
+    [CHECK] = {"check", check, BRINESADDLE_REPORT_STACK},
+    [START] = {"start", start, BRINESADDLE_PARSE_STACK},
+    [TOKEN] = {"token", token, BRINESADDLE_PARSE_STACK},
+    [RUN] = {"run", run, BRINESADDLE_PARSE_STACK},
+    [FINISHED] = {"finished", finished, BRINESADDLE_REPORT_STACK},
+    [LATEST_SET] = {"latest_set", latest_set, BRINESADDLE_REPORT_STACK},
+    [NODE_WRITE] = {"node_write", node_write, BRINESADDLE_NODE_STACK},
+    [NODE_READ] = {"node_read", node_read, BRINESADDLE_NODE_STACK},
+    [NODE_WALK] = {"node_walk", node_walk, BRINESADDLE_NODE_STACK},
+};
+
+static size_t most[CALLS];
+
+/* Makes a call, which has to answer as wanted: a figure of another way through the code would mean nothing. */
+static void measure(int which, uint32_t wanted)
+{
+    size_t bytes = stack_of(calls[which].call);
+    if (answer != wanted) {
+        fprintf(stderr, "%s answered %u in place of %u\n", calls[which].name, answer, wanted);
+        exit(1);
+    }
+    if (bytes > most[which])
+        most[which] = bytes;
+}
+
+/* ------------------------------------------------------------------------------------------------------------------------- Grammars */
+
+static void put(unsigned number)
+{
+    file[file_len++] = (uint8_t)(number >> 8);
+    file[file_len++] = (uint8_t)number;
+}
+
+static void rule(unsigned left, unsigned one, unsigned two)
+{
+    put(left);
+    put(one);
+    put(two);
+}
+
+/* The head of a file. */
+static void head(unsigned symbols, unsigned token_count, unsigned rules)
+{
+    file_len = 0;
+    put(0x0100);
+    put(0);
+    file[file_len - 1] = (uint8_t)((11 + 6 * rules) >> 8);
+    file[file_len++] = (uint8_t)(11 + 6 * rules);
+    put(symbols);
+    put(token_count);
+    put(rules);
+}
+
+/* S ::= S P | num, P ::= plus S. */
+static void small_grammar(void)
+{
+    head(6, 2, 4);
+    rule(4, 2, 5);
+    rule(2, 2, 3);
+    rule(2, 0, 0xFFFF);
+    rule(3, 1, 2);
+}
+
+/* 128 symbols, 512 rules: each nonterminal is token 0, two of itself, or leads to the next. */
+static void largest_grammar(void)
+{
+    head(128, 2, 512);
+    rule(126, 2, 127);
+    for (unsigned left = 2; left < 126; left++) {
+        rule(left, left, left);
+        rule(left, 0, 0xFFFF);
+        rule(left, left < 125 ? left + 1 : 0, left);
+        rule(left, 1, left);
+        if (left < 17)
+            rule(left, 1, 1);
+    }
+}
+
+/* ----------------------------------------------------------------------------------------------------------------------------- Calls */
+
+/* Every call on a parse, each refused alike. */
+static void refused_alike(uint32_t wanted)
+{
+    measure(TOKEN, wanted);
+    measure(RUN, wanted);
+    measure(FINISHED, wanted);
+    measure(LATEST_SET, wanted);
+}
+
+/* Every call with the file at hand, accepted, and tokens of which the long run is refused with `full`. */
+static void parses(uint32_t full)
+{
+    measure(CHECK, BRINESADDLE_DONE);
+    measure(START, BRINESADDLE_DONE);
+    measure(TOKEN, BRINESADDLE_DONE);
+    measure(FINISHED, BRINESADDLE_DONE);
+    measure(START, BRINESADDLE_DONE);
+    measure(RUN, full);
+    measure(FINISHED, BRINESADDLE_DONE);
+    measure(LATEST_SET, BRINESADDLE_DONE);
+    starts[0] = 1;
+    refused_alike(BRINESADDLE_ILL_FORMED);
+    starts[0] = 0;
+    file_len--;
+    measure(CHECK, BRINESADDLE_MALFORMED);
+    measure(START, BRINESADDLE_MALFORMED);
+    refused_alike(BRINESADDLE_MALFORMED);
+    file_len++;
+    memcpy(file + file_len - 6, file + file_len - 12, 6);
+    measure(CHECK, BRINESADDLE_BROKEN);
+    measure(START, BRINESADDLE_BROKEN);
+    refused_alike(BRINESADDLE_BROKEN);
+}
+
+/* A node of each row of document 01's table at position 300, and one unfit. */
+static void nodes(void)
+{
+    static const uint32_t fit[][5] = {
+        {BRINESADDLE_SUM, 31, 255, 0, 0},         {BRINESADDLE_SUM, 1 << 20, 1 << 20, 0, 0},
+        {BRINESADDLE_PRODUCT, 9, 290, 0, 0},      {BRINESADDLE_PRODUCT, 9, 200, 0, 0},
+        {BRINESADDLE_PRODUCT, 9, 200, 1, 290},    {BRINESADDLE_PRODUCT, 1 << 20, 1 << 20, 1, 1 << 20},
+        {BRINESADDLE_NULLING_LEAF, 7, 0, 0, 0},   {BRINESADDLE_NULLING_LEAF, 1 << 20, 0, 0, 0},
+        {BRINESADDLE_EVALUATED, 7, 0, 0, 0},      {BRINESADDLE_EVALUATED, 1 << 20, 0, 0, 0},
+    };
+    position = 300;
+    for (size_t k = 0; k < sizeof fit / sizeof *fit; k++) {
+        memset(store, 0xFF, sizeof store);
+        memcpy(node, fit[k], sizeof node);
+        measure(NODE_WRITE, BRINESADDLE_DONE);
+        measure(NODE_READ, BRINESADDLE_DONE);
+        measure(NODE_WALK, BRINESADDLE_DONE);
+    }
+    node[0] = 4;
+    measure(NODE_WRITE, BRINESADDLE_UNFIT);
+    memset(store, 0, sizeof store);
+    measure(NODE_WALK, BRINESADDLE_DONE);
+    store[UNITS - 1] = 0xF000;
+    measure(NODE_WALK, BRINESADDLE_NO_NODE);
+    position = UNITS - 1;
+    measure(NODE_READ, BRINESADDLE_NO_NODE);
+    node[0] = BRINESADDLE_EVALUATED, node[1] = 1 << 20;
+    measure(NODE_WRITE, BRINESADDLE_NO_ROOM);
+}
+
+int main(void)
+{
+    for (tokens_len = 0; tokens_len < TOKENS; tokens_len++)
+        tokens[tokens_len] = tokens_len % 2;
+    small_grammar();
+    parses(BRINESADDLE_QUEUE_FULL);
+    memset(tokens, 0, sizeof tokens);
+    largest_grammar();
+    parses(BRINESADDLE_QUEUE_FULL);
+    nodes();
+    int less = 0;
+    for (int which = 0; which < CALLS; which++) {
+        printf("%-10s %6zu, header %6zu\n", calls[which].name, most[which], calls[which].said);
+        less |= calls[which].said < most[which];
+    }
+    return less;
+}

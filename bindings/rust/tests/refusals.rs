@@ -1,0 +1,65 @@
+//! Each refusal is an error that tells a person what is the matter, and its number: `cargo test`.
+use brinesaddle::{check, read_node, walk_nodes, write_node, Node, Parse, Refusal, State, Words};
+use std::error::Error;
+
+/// Document 01's grammar A: S ::= S P | num, P ::= plus S.
+const GRAMMAR: [u8; 35] = [
+    1, 0, 0, 0, 0x23, 0, 6, 0, 2, 0, 4, 0, 4, 0, 2, 0, 5, 0, 2, 0, 2, 0, 3, 0, 2, 0, 0, 0xFF, 0xFF, 0, 3, 0, 1, 0, 2,
+];
+
+/// The error of a run from the start in words of this size, and how many tokens were taken before it.
+fn run(items: usize, sets: usize, queue: usize, tokens: &[u16]) -> (usize, Refusal) {
+    let mut words = Words::new(items, sets, queue);
+    let ran = Parse::start(&GRAMMAR, words.lend()).expect("there is room for a set").run(tokens);
+    (ran.taken, ran.answer.expect_err("the run is refused"))
+}
+
+fn text(refusal: Refusal) -> String {
+    let error: Box<dyn Error> = refusal.into();
+    error.to_string()
+}
+
+#[test]
+fn of_a_grammar() {
+    let malformed = check(&GRAMMAR[1..]).unwrap_err();
+    assert_eq!(text(malformed), "the file is no grammar file of version 1, or its length is not what it says (refusal 1)");
+    let mut broken = GRAMMAR;
+    broken[34] = 9;
+    assert_eq!(text(check(&broken).unwrap_err()), "the grammar breaks a rule for grammars (refusal 2)");
+}
+
+#[test]
+fn of_a_parse() {
+    let none = Parse::start(&GRAMMAR, Words::new(8, 0, 8).lend()).err().expect("there is no room");
+    assert_eq!(text(none), "there is no room for a set (refusal 3)");
+    let mut words = Words::new(8, 8, 8);
+    let forged = Parse::resume(&GRAMMAR, words.lend(), State { set: 3, items: 9 }).finished().unwrap_err();
+    assert_eq!(text(forged), "the state is not well formed in these words under this grammar (refusal 4)");
+    assert_eq!(text(run(8, 8, 8, &[2]).1), "the grammar has no such token (refusal 5)");
+    assert_eq!(text(run(8, 8, 8, &[1]).1), "no sentence goes on with this token (refusal 6)");
+    assert_eq!(text(run(2, 8, 8, &[0]).1), "there is no room for another item (refusal 7)");
+    assert_eq!(text(run(8, 8, 0, &[0]).1), "there is no room for another queue entry (refusal 8)");
+    assert_eq!(text(run(8, 1, 8, &[0]).1), "there is no room for another set (refusal 9)");
+}
+
+#[test]
+fn a_run_keeps_the_tokens_before_the_refused_one() {
+    let mut words = Words::new(64, 16, 16);
+    let mut parse = Parse::start(&GRAMMAR, words.lend()).expect("there is room");
+    let ran = parse.run(&[0, 1, 0, 0]);
+    assert_eq!((ran.taken, ran.answer), (3, Err(Refusal::NotPredicted)));
+    assert_eq!((parse.state().set, parse.finished()), (3, Ok(true)));
+}
+
+#[test]
+fn of_a_node() {
+    let mut store = [0xFFFF, 0, 0xF000, 0];
+    let unfit = write_node(&mut store, 0, Node::Sum { count: 1 << 28, nonterminal: 0 }).unwrap_err();
+    assert_eq!(text(unfit), "a value is too large for a node (refusal 10)");
+    let no_room = write_node(&mut store, 4, Node::Evaluated { symbol: 0 }).unwrap_err();
+    assert_eq!(text(no_room), "the node does not fit the store from its position (refusal 11)");
+    assert_eq!(text(read_node(&store, 2).unwrap_err()), "the units at the position are no node (refusal 12)");
+    assert_eq!(store, [0xFFFF, 0, 0xF000, 0]);
+    let walked = walk_nodes(&store, 0);
+    assert_eq!((walked.nodes, walked.behind, walked.answer), (1, 2, Err(Refusal::NoNode)));
+}

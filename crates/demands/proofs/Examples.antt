@@ -1,0 +1,215 @@
+-- Histories that there are: grammar A reads "0 1 0", and grammar B reads "0 1 2" and drops a set.
+use mathlib.Core.Path.{_≡_, refl}
+use mathlib.Core.List.{List, [], _∷_}
+use Prim.Native.Nat.{ℕ, _+_, _*_, _≤_}
+use native.Mathlib.Omega.{arith}
+use lib.ListN.{length, replicate}
+use Rattle.laws.specs.Bits.{union}
+use Rattle.laws.specs.Records as records
+use Rattle.laws.specs.Turns.{over, until}
+use Rattle.binary_heap.specs.Sift.{move, goesUp, rise, siftUp, takesRight, child, goesDown, sink, siftDown}
+use Rattle.binary_heap.specs.Heap.{pushed, popped}
+use Rattle.binary_heap.specs.Words.{pushWords, popWords}
+use Rattle.bits.specs.Width.{rowWords}
+use Rattle.grammar.specs.Rules.{Rule, Grammar, none}
+use Rattle.grammar.specs.Sentences.{Sentence, Begins}
+use Rattle.grammar.specs.Accepted.{Accepted}
+use Rattle.grammar.specs.Prediction.{Predicts}
+use Rattle.grammar.specs.File.{Malformed, headerBytes, ruleBytes, versionOf, lengthOf, ruleCountOf, rulesFrom, grammarOf}
+use Rattle.parse.specs.declared.State.{State}
+use Rattle.parse.specs.Words.{Words}
+use Rattle.completion.specs.Pass.{andThen, store, enqueue}
+use Rattle.completion.specs.Complete.{completeMedial, completeMedialItems, completeUnary, completeUnaryPredictions, completeBinary, completeBinaryPredictions, complete}
+use Rattle.completion.specs.Sums.{nextSummand, popSum, completeSum, completeAllSums}
+use Rattle.advance.specs.NewItems.{itemsFrom, insert, sortInto, binary}
+use Rattle.advance.specs.Advance.{highest, greatestOrigin, predictions}
+use Rattle.demands.specs.Steps.{Ended, advanced, stepped, ran}
+use Rattle.demands.specs.Calls.{Sound, asItWas, Starts, Takes, Runs, Finishes}
+use Rattle.demands.specs.Histories.{History}
+use Rattle.demands.proofs.Again.{Reading, reading-start, reading-on}
+use Rattle.demands.proofs.Telling.{token-tells, finished-tells}
+use Rattle.demands.proofs.Computed.{every, some, yields, passes-accepted}
+use Rattle.demands.proofs.Tabled.{rowsOf, tableOf, leads, tabulates-predicts}
+
+-- A file with the right lengths is not malformed.
+whole : (file : List ℕ) → headerBytes ≤ length file → versionOf file ≡ 1 → lengthOf file ≡ length file → lengthOf file ≡ headerBytes + ruleBytes * ruleCountOf file
+    → Malformed file → ⊥
+whole file long first real told (Malformed.short l) = omega arith
+whole file long first real told (Malformed.version n) = n first
+whole file long first real told (Malformed.real-length n) = n real
+whole file long first real told (Malformed.told-length n) = n told
+
+abbrev pub state : ℕ → ℕ → State
+state set items = record { set = set; items = items }
+
+abbrev rule : ℕ → ℕ → ℕ → Rule
+rule left first second = record { left = left; first = first; second = second }
+
+-- Grammar A: its file, its rules, and the words of its table.
+abbrev pub file-a : List ℕ
+file-a = 1 ∷ 0 ∷ 0 ∷ 0 ∷ 35 ∷ 0 ∷ 6 ∷ 0 ∷ 2 ∷ 0 ∷ 4 ∷ 0 ∷ 4 ∷ 0 ∷ 2 ∷ 0 ∷ 5 ∷ 0 ∷ 2 ∷ 0 ∷ 2 ∷ 0 ∷ 3 ∷ 0 ∷ 2 ∷ 0 ∷ 0 ∷ 255 ∷ 255 ∷ 0 ∷ 3 ∷ 0 ∷ 1 ∷ 0 ∷ 2 ∷ []
+
+abbrev pub grammar-a : Grammar
+grammar-a = record { symbols = 6; tokens = 2; rules = rule 4 2 5 ∷ rule 2 2 3 ∷ rule 2 0 none ∷ rule 3 1 2 ∷ [] }
+
+abbrev pub rows-a : List ℕ
+rows-a = 1 ∷ 2 ∷ 5 ∷ 10 ∷ 21 ∷ 32 ∷ []
+
+accepted-a : Accepted grammar-a
+unfolding every some yields
+accepted-a = passes-accepted grammar-a (record {
+  a-token = refl;
+  room = refl;
+  few-symbols = refl;
+  a-rule = refl;
+  few-rules = refl;
+  wraps = refl;
+  ends-wrap = refl;
+  starts = refl;
+  lefts = refl;
+  firsts = refl;
+  seconds = refl;
+  adjacents = refl;
+  distincts = refl;
+  unary-belows = refl;
+  productives = refl;
+})
+
+predicts-a : Predicts grammar-a rowWords (tableOf rows-a)
+unfolding every some leads
+predicts-a = tabulates-predicts grammar-a rows-a accepted-a (record { wide = refl; small = refl; low = refl; own = refl; led = refl; closed = refl })
+
+pub sound-a : Sound file-a grammar-a (tableOf rows-a)
+unfolding rulesFrom
+sound-a = record { checked = record { whole = whole file-a (omega arith) refl refl refl; is = refl; accepted = accepted-a }; predicts = predicts-a }
+
+abbrev pub words-a0 : Words
+words-a0 = record { items = 0 ∷ 0 ∷ 0 ∷ 0 ∷ 0 ∷ 0 ∷ 0 ∷ 0 ∷ 0 ∷ 0 ∷ 0 ∷ 0 ∷ 0 ∷ 0 ∷ 0 ∷ 0 ∷ []; starts = 0 ∷ 0 ∷ 0 ∷ 0 ∷ 0 ∷ []; rows = 21 ∷ 0 ∷ 0 ∷ 0 ∷ 0 ∷ 0 ∷ 0 ∷ 0 ∷ []; queue = 0 ∷ 0 ∷ 0 ∷ 0 ∷ [] }
+
+abbrev pub words-a1 : Words
+words-a1 = record { items = 0 ∷ 1 ∷ 0 ∷ 0 ∷ 0 ∷ 0 ∷ 0 ∷ 0 ∷ 0 ∷ 0 ∷ 0 ∷ 0 ∷ 0 ∷ 0 ∷ 0 ∷ 0 ∷ []; starts = 0 ∷ 0 ∷ 2 ∷ 0 ∷ 0 ∷ []; rows = 21 ∷ 0 ∷ 42 ∷ 0 ∷ 0 ∷ 0 ∷ 0 ∷ 0 ∷ []; queue = 0 ∷ 0 ∷ 0 ∷ 0 ∷ [] }
+
+abbrev words-a2 : Words
+words-a2 = record { items = 0 ∷ 1 ∷ 0 ∷ 0 ∷ 1 ∷ 3 ∷ 0 ∷ 0 ∷ 0 ∷ 0 ∷ 0 ∷ 0 ∷ 0 ∷ 0 ∷ 0 ∷ 0 ∷ []; starts = 0 ∷ 0 ∷ 2 ∷ 3 ∷ 0 ∷ []; rows = 21 ∷ 0 ∷ 42 ∷ 0 ∷ 5 ∷ 0 ∷ 0 ∷ 0 ∷ []; queue = 0 ∷ 0 ∷ 0 ∷ 0 ∷ [] }
+
+abbrev pub words-a3 : Words
+words-a3 = record { items = 0 ∷ 1 ∷ 0 ∷ 0 ∷ 1 ∷ 3 ∷ 0 ∷ 1 ∷ 2 ∷ 1 ∷ 0 ∷ 0 ∷ 0 ∷ 0 ∷ 0 ∷ 0 ∷ []; starts = 0 ∷ 0 ∷ 2 ∷ 3 ∷ 6 ∷ []; rows = 21 ∷ 0 ∷ 42 ∷ 0 ∷ 5 ∷ 0 ∷ 42 ∷ 0 ∷ []; queue = 0 ∷ 0 ∷ 0 ∷ 0 ∷ [] }
+
+-- Words that were anything else before.
+abbrev pub old-a : Words
+old-a = record { items = replicate 16 9; starts = replicate 5 9; rows = replicate 8 9; queue = replicate 4 9 }
+
+pub began-a : Starts file-a (state 7 7) old-a (asItWas 0 (state 0 0) words-a0)
+unfolding rowsOf
+began-a = Starts.done sound-a (omega arith)
+
+-- What a parse of A may go on from.
+abbrev Reads : State → Words → List ℕ → Type 0
+Reads = Reading file-a grammar-a (tableOf rows-a)
+
+pub start-a : Reads (state 0 0) words-a0 []
+unfolding rowsOf
+start-a = reading-start (state 7 7) old-a sound-a (omega arith) refl
+
+pub one-a : Reads (state 1 2) words-a1 (0 ∷ [])
+unfolding advanced stepped ran andThen store enqueue completeMedial completeMedialItems completeUnary completeUnaryPredictions completeBinary completeBinaryPredictions complete nextSummand popSum completeSum completeAllSums over until union records.flat highest greatestOrigin predictions itemsFrom insert sortInto binary pushWords popWords pushed popped move goesUp rise siftUp takesRight child goesDown sink siftDown rowsOf
+one-a = reading-on start-a 0 refl
+
+-- A READS "0 1 0".
+pub read-a : Reads (state 3 6) words-a3 (0 ∷ 1 ∷ 0 ∷ [])
+unfolding advanced stepped ran andThen store enqueue completeMedial completeMedialItems completeUnary completeUnaryPredictions completeBinary completeBinaryPredictions complete nextSummand popSum completeSum completeAllSums over until union records.flat highest greatestOrigin predictions itemsFrom insert sortInto binary pushWords popWords pushed popped move goesUp rise siftUp takesRight child goesDown sink siftDown rowsOf
+read-a = reading-on (reading-on {s′ = state 2 3} {w′ = words-a2} one-a 1 refl) 0 refl
+
+-- So it is a sentence, since finished says yes;
+pub sentence-a : Sentence (grammarOf file-a) (0 ∷ 1 ∷ 0 ∷ [])
+sentence-a = finished-tells (Finishes.done (record { checked = sound-a .checked; well-formed = read-a .ready .well-formed })) .sentences (0 ∷ 1 ∷ 0 ∷ []) (read-a .history) .sentence .0 refl
+
+-- and no sentence begins with "0 0", since the second is answered 6.
+pub none-a : Begins (grammarOf file-a) (0 ∷ 0 ∷ []) → ⊥
+unfolding stepped
+none-a = token-tells {t = 0} (Takes.done (one-a .ready)) .sentences (0 ∷ []) (one-a .history) (omega arith) .impossible .0 refl
+
+-- The same in one run, and a run of its first token alone.
+abbrev pub ended : State → Words → ℕ → Ended
+ended s w taken = record { outcome = asItWas 0 s w; taken = taken }
+
+pub run-a : Runs file-a (state 0 0) words-a0 (0 ∷ 1 ∷ 0 ∷ []) (ended (state 3 6) words-a3 3)
+unfolding advanced stepped ran andThen store enqueue completeMedial completeMedialItems completeUnary completeUnaryPredictions completeBinary completeBinaryPredictions complete nextSummand popSum completeSum completeAllSums over until union records.flat highest greatestOrigin predictions itemsFrom insert sortInto binary pushWords popWords pushed popped move goesUp rise siftUp takesRight child goesDown sink siftDown rowsOf
+run-a = Runs.done (start-a .ready)
+
+pub run-one-a : Runs file-a (state 0 0) words-a0 (0 ∷ []) (ended (state 1 2) words-a1 1)
+unfolding advanced stepped ran andThen store enqueue completeMedial completeMedialItems completeUnary completeUnaryPredictions completeBinary completeBinaryPredictions complete nextSummand popSum completeSum completeAllSums over until union records.flat highest greatestOrigin predictions itemsFrom insert sortInto binary pushWords popWords pushed popped move goesUp rise siftUp takesRight child goesDown sink siftDown rowsOf
+run-one-a = Runs.done (start-a .ready)
+
+-- Grammar B: its file, its rules, and the words of its table.
+abbrev pub file-b : List ℕ
+file-b = 1 ∷ 0 ∷ 0 ∷ 0 ∷ 41 ∷ 0 ∷ 8 ∷ 0 ∷ 3 ∷ 0 ∷ 5 ∷ 0 ∷ 6 ∷ 0 ∷ 3 ∷ 0 ∷ 7 ∷ 0 ∷ 3 ∷ 0 ∷ 3 ∷ 0 ∷ 4 ∷ 0 ∷ 3 ∷ 0 ∷ 4 ∷ 255 ∷ 255 ∷ 0 ∷ 4 ∷ 0 ∷ 0 ∷ 0 ∷ 5 ∷ 0 ∷ 5 ∷ 0 ∷ 1 ∷ 0 ∷ 2 ∷ []
+
+abbrev pub grammar-b : Grammar
+grammar-b = record { symbols = 8; tokens = 3; rules = rule 6 3 7 ∷ rule 3 3 4 ∷ rule 3 4 none ∷ rule 4 0 5 ∷ rule 5 1 2 ∷ [] }
+
+abbrev pub rows-b : List ℕ
+rows-b = 1 ∷ 2 ∷ 4 ∷ 25 ∷ 17 ∷ 34 ∷ 89 ∷ 128 ∷ []
+
+accepted-b : Accepted grammar-b
+unfolding every some yields
+accepted-b = passes-accepted grammar-b (record {
+  a-token = refl;
+  room = refl;
+  few-symbols = refl;
+  a-rule = refl;
+  few-rules = refl;
+  wraps = refl;
+  ends-wrap = refl;
+  starts = refl;
+  lefts = refl;
+  firsts = refl;
+  seconds = refl;
+  adjacents = refl;
+  distincts = refl;
+  unary-belows = refl;
+  productives = refl;
+})
+
+predicts-b : Predicts grammar-b rowWords (tableOf rows-b)
+unfolding every some leads
+predicts-b = tabulates-predicts grammar-b rows-b accepted-b (record { wide = refl; small = refl; low = refl; own = refl; led = refl; closed = refl })
+
+pub sound-b : Sound file-b grammar-b (tableOf rows-b)
+unfolding rulesFrom
+sound-b = record { checked = record { whole = whole file-b (omega arith) refl refl refl; is = refl; accepted = accepted-b }; predicts = predicts-b }
+
+abbrev words-b0 : Words
+words-b0 = record { items = 0 ∷ 0 ∷ 0 ∷ 0 ∷ 0 ∷ 0 ∷ 0 ∷ 0 ∷ 0 ∷ 0 ∷ 0 ∷ 0 ∷ []; starts = 0 ∷ 0 ∷ 0 ∷ 0 ∷ []; rows = 89 ∷ 0 ∷ 0 ∷ 0 ∷ 0 ∷ 0 ∷ []; queue = 0 ∷ 0 ∷ [] }
+
+abbrev pub words-b3 : Words
+words-b3 = record { items = 0 ∷ 3 ∷ 0 ∷ 1 ∷ 0 ∷ 0 ∷ 0 ∷ 0 ∷ 0 ∷ 0 ∷ 0 ∷ 0 ∷ []; starts = 0 ∷ 0 ∷ 1 ∷ 3 ∷ []; rows = 89 ∷ 0 ∷ 0 ∷ 0 ∷ 145 ∷ 0 ∷ []; queue = 0 ∷ 0 ∷ [] }
+
+-- Words that were anything else before.
+abbrev old-b : Words
+old-b = record { items = replicate 12 9; starts = replicate 4 9; rows = replicate 6 9; queue = replicate 2 9 }
+
+start-b : Reading file-b grammar-b (tableOf rows-b) (state 0 0) words-b0 []
+unfolding rowsOf
+start-b = reading-start (state 7 7) old-b sound-b (omega arith) refl
+
+-- B READS "0 1 2" IN ONE RUN, and drops a set: three tokens, and the latest set is set 2.
+pub read-b : History file-b (state 2 3) words-b3 (0 ∷ 1 ∷ 2 ∷ [])
+unfolding advanced stepped ran andThen store enqueue completeMedial completeMedialItems completeUnary completeUnaryPredictions completeBinary completeBinaryPredictions complete nextSummand popSum completeSum completeAllSums over until union records.flat highest greatestOrigin predictions itemsFrom insert sortInto binary pushWords popWords pushed popped move goesUp rise siftUp takesRight child goesDown sink siftDown rowsOf
+read-b = History.run {us = 0 ∷ 1 ∷ 2 ∷ []} (start-b .history) (Runs.done (start-b .ready))
+
+-- A START IN THE MIDDLE BEGINS ANEW: over the words that B's parse left, "0 1" is read and a second 0 is answered 6. No sentence begins so.
+abbrev words-b1 : Words
+words-b1 = record { items = 0 ∷ 3 ∷ 0 ∷ 0 ∷ 0 ∷ 0 ∷ 0 ∷ 0 ∷ 0 ∷ 0 ∷ 0 ∷ 0 ∷ []; starts = 0 ∷ 0 ∷ 1 ∷ 0 ∷ []; rows = 89 ∷ 0 ∷ 34 ∷ 0 ∷ 0 ∷ 0 ∷ []; queue = 0 ∷ 0 ∷ [] }
+
+abbrev words-b2 : Words
+words-b2 = record { items = 0 ∷ 3 ∷ 1 ∷ 4 ∷ 0 ∷ 0 ∷ 0 ∷ 0 ∷ 0 ∷ 0 ∷ 0 ∷ 0 ∷ []; starts = 0 ∷ 0 ∷ 1 ∷ 2 ∷ []; rows = 89 ∷ 0 ∷ 34 ∷ 0 ∷ 4 ∷ 0 ∷ []; queue = 0 ∷ 0 ∷ [] }
+
+again-b : Reading file-b grammar-b (tableOf rows-b) (state 2 2) words-b2 (0 ∷ 1 ∷ [])
+unfolding advanced stepped ran andThen store enqueue completeMedial completeMedialItems completeUnary completeUnaryPredictions completeBinary completeBinaryPredictions complete nextSummand popSum completeSum completeAllSums over until union records.flat highest greatestOrigin predictions itemsFrom insert sortInto binary pushWords popWords pushed popped move goesUp rise siftUp takesRight child goesDown sink siftDown rowsOf
+again-b =
+    reading-on (reading-on {s′ = state 1 1} {w′ = words-b1} (reading-start {s′ = state 0 0} {w′ = words-b0} (state 2 3) words-b3 sound-b (omega arith) refl) 0 refl) 1 refl
+
+pub none-b : Begins (grammarOf file-b) (0 ∷ 1 ∷ 0 ∷ []) → ⊥
+unfolding stepped
+none-b = token-tells {t = 0} (Takes.done (again-b .ready)) .sentences (0 ∷ 1 ∷ []) (again-b .history) (omega arith) .impossible .0 refl

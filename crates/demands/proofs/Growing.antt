@@ -1,0 +1,164 @@
+-- What the steps of a pass add: places to the queue, and items behind those that are there.
+use mathlib.Core.Path.{_≡_, refl, sym, ap, _∙_, subst}
+use mathlib.Core.Logic.{_⊎_, inl, inr}
+use Prim.Native.Nat.{ℕ, zero, suc, _+_, _<_}
+use native.Mathlib.Decide.{decLt, ℕ-discrete}
+use native.Mathlib.Omega.{arith}
+use lib.ListN.{getD}
+use lib.Dec.{eqb}
+use borrow.Author.Tests.{eqb-true, eq-eqb, ne-eqb}
+use Rattle.laws.specs.Counts.{once, count}
+use Rattle.laws.specs.Turns.{over}
+use Rattle.laws.proofs.Counts.{Passes, found}
+use Rattle.item.specs.Item.{Item, itemAt, keyAt}
+use Rattle.binary_heap.proofs.PushLaws.{pushed-counts}
+use Rattle.binary_heap.proofs.PopLaws.{popped-counts}
+use Rattle.parse.specs.declared.State.{State}
+use Rattle.completion.specs.Pass.{Pass, andThen, store, enqueue}
+use Rattle.completion.specs.Sums.{nextSummand}
+use Rattle.completion.specs.inner.Ready.{PassFits}
+use Rattle.completion.proofs.Pushes.{goes-on, stays}
+use Rattle.completion.proofs.Entries.{entriesOf, queuedPass, poppedPass, store-cases, enqueue-cases, next-is, entry-at, some-entries, queued-entries, popped-entries}
+use Rattle.completion.proofs.Onward.{Onward, onward-refl, onward-trans, onward-store, onward-enqueue}
+use Rattle.completion.proofs.Heaped.{sound-entries}
+use Rattle.demands.proofs.Chart.{New}
+
+-- Place `p` is an entry of the queue.
+pub record IsEntry (s : Pass) (p : ℕ) : Type 0 where
+  pub counted : 0 < count (eqb p) (entriesOf s)
+
+-- A store leaves the entries.
+pub entry-store : (origin rule : ℕ) (s : Pass) (p : ℕ) → IsEntry s p → IsEntry (store origin rule s) p
+entry-store origin rule s p entry =
+    store-cases (λ (t : Pass). IsEntry t p) s origin rule (λ place. record { counted = entry .counted }) (record { counted = entry .counted })
+
+module _ (s : Pass) (sound : PassFits s) where
+  -- An entry is a place of an item.
+  pub entry-place : (p : ℕ) → IsEntry s p → p < s .at .items
+  entry-place p entry =
+      let at : Passes (eqb p) (entriesOf s) 0 = found (eqb p) (entriesOf s) 0 (entry .counted) in
+      subst (λ (n : ℕ). n < s .at .items) (sym (eqb-true p (getD (entriesOf s) (at .place) 0) (at .passes)))
+      (sound-entries s sound .each (at .place) (at .within))
+
+  queued-counts : (place p : ℕ) → count (eqb p) (entriesOf (queuedPass place s)) ≡ count (eqb p) (entriesOf s) + once (eqb p place)
+  queued-counts place p =
+      ap (count (eqb p)) (queued-entries s (sound .queued-fit) place) ∙ pushed-counts (keyAt (s .items)) (entriesOf s) place (eqb p)
+
+  -- A push leaves the entries that are there,
+  pub entry-enqueue : (place p : ℕ) → IsEntry s p → IsEntry (enqueue place s) p
+  entry-enqueue place p entry =
+      enqueue-cases (λ (t : Pass). IsEntry t p) s place (λ free. record { counted = omega (arith, queued-counts place p, entry .counted) })
+      (record { counted = entry .counted })
+
+  -- and one that is not refused adds its own.
+  pub entry-new : (place : ℕ) → enqueue place s .at .stopped ≡ 0 → IsEntry (enqueue place s) place
+  entry-new place =
+      enqueue-cases (λ (t : Pass). t .at .stopped ≡ 0 → IsEntry t place) s place
+      (λ free on. record { counted = omega (arith, queued-counts place place, ap once (eq-eqb place place refl)) }) (λ on. absurd (omega arith))
+
+  -- A pop takes away the greatest, and no other.
+  pub entry-next : 0 < s .at .queued → (p : ℕ) → IsEntry s p → (p ≡ getD (s .queue) 0 0) ⊎ IsEntry (nextSummand s) p
+  entry-next some p entry =
+      elim (ℕ-discrete p (getD (s .queue) 0 0)) [
+        | yes top ↦ inl top
+        | no other ↦ inr (next-is (λ (t : Pass). IsEntry t p) s some (record { counted = left other }))
+      ]
+    where
+      left : (p ≡ getD (s .queue) 0 0 → ⊥) → 0 < count (eqb p) (entriesOf (poppedPass s))
+      left other =
+          let first : getD (entriesOf s) 0 0 ≡ getD (s .queue) 0 0 = entry-at s (sound .queued-fit) 0 some in
+          omega (
+            arith,
+            entry .counted,
+            ap (count (eqb p)) (popped-entries s (sound .queued-fit) some),
+            popped-counts (keyAt (s .items)) (entriesOf s) (some-entries s (sound .queued-fit) some) (eqb p),
+            ap once (ne-eqb p (getD (entriesOf s) 0 0) (λ same. other (same ∙ first))),
+          )
+
+-- Item `i` is queued.
+pub record Queued (s : Pass) (i : Item) : Type 0 where
+  pub place : ℕ
+  pub entry : IsEntry s place
+  pub is : itemAt (s .items) place ≡ i
+
+-- Pass `t` has the items and the entries of pass `s`.
+pub record Grows (s t : Pass) : Type 0 where
+  pub onward : Onward s t
+  pub entries : (p : ℕ) → IsEntry s p → IsEntry t p
+
+pub grows-refl : (s : Pass) → Grows s s
+grows-refl s = record { onward = onward-refl s; entries = λ p entry. entry }
+
+pub grows-trans : {s t u : Pass} → Grows s t → Grows t u → Grows s u
+grows-trans a b = record { onward = onward-trans (a .onward) (b .onward); entries = λ p entry. b .entries p (a .entries p entry) }
+
+pub grows-store : (origin rule : ℕ) (s : Pass) → Grows s (store origin rule s)
+grows-store origin rule s = record { onward = onward-store origin rule s; entries = entry-store origin rule s }
+
+pub grows-enqueue : (place : ℕ) (s : Pass) → PassFits s → Grows s (enqueue place s)
+grows-enqueue place s sound = record { onward = onward-enqueue place s (sound .queued-fit); entries = entry-enqueue s sound place }
+
+-- What is queued stays queued, and what was stored stays stored.
+pub queued-grows : {s t : Pass} {i : Item} → PassFits s → Grows s t → Queued s i → Queued t i
+queued-grows {s} {t} {i} sound grows queued =
+    record {
+      place = queued .place;
+      entry = grows .entries (queued .place) (queued .entry);
+      is = grows .onward .same-items (queued .place) (entry-place s sound (queued .place) (queued .entry)) ∙ queued .is;
+    }
+
+pub new-grows : {st : State} {s t : Pass} {o r : ℕ} → Grows s t → New st s o r → New st t o r
+new-grows {st} {s} {t} {o} {r} grows new =
+    let same : itemAt (t .items) (new .place) ≡ itemAt (s .items) (new .place) = grows .onward .same-items (new .place) (new .before) in
+    record {
+      place = new .place;
+      behind = new .behind;
+      before = omega (arith, new .before, grows .onward .more-items);
+      origin = ap (λ (i : Item). i .origin) same ∙ new .origin;
+      rule = ap (λ (i : Item). i .rule) same ∙ new .rule;
+    }
+
+-- A step from pass `s` to pass `t`: it keeps `K`, adds only, and where it was not refused it brings `N`.
+pub record Step (K N : Pass → Type 0) (s t : Pass) : Type 0 where
+  pub kept : K t
+  pub grows : Grows s t
+  pub before : t .at .stopped ≡ 0 → s .at .stopped ≡ 0
+  pub brings : t .at .stopped ≡ 0 → N t
+
+pub step-skips : {K N : Pass → Type 0} (s : Pass) → K s → (s .at .stopped ≡ 0 → N s) → Step K N s s
+step-skips s kept brings = record { kept = kept; grows = grows-refl s; before = λ on. on; brings = brings }
+
+-- Nothing is asked of a pass that was refused.
+pub step-then : {K N : Pass → Type 0} (s : Pass) (next : Pass → Pass) → K s → (s .at .stopped ≡ 0 → Step K N s (next s)) → Step K N s (andThen s next)
+step-then {K} {N} s next kept goes =
+    elim (ℕ-discrete (s .at .stopped) 0) [
+      | yes on ↦ subst (Step K N s) (sym (goes-on s next on)) (goes on)
+      | no off ↦ subst (Step K N s) (sym (stays s next off)) (step-skips s kept (λ on. absurd (off on)))
+    ]
+
+pub step-brings : {K N M : Pass → Type 0} {s t : Pass} → Step K N s t → (N t → M t) → Step K M s t
+step-brings step f = record { kept = step .kept; grows = step .grows; before = step .before; brings = λ on. f (step .brings on) }
+
+-- Steps one behind the other bring what each brings, where that stays.
+pub over-steps : (K : Pass → Type 0) (N : ℕ → Pass → Type 0) → ((i : ℕ) (s t : Pass) → K s → Grows s t → N i s → N i t)
+    → (n : ℕ) (turn : ℕ → Pass → Pass) → ((i : ℕ) (s : Pass) → i < n → K s → Step K (N i) s (turn i s)) → (s : Pass) → K s
+    → Step K (λ t. (i : ℕ) → i < n → N i t) s (over n turn s)
+unfolding over
+over-steps K N stays-so zero turn step s kept = step-skips s kept (λ on i there. absurd (omega arith))
+over-steps K N stays-so (suc n) turn step s kept =
+    let first : Step K (λ t. (i : ℕ) → i < n → N i t) s (over n turn s) =
+    over-steps K N stays-so n turn (λ i u there. step i u (omega arith)) s kept in
+    let last : Step K (N n) (over n turn s) (turn n (over n turn s)) = step n (over n turn s) (omega arith) (first .kept) in
+    record {
+      kept = last .kept;
+      grows = grows-trans (first .grows) (last .grows);
+      before = λ on. first .before (last .before on);
+      brings = λ on i there.
+          elim (decLt i n) [
+            | yes earlier ↦
+                stays-so i (over n turn s) (turn n (over n turn s)) (first .kept) (last .grows) (first .brings (last .before on) i earlier)
+            | no late ↦
+                (let is : n ≡ i = omega arith in
+                subst (λ (j : ℕ). N j (turn n (over n turn s))) is (last .brings on))
+          ];
+    }

@@ -1,0 +1,25 @@
+-- Laws on the steps of a token and on histories.
+pub mod Chart
+pub mod Growing
+pub mod Following
+pub mod Popping
+pub mod Exact
+pub mod Cut
+pub mod Tables
+pub mod Starting
+pub mod Ways
+pub mod Members
+pub mod NextSet
+pub mod Refusing
+pub mod Holding
+pub mod Running
+pub mod Agree
+pub mod Lasting
+pub mod Finishing
+pub mod Telling
+pub mod Again
+pub mod Singles
+pub mod Computed
+pub mod Tabled
+pub mod Examples
+pub mod ShutOut

@@ -1,0 +1,6 @@
+-- What the buyer must believe of a parse: the steps of a token, what each call answers and leaves, how a parse comes about, and what the
+-- answers tell of sentences.
+pub mod Steps
+pub mod Calls
+pub mod Histories
+pub mod Sentences

@@ -1,0 +1,108 @@
+-- A token's steps on a well-formed state. The words are those within the capacities.
+use mathlib.Core.Bool.{Bool, true, false, _&&_}
+use mathlib.Core.List.{List, [], _∷_}
+use Prim.Native.Nat.{ℕ, _+_, _-_, _*_, _/_}
+use lib.ListN.{length, getD, take, drop, replicate}
+use lib.Dec.{eqb, ltb}
+use Rattle.bits.specs.Width.{rowWords}
+use Rattle.item.specs.Item.{itemWords, ruleAt, Item}
+use Rattle.grammar.specs.Rules.{Grammar, wrapper}
+use Rattle.parse.specs.declared.State.{State}
+use Rattle.parse.specs.Words.{Words, startOf, padded}
+use Rattle.completion.specs.Pass.{Pass}
+use Rattle.completion.specs.Complete.{predicted, complete}
+use Rattle.completion.specs.Sums.{completeAllSums}
+use Rattle.advance.specs.NewItems.{newItems}
+use Rattle.advance.specs.Advance.{greatestOrigin, lastKept, predictions, nextState, nextWords}
+
+-- What a call answers, by number, and leaves.
+pub record Outcome : Type 0 where
+  pub number : ℕ
+  pub state : State
+  pub words : Words
+
+-- The refusals of a token on a well-formed state that are not a push's: token ≥ T; not predicted; the new set number would be ≥ E.
+abbrev pub noToken : ℕ
+noToken = 5
+
+abbrev pub notPredicted : ℕ
+notPredicted = 6
+
+abbrev pub setsFull : ℕ
+setsFull = 9
+
+-- Starting clears everything and sets row 0 to W's row.
+abbrev pub started : Grammar → List (List ℕ) → Words → Outcome
+started g table v =
+    record {
+      number = 0;
+      state = record { set = 0; items = 0 };
+      words =
+          record {
+            items = replicate (length (v .items)) 0;
+            starts = replicate (length (v .starts)) 0;
+            rows = padded (length (v .rows)) (getD table (wrapper g) []);
+            queue = replicate (length (v .queue)) 0;
+          };
+    }
+
+-- Steps 2 and 3: complete (e, t), and then sum after sum.
+abbrev pub completed : Grammar → State → Words → ℕ → Pass
+completed g s v t =
+    completeAllSums (g .rules) (v .starts) (v .rows)
+    (complete (g .rules) (v .starts) (v .rows) (s .set) t
+    (record { at = record { stopped = 0; items = s .items; queued = 0 }; items = v .items; queue = v .queue }))
+
+-- Steps 4 to 6, with `new` for the new items as step 4 leaves them.
+unfoldable pub advanced : Grammar → List (List ℕ) → State → Words → List Item → Outcome
+advanced g table s v new =
+    elim (ltb (lastKept (s .set) (greatestOrigin (s .set) new) + 1) (length (v .rows) / rowWords)) [
+      | true ↦
+          record {
+            number = 0;
+            state = nextState (lastKept (s .set) (greatestOrigin (s .set) new)) v new;
+            words = nextWords (s .set) (greatestOrigin (s .set) new) v new (predictions (g .rules) table new);
+          }
+      | false ↦ record { number = setsFull; state = s; words = v }
+    ]
+
+-- A token: step 1 and the others. A refusal leaves state and words as they were.
+unfoldable pub stepped : Grammar → List (List ℕ) → State → Words → ℕ → Outcome
+stepped g table s v t =
+    elim (ltb t (g .tokens)) [
+      | false ↦ record { number = noToken; state = s; words = v }
+      | true ↦
+          elim (predicted (v .rows) (s .set) t) [
+            | false ↦ record { number = notPredicted; state = s; words = v }
+            | true ↦
+                elim (eqb (completed g s v t .at .stopped) 0) [
+                  | false ↦ record { number = completed g s v t .at .stopped; state = s; words = v }
+                  | true ↦ advanced g table s v (newItems (g .rules) (completed g s v t .items) (s .items) (completed g s v t .at .items))
+                ]
+          ]
+    ]
+
+-- What a run answers and leaves, with the number of tokens taken.
+pub record Ended : Type 0 where
+  pub outcome : Outcome
+  pub taken : ℕ
+
+abbrev pub oneMore : Ended → Ended
+oneMore e = record { outcome = e .outcome; taken = e .taken + 1 }
+
+-- One step a token, up to the first refusal.
+unfoldable pub ran : Grammar → List (List ℕ) → State → Words → List ℕ → Ended
+ran g table s v [] = record { outcome = record { number = 0; state = s; words = v }; taken = 0 }
+ran g table s v (t ∷ ts) =
+    elim (eqb (stepped g table s v t .number) 0) [
+      | true ↦ oneMore (ran g table (stepped g table s v t .state) (stepped g table s v t .words) ts)
+      | false ↦ record { outcome = stepped g table s v t; taken = 0 }
+    ]
+
+-- The last item of the latest set has rule 0. A set without items has none.
+abbrev pub lastWraps : State → Words → Bool
+lastWraps s v = ltb (startOf v (s .set)) (s .items) && eqb (ruleAt (v .items) (s .items - 1)) 0
+
+-- The part of the item words that holds the latest set.
+abbrev pub latestPart : State → Words → List ℕ
+latestPart s v = take (itemWords * (s .items - startOf v (s .set))) (drop (itemWords * startOf v (s .set)) (v .items))

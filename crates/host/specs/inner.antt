@@ -1,0 +1,2 @@
+-- What only inner contracts cite: the place of the latest set.
+pub mod Parts

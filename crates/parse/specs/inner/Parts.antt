@@ -1,0 +1,63 @@
+-- The parts of well formed that one function each tells of, over the words that it is lent.
+use mathlib.Core.Path.{_≡_}
+use mathlib.Core.List.{List}
+use Prim.Native.Nat.{ℕ, _+_, _*_, _≤_, _<_}
+use lib.ListN.{getD}
+use Rattle.laws.specs.Bits.{wordBits, bit, rowOf, Below}
+use Rattle.item.specs.Item.{itemWords, ruleAt, itemAt}
+use Rattle.bits.specs.Width.{rowWords}
+use Rattle.grammar.specs.Rules.{Rule}
+use Rattle.parse.specs.declared.State.{State}
+use Rattle.parse.specs.Words.{Words}
+use Rattle.parse.specs.WellFormed.{Fits, placing}
+
+-- Every word from `from` on is 0.
+pub record Clear (words : List ℕ) (from : ℕ) : Type 0 where
+  pub zero : (i : ℕ) → from ≤ i → getD words i 0 ≡ 0
+
+-- The starts never fall up to the one behind set `e`.
+pub record NeverFalls (starts : List ℕ) (e : ℕ) : Type 0 where
+  pub each : (k : ℕ) → k ≤ e → getD starts k 0 ≤ getD starts (k + 1) 0
+
+-- e+2 starts: the first two 0, never falling, last = item count.
+pub record StartsFit (starts : List ℕ) (s : State) : Type 0 where
+  pub first-start : getD starts 0 0 ≡ 0
+  pub second-start : getD starts 1 0 ≡ 0
+  pub never-falls : NeverFalls starts (s .set)
+  pub last-start : getD starts (s .set + 1) 0 ≡ s .items
+
+-- The items at the places from `from` up to `to` may all be items of set `k`.
+pub record AllFit (rs : List Rule) (items : List ℕ) (k from to : ℕ) : Type 0 where
+  pub each : (p : ℕ) → from ≤ p → p < to → Fits rs k (itemAt items p)
+
+-- Their rules are among the first `count`.
+pub record Among (items : List ℕ) (from to count : ℕ) : Type 0 where
+  pub each : (p : ℕ) → from ≤ p → p < to → ruleAt items p < count
+
+-- They rise strictly by (second, rule, origin).
+pub record Rises (rs : List Rule) (items : List ℕ) (from to : ℕ) : Type 0 where
+  pub each : (p : ℕ) → from ≤ p → p + 1 < to → placing rs (itemAt items p) < placing rs (itemAt items (p + 1))
+
+-- They are the items of a set `k`.
+pub record SetFits (rs : List Rule) (items : List ℕ) (k from to : ℕ) : Type 0 where
+  pub fit : AllFit rs items k from to
+  pub rise : Rises rs items from to
+
+-- Every set up to `e` has items that it may have.
+pub record SetsFit (rs : List Rule) (items starts : List ℕ) (e : ℕ) : Type 0 where
+  pub each : (k : ℕ) → k ≤ e → SetFits rs items k (getD starts k 0) (getD starts (k + 1) 0)
+
+-- Word `i` of a row has no bit for the symbol `n` or one above.
+pub record WordBelow (n i word : ℕ) : Type 0 where
+  pub none-above : (b : ℕ) → b < wordBits → n ≤ wordBits * i + b → bit word b ≡ 0
+
+-- No row up to row `e` has a bit at `n` or above.
+pub record RowsBelow (n : ℕ) (rows : List ℕ) (e : ℕ) : Type 0 where
+  pub each : (k : ℕ) → k ≤ e → Below n (rowOf rowWords rows k)
+
+-- All spare words, the queue included, are 0.
+pub record SpareClear (s : State) (v : Words) : Type 0 where
+  pub items : Clear (v .items) (itemWords * s .items)
+  pub starts : Clear (v .starts) (s .set + 2)
+  pub rows : Clear (v .rows) (rowWords * (s .set + 1))
+  pub queue : Clear (v .queue) 0

@@ -1,0 +1,55 @@
+// Words that are 0 from a place on: whether they are, and clearing them. Items, starts and the queue are words of 32 bits, rows of 64.
+ghost use mathlib.Core.Path.{_≡_};
+ghost use Prim.Native.Nat.{_≤_};
+ghost use lib.ListN.{length, take};
+ghost use Rattle.laws.specs.Decides.{Decides};
+ghost use Rattle.parse.specs.Words.{padded};
+ghost use Rattle.parse.specs.inner.Parts.{Clear};
+
+// Whether every word from `from` on is 0.
+pub fn is_clear(words: &[u32], from: usize) -> bool
+    ensures { λ r. ⌜ Decides r (Clear (now (words .entry)) from) ⌝ }
+{
+    let mut i = from;
+    while i < words.len() {
+        if words[i] != 0 {
+            return false;
+        }
+        i += 1;
+    }
+    true
+}
+
+// The same of the words of rows.
+pub fn is_clear_rows(words: &[u64], from: usize) -> bool
+    ensures { λ r. ⌜ Decides r (Clear (now (words .entry)) from) ⌝ }
+{
+    let mut i = from;
+    while i < words.len() {
+        if words[i] != 0 {
+            return false;
+        }
+        i += 1;
+    }
+    true
+}
+
+// Clears the words from `from` up to and without `to`. Those behind are 0.
+pub fn clear(words: &mut [u32], from: usize, to: usize)
+    requires { ⌜ (from ≤ length (now words)) × (to ≤ length (now words)) × Clear (now words) to ⌝ }
+    ensures { λ _. ⌜ now (words .exit) ≡ padded (length (now (words .entry))) (take from (now (words .entry))) ⌝ }
+{
+    for i in from..to {
+        words[i] = 0;
+    }
+}
+
+// The same of the words of rows.
+pub fn clear_rows(words: &mut [u64], from: usize, to: usize)
+    requires { ⌜ (from ≤ length (now words)) × (to ≤ length (now words)) × Clear (now words) to ⌝ }
+    ensures { λ _. ⌜ now (words .exit) ≡ padded (length (now (words .entry))) (take from (now (words .entry))) ⌝ }
+{
+    for i in from..to {
+        words[i] = 0;
+    }
+}

@@ -1,0 +1,2 @@
+-- What only inner contracts cite: how the table comes about.
+pub mod Tables
