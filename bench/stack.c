@@ -34,9 +34,17 @@ static uint16_t tokens[TOKENS], store[UNITS];
 static size_t tokens_len;
 static uint32_t yes, node[5], answer;
 
+/* The places of the reports, each at its longest, and whether they are lent or nothing is. */
+static uint16_t expected_tokens[BRINESADDLE_MAX_TOKENS];
+static uint8_t text[BRINESADDLE_MAX_LINE * BRINESADDLE_MAX_ITEM_WORDS / 2];
+static uint32_t words[5 * BRINESADDLE_MAX_ITEM_WORDS / 2];
+static struct brinesaddle_item records[BRINESADDLE_MAX_ITEM_WORDS / 2];
+static int lent = 1;
+
 #define FILE_LENT file, file_len
 #define LENT(words) words, sizeof(words) / sizeof *(words)
 #define WORDS LENT(items), LENT(starts), LENT(rows), LENT(queue)
+#define PLACE(words) words, lent ? sizeof(words) / sizeof *(words) : 0, &count
 
 static void check(void) { answer = brinesaddle_check(FILE_LENT); }
 static void start(void) { answer = brinesaddle_start(FILE_LENT, &set, &held, WORDS); }
@@ -44,11 +52,17 @@ static void token(void) { answer = brinesaddle_token(FILE_LENT, &set, &held, WOR
 static void run(void) { answer = brinesaddle_run(FILE_LENT, &set, &held, WORDS, tokens, tokens_len, &taken); }
 static void finished(void) { answer = brinesaddle_finished(FILE_LENT, set, held, WORDS, &yes); }
 static void latest_set(void) { answer = brinesaddle_latest_set(FILE_LENT, set, held, WORDS, &first, &count); }
+static void expected(void) { answer = brinesaddle_expected(FILE_LENT, set, held, WORDS, PLACE(expected_tokens)); }
+static void listing(void) { answer = brinesaddle_listing(FILE_LENT, set, held, WORDS, PLACE(text)); }
+static void latest_words(void) { answer = brinesaddle_latest_words(FILE_LENT, set, held, WORDS, PLACE(words)); }
+static void latest_records(void) { answer = brinesaddle_latest_records(FILE_LENT, set, held, WORDS, PLACE(records)); }
 static void node_write(void) { answer = brinesaddle_node_write(store, UNITS, position, node, &behind); }
 static void node_read(void) { answer = brinesaddle_node_read(store, UNITS, position, node, &behind); }
 static void node_walk(void) { answer = brinesaddle_node_walk(store, UNITS, 0, &count, &behind); }
 
-enum { CHECK, START, TOKEN, RUN, FINISHED, LATEST_SET, NODE_WRITE, NODE_READ, NODE_WALK, CALLS };
+enum {
+    CHECK, START, TOKEN, RUN, FINISHED, LATEST_SET, EXPECTED, LISTING, LATEST_WORDS, LATEST_RECORDS, NODE_WRITE, NODE_READ, NODE_WALK, CALLS
+};
 
 static const struct {
     const char *name;
@@ -61,6 +75,10 @@ static const struct {
     [RUN] = {"run", run, BRINESADDLE_PARSE_STACK},
     [FINISHED] = {"finished", finished, BRINESADDLE_REPORT_STACK},
     [LATEST_SET] = {"latest_set", latest_set, BRINESADDLE_REPORT_STACK},
+    [EXPECTED] = {"expected", expected, BRINESADDLE_REPORT_STACK},
+    [LISTING] = {"listing", listing, BRINESADDLE_REPORT_STACK},
+    [LATEST_WORDS] = {"latest_words", latest_words, BRINESADDLE_REPORT_STACK},
+    [LATEST_RECORDS] = {"latest_records", latest_records, BRINESADDLE_RECORDS_STACK},
     [NODE_WRITE] = {"node_write", node_write, BRINESADDLE_NODE_STACK},
     [NODE_READ] = {"node_read", node_read, BRINESADDLE_NODE_STACK},
     [NODE_WALK] = {"node_walk", node_walk, BRINESADDLE_NODE_STACK},
@@ -135,6 +153,15 @@ static void largest_grammar(void)
 
 /* ----------------------------------------------------------------------------------------------------------------------------- Calls */
 
+/* Every report that fills a place. */
+static void places(uint32_t wanted)
+{
+    measure(EXPECTED, wanted);
+    measure(LISTING, wanted);
+    measure(LATEST_WORDS, wanted);
+    measure(LATEST_RECORDS, wanted);
+}
+
 /* Every call on a parse, each refused alike. */
 static void refused_alike(uint32_t wanted)
 {
@@ -142,6 +169,7 @@ static void refused_alike(uint32_t wanted)
     measure(RUN, wanted);
     measure(FINISHED, wanted);
     measure(LATEST_SET, wanted);
+    places(wanted);
 }
 
 /* Every call with the file at hand, accepted, and tokens of which the long run is refused with `full`. */
@@ -155,6 +183,10 @@ static void parses(uint32_t full)
     measure(RUN, full);
     measure(FINISHED, BRINESADDLE_DONE);
     measure(LATEST_SET, BRINESADDLE_DONE);
+    places(BRINESADDLE_DONE);
+    lent = 0;
+    places(BRINESADDLE_TOO_SHORT);
+    lent = 1;
     starts[0] = 1;
     refused_alike(BRINESADDLE_ILL_FORMED);
     starts[0] = 0;
@@ -211,7 +243,7 @@ int main(void)
     nodes();
     int less = 0;
     for (int which = 0; which < CALLS; which++) {
-        printf("%-10s %6zu, header %6zu\n", calls[which].name, most[which], calls[which].said);
+        printf("%-14s %6zu, header %6zu\n", calls[which].name, most[which], calls[which].said);
         less |= calls[which].said < most[which];
     }
     return less;

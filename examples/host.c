@@ -1,5 +1,5 @@
-/* A host in C: reads tokens of document 01's grammar A, asks whether they are a sentence, and prints the latest set; then writes a node,
- * reads it back and walks over it. `tests/host` builds and runs it. */
+/* A host in C: reads tokens of document 01's grammar A, asks whether they are a sentence, and prints the latest set; tells of a refused
+ * token what could have stood there; then writes a node, reads it back and walks over it. `tests/host` builds and runs it. */
 #include <stdio.h>
 
 #include "brinesaddle.h"
@@ -34,6 +34,28 @@ static void show(struct parse *p, const uint16_t *tokens, size_t count)
     printf("\n");
 }
 
+/* What support tells of a refused token: what could have stood there, and the latest set, as text and for the console as records. */
+static void explain(const struct parse *p)
+{
+    static uint16_t tokens[BRINESADDLE_MAX_TOKENS];
+    static uint8_t text[BRINESADDLE_MAX_LINE * ITEMS];
+    static struct brinesaddle_item records[ITEMS];
+    size_t count = 0;
+    if (brinesaddle_expected(FILE_OF(grammar), p->set, p->held, WORDS(p), tokens, BRINESADDLE_MAX_TOKENS, &count) == BRINESADDLE_DONE) {
+        printf("could have stood here:");
+        for (size_t k = 0; k < count; k++)
+            printf(" %u", tokens[k]);
+        printf("\n");
+    }
+    if (brinesaddle_listing(FILE_OF(grammar), p->set, p->held, WORDS(p), text, sizeof text, &count) == BRINESADDLE_DONE)
+        fwrite(text, 1, count, stdout);
+    uint32_t told = brinesaddle_latest_records(FILE_OF(grammar), p->set, p->held, WORDS(p), records, 1, &count);
+    printf("a place of 1 record: %u, needed %zu\n", told, count);
+    if (brinesaddle_latest_records(FILE_OF(grammar), p->set, p->held, WORDS(p), records, ITEMS, &count) == BRINESADDLE_DONE)
+        for (const struct brinesaddle_item *item = records; item < records + count; item++)
+            printf("rule %u, left %u, first %u, second %u, origin %u\n", item->rule, item->left, item->first, item->second, item->origin);
+}
+
 static void nodes(void)
 {
     uint16_t store[48];
@@ -58,6 +80,7 @@ int main(void)
     printf("check %u\n", brinesaddle_check(FILE_OF(grammar)));
     show(&p, sentence, 3);
     show(&p, no_sentence, 2);
+    explain(&p);
     printf("token 70000: %u\n", brinesaddle_token(FILE_OF(grammar), &p.set, &p.held, WORDS(&p), 70000));
     p.starts[0] = 1;
     printf("damaged: %u\n", brinesaddle_token(FILE_OF(grammar), &p.set, &p.held, WORDS(&p), 1));

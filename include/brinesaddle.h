@@ -9,7 +9,8 @@
  *
  * Answers. Each call returns a number: 0 is done; the others are refusals, in this order of precedence. What a refused call leaves is said
  * at each call. In short: a run keeps the tokens before the refused one and tells how many they are; a walk tells the nodes before the
- * units that are none; finished and latest_set put 0 into their words; every other refused call leaves everything as it was.
+ * units that are none; finished and latest_set put 0 into their words; a call that fills a place tells in `count` how long it must be, or
+ * 0 where it is refused for another reason; every other refused call leaves everything as it was.
  */
 #ifndef BRINESADDLE_H
 #define BRINESADDLE_H
@@ -34,7 +35,8 @@ enum {
     BRINESADDLE_SETS_FULL = 9,     /* the new set number would be past the sets */
     BRINESADDLE_UNFIT = 10,        /* node value unfit */
     BRINESADDLE_NO_ROOM = 11,      /* the node does not fit the store from its position */
-    BRINESADDLE_NO_NODE = 12       /* the units at the position are no node */
+    BRINESADDLE_NO_NODE = 12,      /* the units at the position are no node */
+    BRINESADDLE_TOO_SHORT = 13     /* the place lent is too short for what is told */
 };
 
 /* The words that count. More may be lent: words past these are never touched and do not matter.
@@ -54,7 +56,8 @@ enum {
  * whose symbols are bound late needs up to 4 KiB more at its first call, for the linker. */
 enum {
     BRINESADDLE_PARSE_STACK = 12288,  /* start, token, run */
-    BRINESADDLE_REPORT_STACK = 10240, /* check, finished, latest_set */
+    BRINESADDLE_REPORT_STACK = 10240, /* check, finished, latest_set, expected, listing, latest_words */
+    BRINESADDLE_RECORDS_STACK = 98304, /* latest_records: it holds the words of a whole set */
     BRINESADDLE_NODE_STACK = 512      /* node_write, node_read, node_walk */
 };
 
@@ -92,6 +95,54 @@ uint32_t brinesaddle_finished(const uint8_t *file, size_t file_len, size_t set, 
 uint32_t brinesaddle_latest_set(const uint8_t *file, size_t file_len, size_t set, size_t held, const uint32_t *items, size_t items_len,
                                 const uint32_t *starts, size_t starts_len, const uint64_t *rows, size_t rows_len, const uint32_t *queue,
                                 size_t queue_len, size_t *first, size_t *count);
+
+/* Four calls tell of a parse in a place that the host lends: what could stand next, and the latest set as text, as words and as records.
+ * They only read the parse, and write the whole list or nothing. Each answers 0, 1, 2, 4 or 13, and `count` is written always; lengths and
+ * counts are in elements of the place, so in tokens, bytes, words and records.
+ *   0        the list stands at the front of the place; `count` is its length; the elements behind it are as they were
+ *   13       the place is too short and as it was; `count` is the length needed, the least that would do
+ *   1, 2, 4  the place is as it was; `count` is 0
+ * 13 comes last: no length is told of a parse that is refused. A place of no elements asks for the length, and suffices where there is
+ * nothing to tell; its pointer is not null either. */
+enum {
+    BRINESADDLE_MAX_TOKENS = 125, /* the most tokens of a grammar, so of expected */
+    BRINESADDLE_MAX_LINE = 25     /* the most bytes of a line of the listing, its newline among them */
+};
+
+/* The ordinary tokens that could stand next, rising: exactly those below T that a token call on the same state and words would not answer
+ * 6. One that would meet 7, 8 or 9 is among them. Of a parse from a start these are the tokens that go on with some sentence behind those
+ * taken; there is none where only the end can follow.
+ * T tokens of place always suffice. */
+uint32_t brinesaddle_expected(const uint8_t *file, size_t file_len, size_t set, size_t held, const uint32_t *items, size_t items_len,
+                              const uint32_t *starts, size_t starts_len, const uint64_t *rows, size_t rows_len, const uint32_t *queue,
+                              size_t queue_len, uint16_t *tokens, size_t tokens_len, size_t *count);
+
+/* The latest set as ASCII text, a line an item in the order of the set: left side, first, second and origin, as in
+ *   2 ::= 2 * 3 @ 0
+ * which is a 2 begun at set 0 whose first symbol, 2, is read, and whose second, 3, is to come. Symbols are numbers, the wrapper and the end
+ * mark too; numbers are decimal without leading zeros, parted by single blanks; every line ends with a newline (0x0A). No NUL is written.
+ * At the start the set is empty, and so is the text.
+ * BRINESADDLE_MAX_LINE bytes of place for each of the `held` items always suffice. */
+uint32_t brinesaddle_listing(const uint8_t *file, size_t file_len, size_t set, size_t held, const uint32_t *items, size_t items_len,
+                             const uint32_t *starts, size_t starts_len, const uint64_t *rows, size_t rows_len, const uint32_t *queue,
+                             size_t queue_len, uint8_t *text, size_t text_len, size_t *count);
+
+/* An item of the latest set with the symbols of its rule. */
+struct brinesaddle_item {
+    uint32_t rule, left, first, second, origin;
+};
+
+/* The latest set as words, five an item in the order of the set: rule, left side, first, second, origin.
+ * Five words of place for each of the `held` items always suffice. */
+uint32_t brinesaddle_latest_words(const uint8_t *file, size_t file_len, size_t set, size_t held, const uint32_t *items, size_t items_len,
+                                  const uint32_t *starts, size_t starts_len, const uint64_t *rows, size_t rows_len, const uint32_t *queue,
+                                  size_t queue_len, uint32_t *words, size_t words_len, size_t *count);
+
+/* The same as records, one an item.
+ * One record of place for each of the `held` items always suffices. */
+uint32_t brinesaddle_latest_records(const uint8_t *file, size_t file_len, size_t set, size_t held, const uint32_t *items, size_t items_len,
+                                    const uint32_t *starts, size_t starts_len, const uint64_t *rows, size_t rows_len, const uint32_t *queue,
+                                    size_t queue_len, struct brinesaddle_item *records, size_t records_len, size_t *count);
 
 /* A node of a forest is five numbers: its kind, and
  *   Sum          count, nonterminal, 0, 0

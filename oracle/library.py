@@ -23,6 +23,13 @@ FILE, STATE, STATE_BY_VALUE = slice_of(u8), [ctypes.POINTER(size)] * 2, [size] *
 WORDS = slice_of(u32) + slice_of(u32) + slice_of(u64) + slice_of(u32)
 OUT = [ctypes.POINTER(size)]
 NODE = [ctypes.POINTER(u32)]
+
+
+class Record(ctypes.Structure):
+    """struct brinesaddle_item."""
+    _fields_ = [(name, u32) for name in ("rule", "left", "first", "second", "origin")]
+
+
 for name, parameters in {
     "check": FILE,
     "start": FILE + STATE + WORDS,
@@ -30,6 +37,10 @@ for name, parameters in {
     "run": FILE + STATE + WORDS + slice_of(u16) + OUT,
     "finished": FILE + STATE_BY_VALUE + WORDS + [ctypes.POINTER(u32)],
     "latest_set": FILE + STATE_BY_VALUE + WORDS + OUT + OUT,
+    "expected": FILE + STATE_BY_VALUE + WORDS + slice_of(u16) + OUT,
+    "listing": FILE + STATE_BY_VALUE + WORDS + slice_of(u8) + OUT,
+    "latest_words": FILE + STATE_BY_VALUE + WORDS + slice_of(u32) + OUT,
+    "latest_records": FILE + STATE_BY_VALUE + WORDS + slice_of(Record) + OUT,
     "node_write": slice_of(u16) + [size] + NODE + OUT,
     "node_read": slice_of(u16) + [size] + NODE + OUT,
     "node_walk": slice_of(u16) + [size] + OUT + OUT,
@@ -108,6 +119,40 @@ def latest_set(file, state, lent):
     first, count = size(0xBAD), size(0xBAD)
     answer = library.brinesaddle_latest_set(*file.lent, *state, *lent.lent(), ctypes.byref(first), ctypes.byref(count))
     return answer, first.value, count.value
+
+
+BEHIND = 8  # elements behind a place, which are not lent
+
+
+def fill(call, element, file, state, lent, place):
+    """The answer and the count of a report. The place, a list, is left as the call leaves it."""
+    made = (element * (len(place) + BEHIND))(*place)
+    memory, end = (u8 * ctypes.sizeof(made)).from_buffer(made), len(place) * ctypes.sizeof(element)
+    memory[end:] = [0xAB] * (len(memory) - end)
+    count = size(0xBAD)
+    answer = call(*file.lent, *state, *lent.lent(), made, len(place), ctypes.byref(count))
+    assert set(memory[end:]) == {0xAB}, "written behind the place"
+    place[:] = made[:len(place)]
+    return answer, count.value
+
+
+def expected(file, state, lent, place):
+    return fill(library.brinesaddle_expected, u16, file, state, lent, place)
+
+
+def listing(file, state, lent, place):
+    return fill(library.brinesaddle_listing, u8, file, state, lent, place)
+
+
+def latest_words(file, state, lent, place):
+    return fill(library.brinesaddle_latest_words, u32, file, state, lent, place)
+
+
+def latest_records(file, state, lent, place):
+    """The elements of the place are the five numbers of a record each."""
+    answer = fill(library.brinesaddle_latest_records, Record, file, state, lent, place)
+    place[:] = [tuple(getattr(record, name) for name, _ in Record._fields_) for record in place]
+    return answer
 
 
 def node_write(store, position, numbers):

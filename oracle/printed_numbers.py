@@ -8,46 +8,10 @@ import sys
 
 import library
 import model
+from by_hand import Parse, expect, passed
 
 A, B, TRIPLE = model.GRAMMAR_A, model.GRAMMAR_B, [0, 1, 2]
 SUM, PRODUCT, NULLING_LEAF = 0, 1, 2
-failures, count = [], 0
-
-
-def expect(what, got, wanted):
-    global count
-    count += 1
-    if got != wanted:
-        failures.append(f"{what}: wanted {wanted}, got {got}")
-
-
-class Parse:
-    """A started parse in words of the capacities I, E and Q."""
-
-    def __init__(self, file, items=20, sets=8, queue=8):
-        self.file, self.lent = library.File(file), library.Lent(model.Buffers.zeroed(items, sets, queue))
-        self.start()
-
-    def start(self):
-        expect("start", library.begin(self.file, self.lent.state(), self.lent), (0, (0, 0)))
-
-    def token(self, token):
-        return library.token(self.file, self.lent.state(), self.lent, token)[0]
-
-    def tokens(self, tokens):
-        """One call a token; the answers."""
-        return [self.token(token) for token in tokens]
-
-    def finished(self):
-        return library.finished(self.file, self.lent.state(), self.lent)
-
-    def items(self):
-        words = self.lent.words()[0]
-        return [(words[2 * place], words[2 * place + 1]) for place in range(self.lent.state().item_count)]
-
-    def sets(self):
-        starts, items = self.lent.words()[1], self.items()
-        return [items[starts[k]:starts[k + 1]] for k in range(self.lent.state().set_number + 1)]
 
 
 def ran(file, tokens, **rooms):
@@ -131,10 +95,7 @@ def main():
     for part in (numbers_of_a, numbers_of_b, numbers_of_nodes, reset_clears_the_rows, wide_values_read_back, set_number_is_no_token_count,
                  distance_above_the_position, no_item_twice):
         part()
-    for failure in failures:
-        print(failure)
-    print(f"{count} numbers, {len(failures)} failed")
-    return 1 if failures or not count else 0
+    return 0 if passed() else 1
 
 
 if __name__ == "__main__":

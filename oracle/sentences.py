@@ -4,8 +4,9 @@
     sentences.py SEED GRAMMARS
 
 Every grammar of some small shapes, then GRAMMARS random ones from SEED. On every token string up to some length: the token is refused
-6 exactly when no sentence begins so, and finished is said exactly of the sentences. Nothing here knows of sets, items or predictions: a
-string is derived by taking it apart by the rules. For small grammars the sentences are also listed, and the listing agrees.
+6 exactly when no sentence begins so, the expected tokens are exactly the others, and finished is said exactly of the sentences. Nothing
+here knows of sets, items or predictions: a string is derived by taking it apart by the rules. For small grammars the sentences are also
+listed, and the listing agrees.
 """
 
 import itertools
@@ -115,6 +116,12 @@ class Library:
         assert answer == 0
         return yes
 
+    def expected(self, tokens):
+        place = [0] * tokens
+        answer, count = library.expected(self.file, self.state, self.lent, place)
+        assert answer == 0
+        return place[:count]
+
 
 def wrong(file, string, what):
     raise SystemExit(f"{file.hex()}, tokens {list(string)}: {what}")
@@ -133,7 +140,11 @@ def compare(file, grammar, longest, counts):
             wrong(file, string, "the listing has another answer")
         if len(string) == longest:
             return
-        here = parse.mark()
+        here, goes_on = parse.mark(), [token for token in range(grammar.tokens) if rules.is_begun(string + (token,))]
+        if parse.expected(grammar.tokens) != goes_on:
+            wrong(file, string, f"expected {parse.expected(grammar.tokens)}, but a sentence goes on with {goes_on}")
+        counts["expected"] += len(goes_on)
+        counts["nothing expected"] += not goes_on
         for token in range(grammar.tokens):
             longer = string + (token,)
             answer, viable = parse.token(token), rules.is_begun(longer)
@@ -177,13 +188,16 @@ def random_ones(rng, grammars, counts):
         compare(file, grammar, {1: 9, 2: 6, 3: 5}[grammar.tokens], counts)
 
 
+COMPARED = ["accepted", "refused 6", "expected", "nothing expected", "sentences"]
+
+
 def main():
     seed, grammars = int(sys.argv[1]), int(sys.argv[2])
     for name, work in [("every grammar of the shapes", all_small), ("random grammars", lambda counts: random_ones(random.Random(seed), grammars, counts))]:
-        counts = {"grammars": 0, "files refused by the check": 0, "accepted": 0, "refused 6": 0, "sentences": 0}
+        counts = dict.fromkeys(["grammars", "files refused by the check", *COMPARED], 0)
         work(counts)
         print(f"{name}: " + ", ".join(f"{what} {count}" for what, count in counts.items() if count))
-        missing = [what for what in ("grammars", "accepted", "refused 6", "sentences") if not counts[what]]
+        missing = [what for what in ("grammars", *COMPARED) if not counts[what]]
         if missing:
             raise SystemExit(f"{name}: nothing was compared of: {', '.join(missing)}")
 

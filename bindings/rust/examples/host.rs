@@ -1,5 +1,5 @@
 //! A host in Rust: what examples/host.c does, through the safe wrapper. `tests/host` builds and runs it.
-use brinesaddle::{check, read_node, walk_nodes, write_node, Node, Parse, Refusal, State, Words};
+use brinesaddle::{check, read_node, walk_nodes, write_node, Item, Node, Parse, Refusal, State, Unwritten, Words, MAX_LINE, MAX_TOKENS};
 use std::error::Error;
 
 /// Document 01's grammar A: S ::= S P | num, P ::= plus S.
@@ -20,11 +20,25 @@ fn show(words: &mut Words, tokens: &[u16]) -> Result<State, Refusal> {
     Ok(parse.state())
 }
 
+/// What support tells of a refused token: what could have stood there, and the latest set, as text and for the console as records.
+fn explain(parse: &Parse) -> Result<(), Box<dyn Error>> {
+    let tokens: String = parse.expected(&mut [0; MAX_TOKENS])?.iter().map(|token| format!(" {token}")).collect();
+    println!("could have stood here:{tokens}");
+    print!("{}", parse.listing(&mut [0; MAX_LINE * 64])?);
+    let Err(short @ Unwritten::TooShort { needed }) = parse.latest_records(&mut [Item::default()]) else { Err("it did for two")? };
+    println!("a place of 1 record: {}, needed {needed}", short.number());
+    for Item { rule, left, first, second, origin } in parse.latest_records(&mut [Item::default(); 64])? {
+        println!("rule {rule}, left {left}, first {first}, second {second}, origin {origin}");
+    }
+    Ok(())
+}
+
 fn main() -> Result<(), Box<dyn Error>> {
     println!("check {}", number(check(&GRAMMAR)));
     let mut words = Words::new(64, 16, 16);
     show(&mut words, &[0, 1, 0])?;
     let state = show(&mut words, &[0, 0])?;
+    explain(&Parse::resume(&GRAMMAR, words.lend(), state))?;
     println!("token 70000: {}", number(Parse::resume(&GRAMMAR, words.lend(), state).token(70000)));
     words.starts[0] = 1;
     println!("damaged: {}", number(Parse::resume(&GRAMMAR, words.lend(), state).token(1)));

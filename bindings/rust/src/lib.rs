@@ -2,7 +2,7 @@
 //! not take. Nothing is allocated but by the caller. A call needs up to 12 KiB of stack, one on nodes 512 bytes (include/brinesaddle.h).
 //!
 //! ```
-//! use brinesaddle::{Parse, Refusal, Words};
+//! use brinesaddle::{Parse, Refusal, Words, MAX_TOKENS};
 //!
 //! // S ::= S P | num, P ::= plus S; num is token 0, plus token 1.
 //! let grammar = [1, 0, 0, 0, 35, 0, 6, 0, 2, 0, 4, 0, 4, 0, 2, 0, 5, 0, 2, 0, 2, 0, 3, 0, 2, 0, 0, 255, 255, 0, 3, 0, 1, 0, 2];
@@ -11,7 +11,8 @@
 //! parse.run(&[0, 1, 0]).answer?;
 //! assert!(parse.finished()?);
 //! assert_eq!(parse.token(0), Err(Refusal::NotPredicted));
-//! # Ok::<(), Refusal>(())
+//! assert_eq!(parse.expected(&mut [0; MAX_TOKENS])?, [1]); // a plus could have stood there
+//! # Ok::<(), Box<dyn std::error::Error>>(())
 //! ```
 //!
 //! The build script looks for `libhost.a` in the folder that the environment variable BRINESADDLE_LIB_DIR names, and without one in the
@@ -20,7 +21,7 @@
 mod raw;
 
 use std::error::Error;
-use std::fmt;
+use std::{fmt, str};
 
 /// Why a call was refused: document 01's numbers 1 to 12. A refused run has taken the tokens before the refused one, and a refused walk
 /// tells the nodes before; every other refused call leaves all as it was.
@@ -96,6 +97,54 @@ fn answer(number: u32) -> Result<(), Refusal> {
     }
 }
 
+/// Why a call left the place that it was lent as it was.
+#[derive(Clone, Copy, Debug, PartialEq, Eq)]
+pub enum Unwritten {
+    /// The call was refused, whatever the place.
+    Refused(Refusal),
+    /// Refusal 13: the place is too short, and the least length that would do.
+    TooShort { needed: usize },
+}
+
+const TOO_SHORT: u32 = 13;
+
+impl Unwritten {
+    /// The number of the refusal.
+    pub fn number(self) -> u32 {
+        match self {
+            Unwritten::Refused(refusal) => refusal.number(),
+            Unwritten::TooShort { .. } => TOO_SHORT,
+        }
+    }
+}
+
+/// A sentence for a person, and the number.
+impl fmt::Display for Unwritten {
+    fn fmt(&self, f: &mut fmt::Formatter<'_>) -> fmt::Result {
+        match self {
+            Unwritten::Refused(refusal) => refusal.fmt(f),
+            Unwritten::TooShort { needed } => write!(f, "the place is too short, a length of {needed} is needed (refusal {TOO_SHORT})"),
+        }
+    }
+}
+
+impl Error for Unwritten {}
+
+impl From<Refusal> for Unwritten {
+    fn from(refusal: Refusal) -> Unwritten {
+        Unwritten::Refused(refusal)
+    }
+}
+
+/// The part of a place that a call has filled.
+fn filled<T>(number: u32, place: &[T], count: usize) -> Result<&[T], Unwritten> {
+    if number == TOO_SHORT {
+        return Err(Unwritten::TooShort { needed: count });
+    }
+    answer(number)?;
+    Ok(&place[..count])
+}
+
 /// Checks a grammar file of version 1: refused 1 or 2.
 pub fn check(file: &[u8]) -> Result<(), Refusal> {
     answer(unsafe { raw::brinesaddle_check(file.as_ptr(), file.len()) })
@@ -147,6 +196,23 @@ pub struct State {
 pub struct Ran {
     pub taken: usize,
     pub answer: Result<(), Refusal>,
+}
+
+/// The most tokens of a grammar: a place of so many always suffices for [`Parse::expected`].
+pub const MAX_TOKENS: usize = 125;
+
+/// The most bytes of a line of [`Parse::listing`], its newline among them.
+pub const MAX_LINE: usize = 25;
+
+/// An item of the latest set, with the symbols of its rule.
+#[derive(Clone, Copy, Debug, PartialEq, Eq, Default)]
+#[repr(C)]
+pub struct Item {
+    pub rule: u32,
+    pub left: u32,
+    pub first: u32,
+    pub second: u32,
+    pub origin: u32,
 }
 
 /// A parse: a grammar, words, and the state in them.
@@ -217,6 +283,36 @@ impl<'a> Parse<'a> {
         let (mut first, mut count) = (0, 0);
         answer(read_call!(brinesaddle_latest_set, self, &mut first, &mut count))?;
         Ok(&self.words.items[first..first + count])
+    }
+
+    /// The tokens that could stand next, rising: exactly those of the grammar that would not be refused [`Refusal::NotPredicted`]. Here and
+    /// in the next three the answer is the filled part of the place; where there is an error, the place is as it was.
+    pub fn expected<'p>(&self, place: &'p mut [u16]) -> Result<&'p [u16], Unwritten> {
+        let mut count = 0;
+        let number = read_call!(brinesaddle_expected, self, place.as_mut_ptr(), place.len(), &mut count);
+        filled(number, place, count)
+    }
+
+    /// The latest set as text, a line an item: `left ::= first * second @ origin`. [`MAX_LINE`] bytes an item always suffice.
+    pub fn listing<'p>(&self, place: &'p mut [u8]) -> Result<&'p str, Unwritten> {
+        let mut count = 0;
+        let number = read_call!(brinesaddle_listing, self, place.as_mut_ptr(), place.len(), &mut count);
+        // Looked at once more, and so sound whatever the library wrote; that it wrote digits, blanks, newlines and `:=*@` alone is proved.
+        filled(number, place, count).map(|text| str::from_utf8(text).expect("a listing is ASCII"))
+    }
+
+    /// The latest set as words, five an item: rule, left side, first, second and origin.
+    pub fn latest_words<'p>(&self, place: &'p mut [u32]) -> Result<&'p [u32], Unwritten> {
+        let mut count = 0;
+        let number = read_call!(brinesaddle_latest_words, self, place.as_mut_ptr(), place.len(), &mut count);
+        filled(number, place, count)
+    }
+
+    /// The latest set, a record an item.
+    pub fn latest_records<'p>(&self, place: &'p mut [Item]) -> Result<&'p [Item], Unwritten> {
+        let mut count = 0;
+        let number = read_call!(brinesaddle_latest_records, self, place.as_mut_ptr(), place.len(), &mut count);
+        filled(number, place, count)
     }
 
     pub fn state(&self) -> State {

@@ -1,4 +1,5 @@
 //! The calls as include/brinesaddle.h declares them.
+use crate::Item;
 
 extern "C" {
     pub fn brinesaddle_check(file: *const u8, file_len: usize) -> u32;
@@ -77,6 +78,74 @@ extern "C" {
         queue: *const u32,
         queue_len: usize,
         first: &mut usize,
+        count: &mut usize,
+    ) -> u32;
+    pub fn brinesaddle_expected(
+        file: *const u8,
+        file_len: usize,
+        set: usize,
+        held: usize,
+        items: *const u32,
+        items_len: usize,
+        starts: *const u32,
+        starts_len: usize,
+        rows: *const u64,
+        rows_len: usize,
+        queue: *const u32,
+        queue_len: usize,
+        tokens: *mut u16,
+        tokens_len: usize,
+        count: &mut usize,
+    ) -> u32;
+    pub fn brinesaddle_listing(
+        file: *const u8,
+        file_len: usize,
+        set: usize,
+        held: usize,
+        items: *const u32,
+        items_len: usize,
+        starts: *const u32,
+        starts_len: usize,
+        rows: *const u64,
+        rows_len: usize,
+        queue: *const u32,
+        queue_len: usize,
+        text: *mut u8,
+        text_len: usize,
+        count: &mut usize,
+    ) -> u32;
+    pub fn brinesaddle_latest_words(
+        file: *const u8,
+        file_len: usize,
+        set: usize,
+        held: usize,
+        items: *const u32,
+        items_len: usize,
+        starts: *const u32,
+        starts_len: usize,
+        rows: *const u64,
+        rows_len: usize,
+        queue: *const u32,
+        queue_len: usize,
+        words: *mut u32,
+        words_len: usize,
+        count: &mut usize,
+    ) -> u32;
+    pub fn brinesaddle_latest_records(
+        file: *const u8,
+        file_len: usize,
+        set: usize,
+        held: usize,
+        items: *const u32,
+        items_len: usize,
+        starts: *const u32,
+        starts_len: usize,
+        rows: *const u64,
+        rows_len: usize,
+        queue: *const u32,
+        queue_len: usize,
+        records: *mut Item,
+        records_len: usize,
         count: &mut usize,
     ) -> u32;
     pub fn brinesaddle_node_write(store: *mut u16, store_len: usize, p: usize, node: &[u32; 5], behind: &mut usize) -> u32;

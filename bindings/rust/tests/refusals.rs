@@ -1,5 +1,5 @@
 //! Each refusal is an error that tells a person what is the matter, and its number: `cargo test`.
-use brinesaddle::{check, read_node, walk_nodes, write_node, Node, Parse, Refusal, State, Words};
+use brinesaddle::{check, read_node, walk_nodes, write_node, Item, Node, Parse, Refusal, State, Unwritten, Words};
 use std::error::Error;
 
 /// Document 01's grammar A: S ::= S P | num, P ::= plus S.
@@ -14,8 +14,7 @@ fn run(items: usize, sets: usize, queue: usize, tokens: &[u16]) -> (usize, Refus
     (ran.taken, ran.answer.expect_err("the run is refused"))
 }
 
-fn text(refusal: Refusal) -> String {
-    let error: Box<dyn Error> = refusal.into();
+fn text(error: impl Error) -> String {
     error.to_string()
 }
 
@@ -49,6 +48,53 @@ fn a_run_keeps_the_tokens_before_the_refused_one() {
     let ran = parse.run(&[0, 1, 0, 0]);
     assert_eq!((ran.taken, ran.answer), (3, Err(Refusal::NotPredicted)));
     assert_eq!((parse.state().set, parse.finished()), (3, Ok(true)));
+}
+
+/// Grammar A after "0": a plus could stand next, and the latest set has two items.
+const LISTING: &str = "2 ::= 2 * 3 @ 0\n4 ::= 2 * 5 @ 0\n";
+const ITEMS: [Item; 2] = [
+    Item { rule: 1, left: 2, first: 2, second: 3, origin: 0 },
+    Item { rule: 0, left: 4, first: 2, second: 5, origin: 0 },
+];
+
+#[test]
+fn a_place_too_short_is_left_and_its_length_told() {
+    let mut words = Words::new(64, 16, 16);
+    let mut parse = Parse::start(&GRAMMAR, words.lend()).expect("there is room");
+    assert_eq!(parse.token(0), Ok(()));
+    let too_short = |needed| Unwritten::TooShort { needed };
+    let (mut bytes, mut fives, mut records) = ([7; 31], [7; 9], [Item::default()]);
+    assert_eq!(parse.expected(&mut []).unwrap_err(), too_short(1));
+    assert_eq!(parse.listing(&mut bytes).unwrap_err(), too_short(32));
+    assert_eq!(parse.latest_words(&mut fives).unwrap_err(), too_short(10));
+    assert_eq!(parse.latest_records(&mut records).unwrap_err(), too_short(2));
+    assert_eq!((bytes, fives, records), ([7; 31], [7; 9], [Item::default()]));
+    let error = parse.listing(&mut bytes).unwrap_err();
+    assert_eq!((error.number(), text(error)), (13, "the place is too short, a length of 32 is needed (refusal 13)".into()));
+}
+
+#[test]
+fn a_place_is_filled_in_front() {
+    let mut words = Words::new(64, 16, 16);
+    let mut parse = Parse::start(&GRAMMAR, words.lend()).expect("there is room");
+    assert_eq!((parse.listing(&mut []), parse.latest_records(&mut [])), (Ok(""), Ok([].as_slice())));
+    assert_eq!(parse.run(&[0, 0]).answer, Err(Refusal::NotPredicted));
+    let (mut tokens, mut bytes, mut fives, mut records) = ([7; 3], [7; 33], [7; 11], [Item::default(); 3]);
+    assert_eq!(parse.expected(&mut tokens), Ok([1].as_slice()));
+    assert_eq!(parse.listing(&mut bytes), Ok(LISTING));
+    assert_eq!(parse.latest_words(&mut fives), Ok([1, 2, 2, 3, 0, 0, 4, 2, 5, 0].as_slice()));
+    assert_eq!(parse.latest_records(&mut records), Ok(ITEMS.as_slice()));
+    assert_eq!((tokens, bytes[32], fives[10], records[2]), ([1, 7, 7], 7, 7, Item::default()));
+}
+
+#[test]
+fn a_report_on_a_forged_state_is_refused() {
+    let mut words = Words::new(8, 8, 8);
+    let parse = Parse::resume(&GRAMMAR, words.lend(), State { set: 3, items: 9 });
+    let refused = Unwritten::Refused(Refusal::IllFormed);
+    assert_eq!((parse.expected(&mut []), parse.listing(&mut [])), (Err(refused), Err(refused)));
+    assert_eq!((parse.latest_words(&mut []), parse.latest_records(&mut [])), (Err(refused), Err(refused)));
+    assert_eq!((refused.number(), text(refused)), (4, text(Refusal::IllFormed)));
 }
 
 #[test]

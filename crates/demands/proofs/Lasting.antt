@@ -113,5 +113,3 @@ module _ {file : List ℕ} where
   lasts (History.not-accepted h takes some) = lasts-not-accepted (lasts h) takes some
   lasts (History.run h runs) = lasts-run (lasts h) runs
   lasts (History.not-started h starts some) = lasts-not-started (lasts h) starts some
-  lasts (History.asked-finished h finishes) = lasts h
-  lasts (History.asked-latest h reports) = lasts h

@@ -1,14 +1,15 @@
 -- How a parse can have come about, with the tokens accepted since its start. Every call is under one file, with the state that the last
--- call gave back and the words that it left.
+-- call gave back and the words that it left. A report (finished, the set report, those of the crate reports) is lent all of it to read only, takes the
+-- state by value and gives none back: state and words after it are those before it, so the history of before is that of after, and no
+-- report has a case of its own.
 use mathlib.Core.Path.{_≡_}
-use mathlib.Core.Bool.{Bool}
 use mathlib.Core.List.{List, [], _∷_, _++_}
 use Prim.Native.Nat.{ℕ}
 use lib.ListN.{take}
 use Rattle.parse.specs.declared.State.{State}
 use Rattle.parse.specs.Words.{Words}
 use Rattle.demands.specs.Steps.{Outcome, Ended}
-use Rattle.demands.specs.Calls.{Starts, Takes, Runs, Finishes, Reports}
+use Rattle.demands.specs.Calls.{Starts, Takes, Runs}
 
 pub data History (file : List ℕ) : State → Words → List ℕ → Type 0 where
   -- A start answered 0, over any state and words.
@@ -28,6 +29,3 @@ pub data History (file : List ℕ) : State → Words → List ℕ → Type 0 whe
   not-started :
       {s : State} {w : Words} {ts : List ℕ} {o : Outcome} → History file s w ts → Starts file s w o → (o .number ≡ 0 → ⊥)
       → History file (o .state) (o .words) ts
-  -- The reports keep it.
-  asked-finished : {s : State} {w : Words} {ts : List ℕ} {n : ℕ} {yes : Bool} → History file s w ts → Finishes file s w n yes → History file s w ts
-  asked-latest : {s : State} {w : Words} {ts part : List ℕ} {n : ℕ} → History file s w ts → Reports file s w n part → History file s w ts

@@ -4,3 +4,5 @@ pub mod Wide
 pub mod Placed
 pub mod Numbers
 pub mod Settled
+pub mod FromWords
+pub mod LocalWords

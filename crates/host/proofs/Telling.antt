@@ -1,10 +1,11 @@
 -- An answer in the host's words is that answer.
-use mathlib.Core.Path.{_≡_, ap, sym, _∙_, subst}
+use mathlib.Core.Path.{_≡_, ap, sym, _∙_, subst, subst₂}
 use mathlib.Core.Bool.{Bool, false}
 use mathlib.Core.List.{List}
 use Prim.Native.Nat.{ℕ, min}
 use Rattle.grammar.specs.Answers as check
 use Rattle.grammar.specs.declared.Checked.{Checked}
+use Rattle.grammar.specs.Rules.{Grammar}
 use Rattle.parse.specs.declared.State.{State}
 use Rattle.parse.specs.Words.{Words}
 use Rattle.demands.specs.Steps.{Outcome, Ended}
@@ -13,6 +14,7 @@ use Rattle.recognizer.specs.declared.Ran.{Ran}
 use Rattle.recognizer.specs.declared.Whether.{Whether}
 use Rattle.recognizer.specs.Answers.{numberOf, stateOf, outcomeOf, endedOf, finishedNumber, saysYes}
 use Rattle.demands.specs.Calls.{Starts, Takes, Runs, Finishes}
+use Rattle.reports.specs.Lists.{Lists}
 use Rattle.host.specs.Answers.{outcomeIn, endedIn}
 use Rattle.demands.specs.Sentences.{FinishedTells}
 use Rattle.demands.proofs.Telling.{finished-tells}
@@ -69,3 +71,8 @@ finishes-refused {file} {s} {w} {c = c} {n} f e says same =
 pub finishes-in-means : {file : List ℕ} {s : State} {w : Words} {n word : ℕ} → FinishesIn file s w n word → FinishesIn file s w n word × FinishedTells file s w n (saysIn word)
 finishes-in-means (FinishesIn.yes f) = (FinishesIn.yes f, finished-tells f)
 finishes-in-means (FinishesIn.no f) = (FinishesIn.no f, finished-tells f)
+
+-- A report's number and count, in the host's words.
+pub lists-told : {A : Type 0} {file : List ℕ} {s : State} {w : Words} {list : Grammar → State → Words → List A} {place out : List A} {n c m d : ℕ} → m ≡ n → d ≡ c
+    → Lists file s w list place n c out → Lists file s w list place m d out
+lists-told {file = file} {s} {w} {list} {place} {out} number count l = subst₂ (λ (k j : ℕ). Lists file s w list place k j out) (sym number) (sym count) l

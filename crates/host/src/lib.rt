@@ -1,10 +1,13 @@
 // The calls for hosts in C and Rust: numbers and slices, answers by document 01's numbers. A slice is a pointer and a length. The state
 // of a parse is two words of the host, the set number and the item count. include/brinesaddle.h describes each call for a host.
 ghost use mathlib.Core.Path.{_≡_};
+ghost use lib.ListN.{take};
 ghost use Rattle.grammar.specs.Answers.{Verdict};
 ghost use Rattle.demands.specs.Calls.{Starts, Takes, Runs};
 ghost use Rattle.demands.specs.Sentences.{TokenTells, RunTells, FinishedTells};
 ghost use Rattle.parse.specs.Words.{wordsOf};
+ghost use Rattle.reports.specs.Lists.{Lists, expectedTokens, latestText, latestWords, latestRecords};
+ghost use Rattle.reports.specs.Sentences.{ExpectedTells};
 ghost use Rattle.node.specs.Reading.{readAt};
 ghost use Rattle.node.specs.Walking.{walkAt};
 ghost use Rattle.host.specs.Answers.{stateIn, outcomeIn, endedIn};
@@ -13,6 +16,7 @@ ghost use Rattle.host.specs.Nodes.{writeIn, numberIn, positionOr, number
 
 mod nodes;
 mod parse_words;
+mod records;
 
 use crate::nodes::Told;
 use crate::nodes::node_of;
@@ -20,12 +24,17 @@ use crate::nodes::numbers_of;
 use crate::parse_words::first_word;
 use crate::parse_words::narrow;
 use crate::parse_words::tell;
+use crate::parse_words::tell_count;
+use crate::records::SET_WORDS;
+use crate::records::fill;
+use crate::records::prepare;
 use grammar::Checked;
 use node::Found;
 use node::Walked;
 use node::Written;
 use parse::State;
 use recognizer::Whether;
+use reports::Record;
 
 // Checks a grammar file.
 #[no_mangle]
@@ -186,6 +195,109 @@ pub extern "C" fn brinesaddle_latest_set(
     *count = words;
     *first = first_word(number, held, words);
     number
+}
+
+// What could stand next: the ordinary tokens that the latest row holds, rising.
+#[no_mangle]
+pub extern "C" fn brinesaddle_expected(
+    file: &[u8],
+    set: usize,
+    held: usize,
+    items: &[u32],
+    starts: &[u32],
+    rows: &[u64],
+    queue: &[u32],
+    tokens: &mut [u16],
+    count: &mut usize,
+) -> u32
+    ensures calls { λ r. ⌜ Lists (now (file .entry)) (stateIn set held)
+        (wordsOf (now (items .entry)) (now (starts .entry)) (now (rows .entry)) (now (queue .entry))) expectedTokens
+        (now (tokens .entry)) r (now (count .exit)) (now (tokens .exit)) ⌝ }
+    ensures sentences { λ r. ⌜ ExpectedTells (now (file .entry)) (stateIn set held)
+        (wordsOf (now (items .entry)) (now (starts .entry)) (now (rows .entry)) (now (queue .entry))) r
+        (take (now (count .exit)) (now (tokens .exit))) ⌝ }
+{
+    let state = State { set, items: held };
+    let filled = reports::expected(file, state, items, starts, rows, queue, tokens);
+    tell_count(filled, count)
+}
+
+// The latest set as text, a line an item.
+#[no_mangle]
+pub extern "C" fn brinesaddle_listing(
+    file: &[u8],
+    set: usize,
+    held: usize,
+    items: &[u32],
+    starts: &[u32],
+    rows: &[u64],
+    queue: &[u32],
+    text: &mut [u8],
+    count: &mut usize,
+) -> u32
+    ensures calls { λ r. ⌜ Lists (now (file .entry)) (stateIn set held)
+        (wordsOf (now (items .entry)) (now (starts .entry)) (now (rows .entry)) (now (queue .entry))) latestText
+        (now (text .entry)) r (now (count .exit)) (now (text .exit)) ⌝ }
+{
+    let state = State { set, items: held };
+    let filled = reports::listing(file, state, items, starts, rows, queue, text);
+    tell_count(filled, count)
+}
+
+// The latest set as words, five an item: rule, left side, first, second, origin.
+#[no_mangle]
+pub extern "C" fn brinesaddle_latest_words(
+    file: &[u8],
+    set: usize,
+    held: usize,
+    items: &[u32],
+    starts: &[u32],
+    rows: &[u64],
+    queue: &[u32],
+    words: &mut [u32],
+    count: &mut usize,
+) -> u32
+    ensures calls { λ r. ⌜ Lists (now (file .entry)) (stateIn set held)
+        (wordsOf (now (items .entry)) (now (starts .entry)) (now (rows .entry)) (now (queue .entry))) latestWords
+        (now (words .entry)) r (now (count .exit)) (now (words .exit)) ⌝ }
+{
+    let state = State { set, items: held };
+    let filled = reports::latest_words(file, state, items, starts, rows, queue, words);
+    tell_count(filled, count)
+}
+
+// The latest set as records, one an item, out of its words.
+#[no_mangle]
+pub extern "C" fn brinesaddle_latest_records(
+    file: &[u8],
+    set: usize,
+    held: usize,
+    items: &[u32],
+    starts: &[u32],
+    rows: &[u64],
+    queue: &[u32],
+    records: &mut [Record],
+    count: &mut usize,
+) -> u32
+    ensures calls { λ r. ⌜ Lists (now (file .entry)) (stateIn set held)
+        (wordsOf (now (items .entry)) (now (starts .entry)) (now (rows .entry)) (now (queue .entry))) latestRecords
+        (now (records .entry)) r (now (count .exit)) (now (records .exit)) ⌝ }
+{
+    let mut words = [0; SET_WORDS];
+    let told = prepare(
+        file,
+        set,
+        held,
+        items,
+        starts,
+        rows,
+        queue,
+        records.len(),
+        &mut words,
+        count,
+    );
+    fill(&words, told.fill, records);
+    told.number
 }
 
 // Writes a node at p. The node is five numbers: its kind, and its values.

@@ -2,11 +2,13 @@
 ghost use mathlib.Core.Path.{_≡_};
 ghost use Prim.Native.Nat.{min};
 ghost use Rattle.host.specs.inner.Parts.{PartFits, firstWord};
+ghost use Rattle.reports.specs.Answers.{filledNumber, filledCount};
 ghost use Rattle.recognizer.specs.Answers.{numberOf, stateOf};
 use item::ITEM_WORDS;
 use recognizer::Answer;
 use recognizer::number_of;
 use recognizer::state_of;
+use reports::Filled;
 
 // The token that stands for a number at the door. No grammar has as many tokens, so that numbers past a u16 may share one.
 pub fn narrow(t: u32) -> u16
@@ -28,6 +30,30 @@ pub fn tell(answer: Answer, set: &mut usize, held: &mut usize) -> u32
     *set = state.set;
     *held = state.items;
     number_of(answer)
+}
+
+// The number of a place that is too short.
+pub const TOO_SHORT: u32 = 13;
+
+// Puts the count of a report into the host's word, and answers its number.
+pub fn tell_count(filled: Filled, count: &mut usize) -> u32
+    ensures number { λ r. ⌜ r ≡ filledNumber filled ⌝ }
+    ensures count { λ _. ⌜ now (count .exit) ≡ filledCount filled ⌝ }
+{
+    match filled {
+        Filled::Wrote(written) => {
+            *count = written;
+            0
+        }
+        Filled::TooShort(needed) => {
+            *count = needed;
+            TOO_SHORT
+        }
+        Filled::Refused(why) => {
+            *count = 0;
+            recognizer::refusal_number(why)
+        }
+    }
 }
 
 // The place of the first word of the latest set: behind it there are `words` words of the items held. Place 0 when refused.

@@ -8,3 +8,4 @@ pub mod Records
 pub mod Tests
 pub mod Turns
 pub mod Decides
+pub mod Fills

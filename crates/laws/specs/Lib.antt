@@ -4,3 +4,4 @@ pub mod Counts
 pub mod Records
 pub mod Turns
 pub mod Decides
+pub mod Fills

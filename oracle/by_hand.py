@@ -1,0 +1,55 @@
+"""What the tables share whose wanted numbers are written out by hand: a parse on the built library, and what came of the rows."""
+
+import library
+import model
+
+failures, count = [], 0
+
+
+def expect(what, got, wanted):
+    global count
+    count += 1
+    if got != wanted:
+        failures.append(f"{what}: wanted {wanted}, got {got}")
+
+
+def passed():
+    """Prints what failed, and how many were expected."""
+    for failure in failures:
+        print(failure)
+    print(f"{count} numbers, {len(failures)} failed")
+    return count > 0 and not failures
+
+
+class Parse:
+    """A started parse in words of the capacities I, E and Q."""
+
+    def __init__(self, file, items=20, sets=8, queue=8):
+        self.file, self.lent = library.File(file), library.Lent(model.Buffers.zeroed(items, sets, queue))
+        self.start()
+
+    def start(self):
+        expect("start", library.begin(self.file, self.lent.state(), self.lent), (0, (0, 0)))
+
+    def token(self, token):
+        return library.token(self.file, self.lent.state(), self.lent, token)[0]
+
+    def tokens(self, tokens):
+        """One call a token; the answers."""
+        return [self.token(token) for token in tokens]
+
+    def finished(self):
+        return library.finished(self.file, self.lent.state(), self.lent)
+
+    def items(self):
+        words = self.lent.words()[0]
+        return [(words[2 * place], words[2 * place + 1]) for place in range(self.lent.state().item_count)]
+
+    def sets(self):
+        starts, items = self.lent.words()[1], self.items()
+        return [items[starts[k]:starts[k + 1]] for k in range(self.lent.state().set_number + 1)]
+
+    def row(self):
+        """The symbols that the latest row holds."""
+        row = self.lent.buffers().row(self.lent.state().set_number)
+        return [symbol for symbol in range(128) if row & model.bit(symbol)]
