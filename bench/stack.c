@@ -8,7 +8,7 @@
 
 #include "brinesaddle.h"
 
-enum { PAINTED_WORDS = 1 << 15, TOKENS = 4096, UNITS = BRINESADDLE_MAX_UNITS };
+enum { PAINTED_WORDS = 1 << 16, SYMBOLS = BRINESADDLE_MAX_TOKENS + 3, RULES = 2048, TOKENS = 4096, UNITS = BRINESADDLE_MAX_UNITS };
 
 static const uint64_t PAINT = 0xA5C3965A3C69F00F;
 
@@ -26,7 +26,7 @@ __attribute__((noinline)) static size_t stack_of(void (*call)(void))
 }
 
 /* What the calls are made with. */
-static uint8_t file[4096];
+static uint8_t file[11 + 6 * RULES];
 static size_t file_len, set, held, taken, first, count, position, behind;
 static uint32_t items[BRINESADDLE_MAX_ITEM_WORDS], starts[BRINESADDLE_MAX_START_WORDS], queue[BRINESADDLE_MAX_QUEUE_WORDS];
 static uint64_t rows[BRINESADDLE_MAX_ROW_WORDS];
@@ -136,15 +136,15 @@ static void small_grammar(void)
     rule(3, 1, 2);
 }
 
-/* 128 symbols, 512 rules: each nonterminal is token 0, two of itself, or leads to the next. */
+/* As many symbols and rules as there can be: each nonterminal is token 0, two of itself, or leads to the next. */
 static void largest_grammar(void)
 {
-    head(128, 2, 512);
-    rule(126, 2, 127);
-    for (unsigned left = 2; left < 126; left++) {
+    head(SYMBOLS, 2, RULES);
+    rule(SYMBOLS - 2, 2, SYMBOLS - 1);
+    for (unsigned left = 2; left < SYMBOLS - 2; left++) {
         rule(left, left, left);
         rule(left, 0, 0xFFFF);
-        rule(left, left < 125 ? left + 1 : 0, left);
+        rule(left, left < SYMBOLS - 3 ? left + 1 : 0, left);
         rule(left, 1, left);
         if (left < 17)
             rule(left, 1, 1);

@@ -9,10 +9,13 @@
 use std::hint::black_box;
 use std::{env, fs, process};
 
+/// The words of a row: one a set.
+const SET_ROW: usize = 8;
+
 /// The largest capacities, in words.
 const ITEM_WORDS: usize = 2 * 4096;
 const START_WORDS: usize = 1024 + 1;
-const ROW_WORDS: usize = 2 * 1024;
+const ROW_WORDS: usize = SET_ROW * 1024;
 const QUEUE_WORDS: usize = 1024;
 
 const GRAMMARS: [&str; 3] = ["a", "b", "routing"];
@@ -183,7 +186,7 @@ impl Parse {
     fn undo_one(&mut self) {
         self.items[..2 * self.held].fill(0);
         self.starts[..3].fill(0);
-        self.rows[2..4].fill(0);
+        self.rows[SET_ROW..2 * SET_ROW].fill(0);
         (self.set, self.held) = (0, 0);
     }
 }

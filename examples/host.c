@@ -13,11 +13,11 @@ enum { ITEMS = 64, SETS = 16, QUEUE = 16 };
 struct parse {
     size_t set, held;
     uint32_t items[2 * ITEMS], starts[SETS + 1], queue[QUEUE];
-    uint64_t rows[2 * SETS];
+    uint64_t rows[BRINESADDLE_ROW_WORDS * SETS];
 };
 
 /* The words of a parse, as every call takes them. */
-#define WORDS(p) (p)->items, 2 * ITEMS, (p)->starts, SETS + 1, (p)->rows, 2 * SETS, (p)->queue, QUEUE
+#define WORDS(p) (p)->items, 2 * ITEMS, (p)->starts, SETS + 1, (p)->rows, BRINESADDLE_ROW_WORDS * SETS, (p)->queue, QUEUE
 #define FILE_OF(bytes) (bytes), sizeof(bytes)
 
 static void show(struct parse *p, const uint16_t *tokens, size_t count)

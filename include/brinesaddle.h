@@ -42,12 +42,15 @@ enum {
 /* The words that count. More may be lent: words past these are never touched and do not matter.
  *   items   two words an item, origin and rule
  *   starts  a word a set, and one more
- *   rows    two words a set
- *   queue   a word an entry */
+ *   rows    BRINESADDLE_ROW_WORDS a set
+ *   queue   a word an entry
+ * A row had two words before grammars could have 512 symbols. A host that still lends the 2,048 row words of that time has room for 256
+ * sets, where it had 1,024. */
 enum {
     BRINESADDLE_MAX_ITEM_WORDS = 8192,
     BRINESADDLE_MAX_START_WORDS = 1025,
-    BRINESADDLE_MAX_ROW_WORDS = 2048,
+    BRINESADDLE_ROW_WORDS = 8,
+    BRINESADDLE_MAX_ROW_WORDS = 8192,
     BRINESADDLE_MAX_QUEUE_WORDS = 1024,
     BRINESADDLE_MAX_UNITS = 32768 /* of a node store */
 };
@@ -55,9 +58,9 @@ enum {
 /* The bytes of stack that a call needs, its arguments among them: measured on x86-64 at release (bench/stack), and rounded up. A program
  * whose symbols are bound late needs up to 4 KiB more at its first call, for the linker. */
 enum {
-    BRINESADDLE_PARSE_STACK = 12288,  /* start, token, run */
-    BRINESADDLE_REPORT_STACK = 10240, /* check, finished, latest_set, expected, listing, latest_words */
-    BRINESADDLE_RECORDS_STACK = 98304, /* latest_records: it holds the words of a whole set */
+    BRINESADDLE_PARSE_STACK = 81920,  /* start, token, run */
+    BRINESADDLE_REPORT_STACK = 40960, /* check, finished, latest_set, expected, listing, latest_words */
+    BRINESADDLE_RECORDS_STACK = 122880, /* latest_records: it holds the words of a whole set */
     BRINESADDLE_NODE_STACK = 512      /* node_write, node_read, node_walk */
 };
 
@@ -105,7 +108,7 @@ uint32_t brinesaddle_latest_set(const uint8_t *file, size_t file_len, size_t set
  * 13 comes last: no length is told of a parse that is refused. A place of no elements asks for the length, and suffices where there is
  * nothing to tell; its pointer is not null either. */
 enum {
-    BRINESADDLE_MAX_TOKENS = 125, /* the most tokens of a grammar, so of expected */
+    BRINESADDLE_MAX_TOKENS = 509, /* the most tokens of a grammar, so of expected */
     BRINESADDLE_MAX_LINE = 25     /* the most bytes of a line of the listing, its newline among them */
 };
 

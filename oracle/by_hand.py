@@ -52,4 +52,4 @@ class Parse:
     def row(self):
         """The symbols that the latest row holds."""
         row = self.lent.buffers().row(self.lent.state().set_number)
-        return [symbol for symbol in range(128) if row & model.bit(symbol)]
+        return [symbol for symbol in range(model.MAX_SYMBOLS) if row & model.bit(symbol)]

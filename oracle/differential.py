@@ -5,8 +5,8 @@
 
 ROUNDS times 400 random cases from SEED beside the model, and 25 runs beside the Rust: grammars, capacities of every small size, rubbish in all words before a start and in the words past
 the capacities after it, tokens in and out of range, runs, reports, forged and damaged states; every word is compared after every call.
-Prints what was met. Fails where one of the refusals 3 to 9 was met less than LEAST times, or an answer of one call or a way to damage a
-state less than a twentieth of that.
+Prints what was met. Fails where one of the refusals 3 to 9 was met less than LEAST times, an answer of one call or a way to damage a
+state less than a twentieth of that, or a large grammar not at all.
 """
 
 import random
@@ -91,27 +91,34 @@ def rubbish(rng, words, top):
 
 
 def small_words(rng):
-    """Words of any small number, odd ones too, all rubbish. E is the least of starts less one and half the rows."""
-    often = lambda most: rng.choice([rng.randint(0, 3), rng.randint(0, most)] + [rng.randint(most // 2, most)] * 4)
-    return model.Buffers(rubbish(rng, often(90), U32), rubbish(rng, often(14), U32), rubbish(rng, often(27), U64), rubbish(rng, often(18), U32))
+    """Words of any small number, odd ones too, all rubbish. E is the least of starts less one and the whole rows."""
+    often = lambda most, few=3: rng.choice([rng.randint(0, few), rng.randint(0, most)] + [rng.randint(most // 2, most)] * 4)
+    rows = often(14 * model.ROW_WORDS - 1, 2 * model.ROW_WORDS - 1)
+    return model.Buffers(rubbish(rng, often(90), U32), rubbish(rng, often(14), U32), rubbish(rng, rows, U64), rubbish(rng, often(18), U32))
 
 
 def large_words(rng):
     """Words about the largest capacities, so that some lie past them."""
     about = lambda most: max(0, most + rng.randint(-2, 3))
-    return model.Buffers(rubbish(rng, about(8192), U32), rubbish(rng, about(1025), U32), rubbish(rng, about(2048), U64), rubbish(rng, about(1024), U32))
+    items, starts, rows, queue = 2 * model.MAX_ITEMS, model.MAX_SETS + 1, model.ROW_WORDS * model.MAX_SETS, model.MAX_QUEUE
+    return model.Buffers(rubbish(rng, about(items), U32), rubbish(rng, about(starts), U32), rubbish(rng, about(rows), U64), rubbish(rng, about(queue), U32))
 
 
 # ------------------------------------------------------------------------------------------------------ Kinds of case
 
 def random_file(rng):
-    """A grammar file; now and then one that the check refuses."""
-    file, grammar = rng.choice([generate.small_grammar] * 9 + [generate.middle_grammar])(rng)
+    """A grammar file, few of them large; now and then one that the check refuses."""
+    file, grammar = rng.choice([generate.small_grammar] * 360 + [generate.middle_grammar] * 40 + [generate.largest_grammar])(rng)
     if rng.random() < 0.1:
         damaged = bytearray(file)
         damaged[rng.randrange(len(file))] ^= 1 << rng.randrange(8)
         file = bytes(damaged)[:len(file) - rng.choice([0, 0, 0, 1, 6])]
     return file, grammar
+
+
+def is_large(grammar):
+    """Whether symbols stand past the second word of a row."""
+    return grammar.symbols > 2 * model.WORD_BITS
 
 
 def next_token(rng, both, grammar):
@@ -136,6 +143,7 @@ def a_parse(rng):
         if rng.random() < 0.3:
             both.every_call(rng, grammar)
         return
+    met["parses of large grammars"] += is_large(grammar)
     refusals = 0
     for _ in range(rng.randint(1, 16)):
         if rng.random() < 0.25:
@@ -159,9 +167,9 @@ def fitting(rng, chart):
         buffers.items += rubbish(rng, 1, U32)
     if rng.random() < 0.5:
         buffers.starts += rubbish(rng, rng.randint(1, 3), U32)  # then the rows are the fewer
-        buffers.rows += rubbish(rng, rng.randint(0, 1), U64)
+        buffers.rows += rubbish(rng, rng.randrange(model.ROW_WORDS), U64)
     elif rng.random() < 0.5:
-        buffers.rows += rubbish(rng, rng.randint(1, 5), U64)
+        buffers.rows += rubbish(rng, rng.randint(1, 2 * model.ROW_WORDS), U64)
     return state, buffers
 
 
@@ -219,7 +227,7 @@ def damage(rng, way, grammar, chart, state, buffers):
         if way == "origin":
             buffers.items[2 * place] = rng.choice([k, k + 1, U32 - 1])
         elif way == "rule past the rules":
-            buffers.items[2 * place + 1] = len(grammar.rules) + rng.choice([0, 1, 512, 2**31])
+            buffers.items[2 * place + 1] = len(grammar.rules) + rng.choice([0, 1, model.MAX_RULES, 2**31])
         else:
             buffers.items[2 * place + 1] = rng.choice(unary)
         return state
@@ -232,10 +240,10 @@ def damage(rng, way, grammar, chart, state, buffers):
         buffers.items[at:at + 4] = other + one if way == "two items swapped" else one + one
         return state
     if way == "row bit":
-        k, symbol = rng.randint(0, e), rng.choice([grammar.symbols, 63, 64, 127, rng.randint(grammar.symbols, 127)])
+        k, symbol = rng.randint(0, e), rng.choice([grammar.symbols, 63, 64, model.MAX_SYMBOLS - 1, rng.randrange(model.MAX_SYMBOLS)])
         if symbol < grammar.symbols:
             return None
-        buffers.rows[2 * k + symbol // 64] |= 1 << symbol % 64
+        buffers.rows[model.ROW_WORDS * k + symbol // model.WORD_BITS] |= 1 << symbol % model.WORD_BITS
         return state
     kind = ["spare item word", "spare start", "spare row word", "queue word"].index(way)
     words, room = buffers.parts()[kind]
@@ -327,8 +335,8 @@ def a_walk(position, store):
 def beside_the_rust(rng, cases=20):
     """Whole states after each token, of random runs from the start and from forged states, as the Rust tells them. The capacities are
     just those that the Rust needed; with one less of a kind the last step is refused 7, 8 or 9."""
-    made = [generate.reached_case(rng, rng.choice([generate.small_grammar] * 6 + [generate.middle_grammar] * 2 + [generate.large_grammar]), 12, 250)
-            for _ in range(cases)]
+    makers = [generate.small_grammar] * 36 + [generate.middle_grammar] * 12 + [generate.large_grammar] * 6 + [generate.largest_grammar]
+    made = [generate.reached_case(rng, rng.choice(makers), 12, 250) for _ in range(cases)]
     made += [generate.forged_case(rng, generate.small_grammar, 4, 150) for _ in range(cases // 4)]
     for case, (before, answers) in zip(made, streams.ask_states(made)):
         items = max([len(before.items)] + [answer.room[0] for answer in answers if answer.number == 0])
@@ -369,6 +377,7 @@ def compare_run(case, before, answers, items, sets, queue):
             same("Rust: words", lent.words(), [wanted.items, wanted.starts, wanted.rows, wanted.queue])
             same("Rust: finished", library.finished(file, state, lent), (0, answer.chart.finished))
     met["Rust: runs"] += 1
+    met["Rust: runs of large grammars"] += is_large(model.check(case.file)[1])
 
 
 def refused_run(case, before, answers, items, sets, queue, refusal):
@@ -387,6 +396,8 @@ KINDS = [(a_parse, 50), (a_forged_state, 12), (a_damaged_state, 22), (some_nodes
 ASKED = [f"start {n}" for n in (0, 1, 2, 3)] + [f"{call} {n}" for call in ("token", "run") for n in (0, 1, 2, 4, 5, 6, 7, 8, 9)] + \
         [f"{call} {n}" for call in ("finished", "latest set") for n in (0, 1, 2, 4)] + [f"damaged: {way}" for way in WAYS] + \
         ["node write 0", "node write 10", "node write 11", "node read 0", "node read 12", "node read 0 end", "node walk 0", "node walk 12", "Rust: runs", "Rust: token 0", "Rust: token 6"]
+
+RARER = ["parses of large grammars", "Rust: runs of large grammars"]
 
 
 def refusals(number):
@@ -408,6 +419,7 @@ def main():
     for name in sorted(met):
         print(f"{name}: {met[name]}")
     rare = [f"refusal {n}" for n in range(3, 10) if refusals(n) < least] + [name for name in ASKED if met[name] < max(1, least // 20)]
+    rare += [name for name in RARER if not met[name]]
     if rare:
         print("met too rarely: " + ", ".join(rare))
         return 1

@@ -45,16 +45,18 @@ def random_grammar(rng, tokens, nonterminals, rules, unary):
     for left in blocks:
         add(left)
     tries = 0
-    while len(grammar().rules) < rules and tries < 4 * rules:
+    while 1 + sum(map(len, of_block.values())) < rules and tries < 4 * rules:
         add(rng.choice(blocks))
         tries += 1
+    productive = model.productive(grammar())
     for left in blocks:
-        if left not in model.productive(grammar()):
+        if left not in productive:
             of_block[left].append((left, rng.randrange(tokens), None))
+            productive = model.productive(grammar())
     made = grammar()
     file = model.make_file(*made)
     answer, checked = model.check(file)
-    if answer != 0:  # one rule too many: the repair above may pass 512
+    if answer != 0:  # one rule too many: the repair above may pass the most rules
         return random_grammar(rng, tokens, nonterminals, rules - 8, unary)
     assert checked == made
     return file, made
@@ -72,15 +74,24 @@ def middle_grammar(rng):
 
 
 def large_grammar(rng):
-    """More than 64 symbols, so that both words of a row are used; up to 128 symbols and 512 rules."""
+    """More than 64 symbols, so that a second word of a row is used; up to 128 symbols and some 500 rules."""
     symbols = rng.choice([rng.randint(65, 128), 128])
     tokens = rng.randint(10, symbols - 30)
-    return random_grammar(rng, tokens, symbols - 2 - tokens, rng.choice([rng.randint(120, 500), 512]), 0.3)
+    return random_grammar(rng, tokens, symbols - 2 - tokens, rng.randint(120, 512), 0.3)
+
+
+def largest_grammar(rng, symbols=None, most_rules=model.MAX_RULES):
+    """400 symbols, or as many as there can be, so that every word of a row is used; mostly as many rules as there can be. Few of them have
+    one symbol, so that a token completes few symbols."""
+    symbols = symbols or rng.choice([400, model.MAX_SYMBOLS, model.MAX_SYMBOLS])
+    tokens = rng.randint(50, symbols - 50)
+    rules = rng.choice([rng.randint(most_rules // 2, most_rules), most_rules])
+    return random_grammar(rng, tokens, symbols - 2 - tokens, rules, rng.choice([0.1, 0.2, 0.3]))
 
 
 # ---------------------------------------------------------------------------------------------------------- Tokens
 
-def rooms(chart, items=4096, sets=1024, queue=1024):
+def rooms(chart, items=model.MAX_ITEMS, sets=model.MAX_SETS, queue=model.MAX_QUEUE):
     """Lent words that hold a chart, and its state."""
     buffers = model.Buffers.zeroed(items, sets, queue)
     contents = [streams.flat(chart.items), chart.starts, streams.row_words(chart.rows)]
@@ -237,11 +248,13 @@ def main():
     record_states("states_small.txt", by_hand + [reached_case(rng, small_grammar, rng.randint(4, 14), 140) for _ in range(300)])
     rng = random.Random(2)
     record_states("states_large.txt", [reached_case(rng, large_grammar, 6, 800) for _ in range(24)] +
-                  [reached_case(rng, middle_grammar, 9, 300) for _ in range(40)])
+                  [reached_case(rng, middle_grammar, 9, 300) for _ in range(40)] +
+                  [reached_case(rng, largest_grammar, 6, 800) for _ in range(8)])
     rng = random.Random(3)
     record_states("states_forged.txt", [forged_case(rng, small_grammar, 4, 150) for _ in range(200)] +
                   [forged_case(rng, middle_grammar, 3, 200) for _ in range(40)] +
-                  [forged_case(rng, large_grammar, 2, 400) for _ in range(10)])
+                  [forged_case(rng, large_grammar, 2, 400) for _ in range(10)] +
+                  [forged_case(rng, largest_grammar, 2, 800) for _ in range(4)])
 
     rng = random.Random(4)
     cases = [heap_case(rng) for _ in range(300)]

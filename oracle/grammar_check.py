@@ -13,8 +13,12 @@ import sys
 import asserting  # noqa: F401
 
 NONE = 0xFFFF
+MAX_SYMBOLS, MAX_RULES = 512, 2048
+WORD_BITS, ROW_WORDS = 64, 8
 HERE = os.path.dirname(os.path.abspath(__file__))
 PROGRAM = os.path.join(HERE, "..", "crates", "replay_grammar")
+
+sys.setrecursionlimit(4 * MAX_SYMBOLS)  # the longest path of derives_some is one of all nonterminals
 
 
 # ---- the checker
@@ -53,9 +57,9 @@ def broken(n, t, rules):
     holds = {
         "a-token": t >= 1,
         "room": t + 3 <= n,
-        "few-symbols": n <= 128,
+        "few-symbols": n <= MAX_SYMBOLS,
         "a-rule": len(rules) >= 1,
-        "few-rules": len(rules) <= 512,
+        "few-rules": len(rules) <= MAX_RULES,
         "wraps": first[0] == w and first[2] == end,
         "starts": first[1] in nonterminals,
         "lefts": all(a in nonterminals for a, b, c in rules[1:]),
@@ -70,7 +74,7 @@ def broken(n, t, rules):
 
 
 def accepted(n, t, rules):
-    if not (1 <= t and t + 3 <= n <= 128 and 1 <= len(rules) <= 512):
+    if not (1 <= t and t + 3 <= n <= MAX_SYMBOLS and 1 <= len(rules) <= MAX_RULES):
         return False
     return not broken(n, t, rules)
 
@@ -84,15 +88,14 @@ def answer(data):
 
 def table(n, rules):
     """What each symbol reaches by first symbols."""
+    firsts = {x: {b for a, b, c in rules if a == x} for x in range(n)}
     rows = []
     for x in range(n):
         seen, left = {x}, [x]
         while left:
-            y = left.pop()
-            for a, b, c in rules:
-                if a == y and b not in seen:
-                    seen.add(b)
-                    left.append(b)
+            more = firsts[left.pop()] - seen
+            seen |= more
+            left += more
         rows.append(seen)
     return rows
 
@@ -134,11 +137,14 @@ def named():
     yield "grammar A", a, None
     yield "grammar B", b, None
     yield "T+3 = N", pack(*tiny), None
-    yield "N = 128", pack(*wide(128, 200)), None
-    yield "N = 129", pack(*wide(129, 200)), "few-symbols"
-    yield "R = 512", pack(*wide(40, 512)), None
-    yield "R = 513", pack(*wide(40, 513)), "few-rules"
-    yield "N = 128, R = 512", pack(*wide(128, 512)), None
+    all_tokens = (MAX_SYMBOLS, MAX_SYMBOLS - 3, [(MAX_SYMBOLS - 2, MAX_SYMBOLS - 3, MAX_SYMBOLS - 1)] +
+                  [(MAX_SYMBOLS - 3, token, NONE) for token in range(MAX_SYMBOLS - 3)])
+    yield f"N = {MAX_SYMBOLS}", pack(*wide(MAX_SYMBOLS, 600)), None
+    yield f"N = {MAX_SYMBOLS + 1}", pack(*wide(MAX_SYMBOLS + 1, 600)), "few-symbols"
+    yield f"N = {MAX_SYMBOLS}, T = {MAX_SYMBOLS - 3}", pack(*all_tokens), None
+    yield f"R = {MAX_RULES}", pack(*wide(50, MAX_RULES)), None
+    yield f"R = {MAX_RULES + 1}", pack(*wide(50, MAX_RULES + 1)), "few-rules"
+    yield f"N = {MAX_SYMBOLS}, R = {MAX_RULES}", pack(*wide(MAX_SYMBOLS, MAX_RULES)), None
     yield "R = 0", pack(6, 2, []), None
     yield "R = 1", pack(6, 2, A[2][:1]), None
     yield "T = 0", pack(3, 0, [(1, 0, 2), (0, 0, 0)]), None
@@ -166,7 +172,7 @@ def named():
     yield "first is none", changed(A, rules=A[2] + [(3, NONE, NONE)]), "firsts"
     yield "second is W", changed(A, rules=A[2] + [(3, 0, 4)]), "seconds"
     yield "second is the end mark", changed(A, rules=A[2] + [(3, 0, 5)]), "seconds"
-    yield "second past N", changed(A, rules=A[2] + [(3, 0, 128)]), "seconds"
+    yield "second past N", changed(A, rules=A[2] + [(3, 0, MAX_SYMBOLS)]), "seconds"
     yield "second is 0xFFFE", changed(A, rules=A[2] + [(3, 0, NONE - 1)]), "seconds"
     yield "rules of one left side apart", changed(A, rules=A[2] + [(2, 1, 1)]), "adjacent"
     yield "rules of one left side apart, at once", changed(A, rules=[A[2][0], A[2][1], A[2][3], A[2][2]]), "adjacent"
@@ -201,8 +207,8 @@ def named():
     yield "one byte more, L too", changed(A, length=36) + b"\0", None
     yield "R one less", changed(A, count=3), None
     yield "R one more", changed(A, count=5), None
-    yield "malformed and broken", changed(A, n=129, version=2), None
-    yield "R = 513 and truncated", pack(*wide(40, 513))[:-6], None
+    yield "malformed and broken", changed(A, n=MAX_SYMBOLS + 1, version=2), None
+    yield f"R = {MAX_RULES + 1} and truncated", pack(*wide(50, MAX_RULES + 1))[:-6], None
     yield "R = 65535 in the header alone", changed(A, count=65535), None
 
 
@@ -287,15 +293,16 @@ def record(label, data):
 
 def rows(n, rules):
     """The table of an accepted grammar, a row a line, its words in hexadecimal."""
-    words = (sum(1 << y for y in row) for row in table(n, rules))
-    return "".join("%016x %016x\n" % (word & (1 << 64) - 1, word >> 64) for word in words)
+    word = lambda row, k: sum(1 << y % WORD_BITS for y in row if y // WORD_BITS == k)
+    return "".join(" ".join("%016x" % word(row, k) for k in range(ROW_WORDS)) + "\n" for row in table(n, rules))
 
 
 def tables():
     """Accepted grammars for their tables: random ones, and the longest chains of first symbols, upwards and downwards."""
     rng = random.Random(20210302)
-    yield "table up", (128, 2, [(126, 2, 127)] + [(i, i + 1, 0) for i in range(2, 125)] + [(125, 1, NONE)])
-    yield "table down", (128, 2, [(126, 125, 127)] + [(2, 1, NONE)] + [(i, i - 1, 0) for i in range(3, 126)])
+    n, last, w, end = MAX_SYMBOLS, MAX_SYMBOLS - 3, MAX_SYMBOLS - 2, MAX_SYMBOLS - 1
+    yield "table up", (n, 2, [(w, 2, end)] + [(i, i + 1, 0) for i in range(2, last)] + [(last, 1, NONE)])
+    yield "table down", (n, 2, [(w, last, end)] + [(2, 1, NONE)] + [(i, i - 1, 0) for i in range(3, last + 1)])
     made = 0
     while made < 150:
         case = grammar(rng)

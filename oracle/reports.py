@@ -6,8 +6,8 @@
 ROUNDS times 100 random cases from SEED: parses from the start, forged states, states with the largest numbers there can be, states with
 one phrase of well formed broken, files that the check refuses. Each of the four reports is asked with a place that is empty, one too short,
 just long enough and longer, of any contents. Compared are the answer, the count, each element of the place, some behind it, and every word
-of the parse. And where the state is well formed, each token below T is offered to a copy of the words: it is listed exactly when it is not
-answered 6.
+of the parse. And where the state is well formed, tokens below T are offered to a copy of the words, all where they are few: each is listed
+exactly when it is not answered 6.
 
 Prints what was met. Fails where an answer of a report, a kind of place, or an answer to a token offered was met less than LEAST times, or
 where one of the rarer things was not met at all.
@@ -23,6 +23,7 @@ import model
 from differential import Both, Differs, met, same
 from streams import Chart
 
+OFFERED = 40
 REPORTS = {"expected": 2**16, "listing": 2**8, "latest_words": 2**32, "latest_records": 2**32}  # each with the numbers that fit an element
 
 
@@ -55,10 +56,10 @@ class Reported(Both):
         return answer
 
     def offered(self, rng, grammar):
-        """Each token below T on a copy of the same words."""
+        """Tokens below T on a copy of the same words: all, or OFFERED of them."""
         answer, count, place = self.ask(rng, "expected", grammar.tokens)
         same("T tokens of place suffice", answer, 0)
-        for token in range(grammar.tokens):
+        for token in rng.sample(range(grammar.tokens), min(grammar.tokens, OFFERED)):
             number, _ = library.token(self.file, self.state, library.Lent(self.buffers), token)
             about = f"token {token} on {self.data.hex()}, state {tuple(self.state)}, answered {number}"
             same(f"{about}: listed", token in place[:count], number != 6)
@@ -93,16 +94,16 @@ def a_forged_state(rng):
 
 def many_tokens(rng):
     """As many tokens as there can be."""
-    return generate.random_grammar(rng, 125, 1, rng.randint(20, 150), 0.3)
+    return generate.random_grammar(rng, model.MAX_TOKENS, 1, rng.randint(20, 600), 0.3)
 
 
 def a_wide_state(rng):
     """A latest set with symbols and origins of every number of digits, the longest line among them, up to the most items there can be."""
-    file, grammar = rng.choice([many_tokens, many_tokens, generate.large_grammar, generate.middle_grammar])(rng)
+    file, grammar = rng.choice([many_tokens, many_tokens, generate.largest_grammar, generate.large_grammar, generate.middle_grammar])(rng)
     binary = [rule for rule, (_, _, second) in enumerate(grammar.rules) if second is not None]
-    set_number = rng.choice([1, 10, 11, 100, 101, 1000, 1001, 1023, 1023])
+    set_number = rng.choice([1, 10, 11, 100, 101, 1000, 1001, model.MAX_SETS - 1, model.MAX_SETS - 1])
     most = set_number * len(binary)
-    chosen = rng.sample(range(most), min(most, rng.choice([1, 10, 100, 100, 100, 4095])))
+    chosen = rng.sample(range(most), min(most, rng.choice([1, 10, 100, 100, 100, model.MAX_ITEMS - 1])))
     items = {(at % set_number, binary[at // set_number]) for at in chosen} | {(set_number - 1, 0)}
     items = sorted(items, key=lambda item: model.set_order(grammar, item))
     rows = [rng.getrandbits(grammar.symbols) for _ in range(set_number + 1)]
@@ -112,7 +113,7 @@ def a_wide_state(rng):
     longest = max(len(line) for line in model.text_of_the_set(grammar, parse.state, parse.buffers).splitlines(keepends=True))
     same("a line has at most 25 bytes", longest <= 25, True)
     met["lines of 25 bytes"] += longest == 25
-    met["4,096 items"] += len(items) == 4096
+    met["4,096 items"] += len(items) == model.MAX_ITEMS
 
 
 def a_damaged_state(rng):
@@ -145,7 +146,7 @@ def a_refused_file(rng):
 
 # ------------------------------------------------------------------------------------------------------------- Runs
 
-KINDS = [(a_parse, 40), (a_forged_state, 30), (a_wide_state, 2), (a_damaged_state, 13), (a_refused_file, 15)]
+KINDS = [(a_parse, 41), (a_forged_state, 30), (a_wide_state, 1), (a_damaged_state, 13), (a_refused_file, 15)]
 PLACES = ["empty place, too short", "empty place, nothing to tell", "empty place, refused", "one short", "exact", "longer", "longer, refused"]
 ASKED = [f"{report} {answer}" for report in REPORTS for answer in (0, 1, 2, 4, 13)] + \
         [f"{report}: {kind}" for report in REPORTS for kind in PLACES] + [f"offered, answered {answer}" for answer in (0, 6, 7, 8, 9)]

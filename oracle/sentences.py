@@ -6,7 +6,7 @@
 Every grammar of some small shapes, then GRAMMARS random ones from SEED. On every token string up to some length: the token is refused
 6 exactly when no sentence begins so, the expected tokens are exactly the others, and finished is said exactly of the sentences. Nothing
 here knows of sets, items or predictions: a string is derived by taking it apart by the rules. For small grammars the sentences are also
-listed, and the listing agrees.
+listed, and the listing agrees. Then large grammars, in which a string goes on with few of the tokens.
 """
 
 import itertools
@@ -19,6 +19,10 @@ import model
 
 # Room for all that is read here, so that no token meets a room refusal.
 ITEMS, SETS, QUEUE = 1500, 12, 300
+
+# Large grammars: of so many symbols, with up to so many rules. So many tokens are tried behind a string that are expected there, and as many
+# others.
+LARGE, LARGE_RULES, LARGE_TRIED, LARGE_LONGEST = (400, model.MAX_SYMBOLS), 700, 2, 3
 
 
 # ------------------------------------------------------------------------------------------------- From the rules alone
@@ -127,8 +131,8 @@ def wrong(file, string, what):
     raise SystemExit(f"{file.hex()}, tokens {list(string)}: {what}")
 
 
-def compare(file, grammar, longest, counts):
-    """All strings up to a length, prefix by prefix, depth first."""
+def compare(file, grammar, longest, counts, some=lambda tokens: tokens):
+    """Strings up to a length, prefix by prefix, depth first: all, or those that go on with some of the tokens."""
     rules, parse = Rules(grammar), Library(file)
     listing = listed(grammar, longest + 2) if longest <= 4 and grammar.tokens <= 2 and len(grammar.rules) <= 4 else None
 
@@ -145,9 +149,9 @@ def compare(file, grammar, longest, counts):
             wrong(file, string, f"expected {parse.expected(grammar.tokens)}, but a sentence goes on with {goes_on}")
         counts["expected"] += len(goes_on)
         counts["nothing expected"] += not goes_on
-        for token in range(grammar.tokens):
+        for token in some(goes_on) + some([token for token in range(grammar.tokens) if token not in goes_on]):
             longer = string + (token,)
-            answer, viable = parse.token(token), rules.is_begun(longer)
+            answer, viable = parse.token(token), token in goes_on
             if answer != (0 if viable else 6):
                 wrong(file, longer, f"answer {answer}, but a sentence begins so: {viable}")
             if listing is not None and not viable and any(sentence[:len(longer)] == longer for sentence in listing):
@@ -188,16 +192,27 @@ def random_ones(rng, grammars, counts):
         compare(file, grammar, {1: 9, 2: 6, 3: 5}[grammar.tokens], counts)
 
 
-COMPARED = ["accepted", "refused 6", "expected", "nothing expected", "sentences"]
+def large_ones(rng, counts):
+    some = lambda tokens: rng.sample(tokens, min(len(tokens), LARGE_TRIED))
+    for symbols in LARGE:
+        file, grammar = generate.largest_grammar(rng, symbols, LARGE_RULES)
+        compare(file, grammar, LARGE_LONGEST, counts, some)
+
+
+COMPARED = ["accepted", "refused 6", "expected"]
+BY_SMALL_ONES = ["nothing expected", "sentences"]
 
 
 def main():
     seed, grammars = int(sys.argv[1]), int(sys.argv[2])
-    for name, work in [("every grammar of the shapes", all_small), ("random grammars", lambda counts: random_ones(random.Random(seed), grammars, counts))]:
-        counts = dict.fromkeys(["grammars", "files refused by the check", *COMPARED], 0)
+    for name, work, compared in [
+            ("every grammar of the shapes", all_small, COMPARED + BY_SMALL_ONES),
+            ("random grammars", lambda counts: random_ones(random.Random(seed), grammars, counts), COMPARED + BY_SMALL_ONES),
+            ("large grammars", lambda counts: large_ones(random.Random(seed), counts), COMPARED)]:
+        counts = dict.fromkeys(["grammars", "files refused by the check", *COMPARED, *BY_SMALL_ONES], 0)
         work(counts)
         print(f"{name}: " + ", ".join(f"{what} {count}" for what, count in counts.items() if count))
-        missing = [what for what in ("grammars", *COMPARED) if not counts[what]]
+        missing = [what for what in ("grammars", *compared) if not counts[what]]
         if missing:
             raise SystemExit(f"{name}: nothing was compared of: {', '.join(missing)}")
 

@@ -60,15 +60,15 @@ class Numbers:
         return list(zip(words[::2], words[1::2]))
 
     def rows(self, count):
-        return [low | high << 64 for low, high in self.items(count)]
+        return [model.row_of(self.list(model.ROW_WORDS)) for _ in range(count)]
 
 
-def flat(pairs):
-    return [number for pair in pairs for number in pair]
+def flat(lists):
+    return [number for numbers in lists for number in numbers]
 
 
 def row_words(rows):
-    return flat(model.two_words(row) for row in rows)
+    return flat(model.words_of(row) for row in rows)
 
 
 # ---------------------------------------------------------------------------------------------------------- States

@@ -2,7 +2,7 @@
 
 use std::ops::Range;
 
-use crate::grammar::{Grammar, Row, NONE};
+use crate::grammar::{is_below, Grammar, Row, NONE, ROW_WORDS};
 use crate::{State, Words};
 
 const MAX_ITEMS: usize = 4096;
@@ -15,7 +15,7 @@ pub type Item = [u32; 2];
 pub struct Chart<'a> {
     pub items: &'a mut [Item],
     pub starts: &'a mut [u32],
-    pub rows: &'a mut [[u64; 2]],
+    pub rows: &'a mut [Row],
     pub queue: &'a mut [u32],
 }
 
@@ -41,17 +41,8 @@ impl<'a> Chart<'a> {
     pub fn clear(&mut self) {
         self.items.fill([0; 2]);
         self.starts.fill(0);
-        self.rows.fill([0; 2]);
+        self.rows.fill([0; ROW_WORDS]);
         self.queue.fill(0);
-    }
-
-    pub fn row(&self, set: usize) -> Row {
-        let [low, high] = self.rows[set];
-        Row::from(low) | Row::from(high) << 64
-    }
-
-    pub fn set_row(&mut self, set: usize, row: Row) {
-        self.rows[set] = [row as u64, (row >> 64) as u64];
     }
 
     /// The places of a set's items.
@@ -69,10 +60,10 @@ impl<'a> Chart<'a> {
             && count <= self.items.len()
             && self.has_fit_starts(e, count)
             && (0..=e).all(|k| self.has_fit_items(grammar, k))
-            && (0..=e).all(|k| self.row(k).checked_shr(grammar.symbols as u32).unwrap_or(0) == 0)
+            && self.rows[..=e].iter().all(|row| is_below(row, grammar.symbols))
             && self.items[count..].iter().all(|item| *item == [0; 2])
             && self.starts[e + 2..].iter().all(|word| *word == 0)
-            && self.rows[e + 1..].iter().all(|row| *row == [0; 2])
+            && self.rows[e + 1..].iter().all(|row| *row == [0; ROW_WORDS])
             && self.queue.iter().all(|word| *word == 0)
     }
 

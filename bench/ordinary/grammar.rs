@@ -6,14 +6,15 @@ const VERSION: u8 = 1;
 const HEADER: usize = 11;
 const RULE: usize = 6;
 
-pub const MAX_SYMBOLS: usize = 128;
-pub const MAX_RULES: usize = 512;
+pub const MAX_SYMBOLS: usize = 512;
+pub const MAX_RULES: usize = 2048;
+pub const ROW_WORDS: usize = MAX_SYMBOLS / 64;
 
 /// What stands for the second symbol of a rule that has one symbol.
 pub const NONE: u16 = 0xFFFF;
 
-/// A set of symbols: symbol s is bit s.
-pub type Row = u128;
+/// A set of symbols: symbol s is bit s % 64 of word s / 64.
+pub type Row = [u64; ROW_WORDS];
 
 #[derive(Clone, Copy, PartialEq, Eq)]
 pub struct Rule {
@@ -28,8 +29,26 @@ pub struct Grammar {
     pub rules: Vec<Rule>,
 }
 
-pub fn holds(row: Row, symbol: usize) -> bool {
-    row >> symbol & 1 == 1
+pub fn holds(row: &Row, symbol: usize) -> bool {
+    row[symbol / 64] >> (symbol % 64) & 1 == 1
+}
+
+fn add(row: &mut Row, symbol: usize) {
+    row[symbol / 64] |= 1 << (symbol % 64);
+}
+
+pub fn unite(row: &mut Row, other: &Row) {
+    for (word, more) in row.iter_mut().zip(other) {
+        *word |= more;
+    }
+}
+
+/// Whether the row holds no symbol at `symbols` or above.
+pub fn is_below(row: &Row, symbols: usize) -> bool {
+    row.iter().enumerate().all(|(k, word)| {
+        let bits = symbols.saturating_sub(64 * k) as u32;
+        word.checked_shr(bits).unwrap_or(0) == 0
+    })
 }
 
 impl Grammar {
@@ -141,19 +160,19 @@ impl Grammar {
 
     /// The prediction table: row X holds X and every symbol reached from X by first symbols.
     pub fn table(&self) -> [Row; MAX_SYMBOLS] {
-        let mut table = [0; MAX_SYMBOLS];
+        let mut table = [[0; ROW_WORDS]; MAX_SYMBOLS];
         for (symbol, row) in table[..self.symbols].iter_mut().enumerate() {
-            *row = 1 << symbol;
+            add(row, symbol);
         }
         for rule in &self.rules {
-            table[usize::from(rule.left)] |= 1 << rule.first;
+            add(&mut table[usize::from(rule.left)], usize::from(rule.first));
         }
         // Warshall's order. A token leads nowhere.
         for through in self.tokens..self.symbols {
             let reached = table[through];
             for row in &mut table[self.tokens..self.symbols] {
-                if holds(*row, through) {
-                    *row |= reached;
+                if holds(row, through) {
+                    unite(row, &reached);
                 }
             }
         }

@@ -56,7 +56,7 @@ pub fn start(file: &[u8], words: &mut Words) -> Result<State, Refusal> {
     let grammar = Grammar::read(file)?;
     let mut chart = Chart::within(words).ok_or(Refusal::NoSets)?;
     chart.clear();
-    chart.set_row(0, grammar.table()[grammar.wrapper()]);
+    chart.rows[0] = grammar.table()[grammar.wrapper()];
     Ok(State::default())
 }
 

@@ -1,7 +1,7 @@
 //! One token, by document 01's steps.
 
 use crate::chart::{set_order, Chart, Item};
-use crate::grammar::{holds, ByFirst, Grammar, Row, MAX_SYMBOLS, NONE};
+use crate::grammar::{holds, unite, ByFirst, Grammar, Row, MAX_SYMBOLS, NONE, ROW_WORDS};
 use crate::{queue, Refusal, State};
 
 /// A token on a well-formed state. A refusal leaves the words as they were.
@@ -16,7 +16,7 @@ pub fn step(
     if token >= grammar.tokens {
         return Err(Refusal::NoToken);
     }
-    if !holds(chart.row(state.set), token) {
+    if !holds(&chart.rows[state.set], token) {
         return Err(Refusal::NotPredicted);
     }
     let mut pass = Pass { grammar, by_first, chart, stored: state.items, queued: 0 };
@@ -56,8 +56,8 @@ impl Pass<'_, '_> {
     }
 
     fn complete(&mut self, k: usize, symbol: usize) -> Result<(), Refusal> {
-        let row = self.chart.row(k);
-        if !holds(row, symbol) {
+        let row = self.chart.rows[k];
+        if !holds(&row, symbol) {
             return Ok(());
         }
         let second = |item: &Item| usize::from(self.grammar.rules[item[1] as usize].second);
@@ -69,7 +69,7 @@ impl Pass<'_, '_> {
         for place in first..first + count {
             self.enqueue(place)?;
         }
-        let predicted = |number: u16| holds(row, usize::from(self.grammar.rules[usize::from(number)].left));
+        let predicted = |number: u16| holds(&row, usize::from(self.grammar.rules[usize::from(number)].left));
         for &number in self.by_first.unary(symbol) {
             if predicted(number) {
                 self.store([k as u32, u32::from(number)])?;
@@ -128,14 +128,13 @@ fn advance(
         begin = chart.starts[kept + 1] as usize;
         chart.items.copy_within(state.items..state.items + count, begin);
         chart.starts[kept + 2..state.set + 2].fill(0);
-        chart.rows[kept..=state.set].fill([0; 2]);
+        chart.rows[kept..=state.set].fill([0; ROW_WORDS]);
     }
     let end = begin + count;
     chart.items[end..stored].fill([0; 2]);
     chart.starts[kept + 2] = end as u32;
-    let row = chart.items[begin..end].iter().fold(0, |row, &[_, rule]| {
-        row | table[usize::from(grammar.rules[rule as usize].second)]
-    });
-    chart.set_row(kept + 1, row);
+    for &[_, rule] in &chart.items[begin..end] {
+        unite(&mut chart.rows[kept + 1], &table[usize::from(grammar.rules[rule as usize].second)]);
+    }
     Ok(State { set: kept + 1, items: end })
 }

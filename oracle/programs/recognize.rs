@@ -44,6 +44,9 @@ const FROM_ANY_SHAPE: u32 = 2;
 /// In place of a token: call the crate's `reset`.
 const RESET: u32 = 0xFFFF_FFFF;
 
+/// The words of a row in the streams, whatever the number of symbols. Those past the crate's own row are 0.
+const ROW_WORDS: usize = 8;
+
 const ACCEPTED: u32 = 0;
 const EXHAUSTED: u32 = 6;
 
@@ -110,8 +113,8 @@ fn read_items(numbers: &mut Numbers, count: usize) -> Vec<Item<u32>> {
 fn read_rows(numbers: &mut Numbers, count: usize, symbols: usize) -> BitMatrix {
     let mut rows = BitMatrix::new(count, symbols);
     for row in 0..count {
-        let words: Vec<u64> = numbers.list(2);
-        for symbol in (0..128).filter(|symbol| words[symbol / 64] >> (symbol % 64) & 1 == 1) {
+        let words: Vec<u64> = numbers.list(ROW_WORDS);
+        for symbol in (0..64 * ROW_WORDS).filter(|symbol| words[symbol / 64] >> (symbol % 64) & 1 == 1) {
             rows.set(row, symbol, true);
         }
     }
@@ -172,8 +175,8 @@ fn take_token(parse: &mut Parse, token: u32) -> Option<Taken> {
     Some(Taken { most_items, most_queued, sums })
 }
 
-fn two_words(row: &[u64]) -> [u64; 2] {
-    [row[0], row.get(1).cloned().unwrap_or(0)]
+fn row_words(row: &[u64]) -> Vec<u64> {
+    (0..ROW_WORDS).map(|k| row.get(k).cloned().unwrap_or(0)).collect()
 }
 
 fn print_state(parse: &Parse) {
@@ -187,8 +190,9 @@ fn print_state(parse: &Parse) {
     }
     print!(" ");
     for set in 0..parse.earleme() + 1 {
-        let row = two_words(&parse.predicted[set]);
-        print!(" {} {}", row[0], row[1]);
+        for word in row_words(&parse.predicted[set]) {
+            print!(" {}", word);
+        }
     }
     println!();
 }
@@ -291,8 +295,7 @@ fn show_state(parse: &Parse) {
         println!("  item {}: origin {}, rule {}", place, item.origin, item.dot);
     }
     for set in 0..parse.earleme() + 1 {
-        let row = two_words(&parse.predicted[set]);
-        println!("  row {}: {:#x} {:#x}", set, row[0], row[1]);
+        println!("  row {}: {:x?}", set, row_words(&parse.predicted[set]));
     }
 }
 

@@ -1,5 +1,5 @@
 //! The rule reader of the load balancer, over its proved static library. Safe: no call here can be made in a way that the library does
-//! not take. Nothing is allocated but by the caller. A call needs up to 12 KiB of stack, one on nodes 512 bytes (include/brinesaddle.h).
+//! not take. Nothing is allocated but by the caller. A call needs up to 80 KiB of stack, the one for records 120 KiB, one on nodes 512 bytes (include/brinesaddle.h).
 //!
 //! ```
 //! use brinesaddle::{Parse, Refusal, Words, MAX_TOKENS};
@@ -150,7 +150,11 @@ pub fn check(file: &[u8]) -> Result<(), Refusal> {
     answer(unsafe { raw::brinesaddle_check(file.as_ptr(), file.len()) })
 }
 
-/// The words that a parse lives in. More may be lent than count; words past the capacities are never touched.
+/// The words of a row: each set has one.
+pub const ROW_WORDS: usize = 8;
+
+/// The words that a parse lives in: two an item; one a set and one more; [`ROW_WORDS`] a set; one a queue entry. More may be lent than
+/// count; words past the capacities are never touched.
 pub struct Lent<'a> {
     pub items: &'a mut [u32],
     pub starts: &'a mut [u32],
@@ -169,7 +173,7 @@ pub struct Words {
 impl Words {
     /// Room for so many items, sets and queue entries.
     pub fn new(items: usize, sets: usize, queue: usize) -> Words {
-        Words { items: vec![0; 2 * items], starts: vec![0; sets + 1], rows: vec![0; 2 * sets], queue: vec![0; queue] }
+        Words { items: vec![0; 2 * items], starts: vec![0; sets + 1], rows: vec![0; ROW_WORDS * sets], queue: vec![0; queue] }
     }
 
     /// The largest capacities.
@@ -199,7 +203,7 @@ pub struct Ran {
 }
 
 /// The most tokens of a grammar: a place of so many always suffices for [`Parse::expected`].
-pub const MAX_TOKENS: usize = 125;
+pub const MAX_TOKENS: usize = 509;
 
 /// The most bytes of a line of [`Parse::listing`], its newline among them.
 pub const MAX_LINE: usize = 25;

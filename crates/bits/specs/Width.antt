@@ -3,4 +3,4 @@ use Prim.Native.Nat.{ℕ}
 
 -- The words of a row.
 abbrev pub rowWords : ℕ
-rowWords = 2
+rowWords = 8

@@ -7,7 +7,7 @@ ghost use Rattle.laws.specs.Bits.{wordBits, holds, union, adding, rowOf, withRo
 ghost use Rattle.bits.specs.Width.{rowWords};
 
 // The words of a row, and the bits of a word.
-pub const WIDTH: usize = 2;
+pub const WIDTH: usize = 8;
 
 pub const WORD: usize = 64;
 

@@ -29,7 +29,7 @@ use Rattle.demands.specs.Histories.{History}
 use Rattle.demands.proofs.Again.{Reading, reading-start, reading-on}
 use Rattle.demands.proofs.Telling.{token-tells, finished-tells}
 use Rattle.demands.proofs.Computed.{every, some, yields, passes-accepted}
-use Rattle.demands.proofs.Tabled.{rowsOf, tableOf, leads, tabulates-predicts}
+use Rattle.demands.proofs.Tabled.{wordRows, rowsOf, tableOf, leads, tabulates-predicts}
 
 -- A file with the right lengths is not malformed.
 whole : (file : List ℕ) → headerBytes ≤ length file → versionOf file ≡ 1 → lengthOf file ≡ length file → lengthOf file ≡ headerBytes + ruleBytes * ruleCountOf file
@@ -84,20 +84,20 @@ unfolding rulesFrom
 sound-a = record { checked = record { whole = whole file-a (omega arith) refl refl refl; is = refl; accepted = accepted-a }; predicts = predicts-a }
 
 abbrev pub words-a0 : Words
-words-a0 = record { items = 0 ∷ 0 ∷ 0 ∷ 0 ∷ 0 ∷ 0 ∷ 0 ∷ 0 ∷ 0 ∷ 0 ∷ 0 ∷ 0 ∷ 0 ∷ 0 ∷ 0 ∷ 0 ∷ []; starts = 0 ∷ 0 ∷ 0 ∷ 0 ∷ 0 ∷ []; rows = 21 ∷ 0 ∷ 0 ∷ 0 ∷ 0 ∷ 0 ∷ 0 ∷ 0 ∷ []; queue = 0 ∷ 0 ∷ 0 ∷ 0 ∷ [] }
+words-a0 = record { items = 0 ∷ 0 ∷ 0 ∷ 0 ∷ 0 ∷ 0 ∷ 0 ∷ 0 ∷ 0 ∷ 0 ∷ 0 ∷ 0 ∷ 0 ∷ 0 ∷ 0 ∷ 0 ∷ []; starts = 0 ∷ 0 ∷ 0 ∷ 0 ∷ 0 ∷ []; rows = wordRows (21 ∷ 0 ∷ 0 ∷ 0 ∷ []); queue = 0 ∷ 0 ∷ 0 ∷ 0 ∷ [] }
 
 abbrev pub words-a1 : Words
-words-a1 = record { items = 0 ∷ 1 ∷ 0 ∷ 0 ∷ 0 ∷ 0 ∷ 0 ∷ 0 ∷ 0 ∷ 0 ∷ 0 ∷ 0 ∷ 0 ∷ 0 ∷ 0 ∷ 0 ∷ []; starts = 0 ∷ 0 ∷ 2 ∷ 0 ∷ 0 ∷ []; rows = 21 ∷ 0 ∷ 42 ∷ 0 ∷ 0 ∷ 0 ∷ 0 ∷ 0 ∷ []; queue = 0 ∷ 0 ∷ 0 ∷ 0 ∷ [] }
+words-a1 = record { items = 0 ∷ 1 ∷ 0 ∷ 0 ∷ 0 ∷ 0 ∷ 0 ∷ 0 ∷ 0 ∷ 0 ∷ 0 ∷ 0 ∷ 0 ∷ 0 ∷ 0 ∷ 0 ∷ []; starts = 0 ∷ 0 ∷ 2 ∷ 0 ∷ 0 ∷ []; rows = wordRows (21 ∷ 42 ∷ 0 ∷ 0 ∷ []); queue = 0 ∷ 0 ∷ 0 ∷ 0 ∷ [] }
 
 abbrev words-a2 : Words
-words-a2 = record { items = 0 ∷ 1 ∷ 0 ∷ 0 ∷ 1 ∷ 3 ∷ 0 ∷ 0 ∷ 0 ∷ 0 ∷ 0 ∷ 0 ∷ 0 ∷ 0 ∷ 0 ∷ 0 ∷ []; starts = 0 ∷ 0 ∷ 2 ∷ 3 ∷ 0 ∷ []; rows = 21 ∷ 0 ∷ 42 ∷ 0 ∷ 5 ∷ 0 ∷ 0 ∷ 0 ∷ []; queue = 0 ∷ 0 ∷ 0 ∷ 0 ∷ [] }
+words-a2 = record { items = 0 ∷ 1 ∷ 0 ∷ 0 ∷ 1 ∷ 3 ∷ 0 ∷ 0 ∷ 0 ∷ 0 ∷ 0 ∷ 0 ∷ 0 ∷ 0 ∷ 0 ∷ 0 ∷ []; starts = 0 ∷ 0 ∷ 2 ∷ 3 ∷ 0 ∷ []; rows = wordRows (21 ∷ 42 ∷ 5 ∷ 0 ∷ []); queue = 0 ∷ 0 ∷ 0 ∷ 0 ∷ [] }
 
 abbrev pub words-a3 : Words
-words-a3 = record { items = 0 ∷ 1 ∷ 0 ∷ 0 ∷ 1 ∷ 3 ∷ 0 ∷ 1 ∷ 2 ∷ 1 ∷ 0 ∷ 0 ∷ 0 ∷ 0 ∷ 0 ∷ 0 ∷ []; starts = 0 ∷ 0 ∷ 2 ∷ 3 ∷ 6 ∷ []; rows = 21 ∷ 0 ∷ 42 ∷ 0 ∷ 5 ∷ 0 ∷ 42 ∷ 0 ∷ []; queue = 0 ∷ 0 ∷ 0 ∷ 0 ∷ [] }
+words-a3 = record { items = 0 ∷ 1 ∷ 0 ∷ 0 ∷ 1 ∷ 3 ∷ 0 ∷ 1 ∷ 2 ∷ 1 ∷ 0 ∷ 0 ∷ 0 ∷ 0 ∷ 0 ∷ 0 ∷ []; starts = 0 ∷ 0 ∷ 2 ∷ 3 ∷ 6 ∷ []; rows = wordRows (21 ∷ 42 ∷ 5 ∷ 42 ∷ []); queue = 0 ∷ 0 ∷ 0 ∷ 0 ∷ [] }
 
 -- Words that were anything else before.
 abbrev pub old-a : Words
-old-a = record { items = replicate 16 9; starts = replicate 5 9; rows = replicate 8 9; queue = replicate 4 9 }
+old-a = record { items = replicate 16 9; starts = replicate 5 9; rows = replicate (rowWords * 4) 9; queue = replicate 4 9 }
 
 pub began-a : Starts file-a (state 7 7) old-a (asItWas 0 (state 0 0) words-a0)
 unfolding rowsOf
@@ -180,14 +180,14 @@ unfolding rulesFrom
 sound-b = record { checked = record { whole = whole file-b (omega arith) refl refl refl; is = refl; accepted = accepted-b }; predicts = predicts-b }
 
 abbrev words-b0 : Words
-words-b0 = record { items = 0 ∷ 0 ∷ 0 ∷ 0 ∷ 0 ∷ 0 ∷ 0 ∷ 0 ∷ 0 ∷ 0 ∷ 0 ∷ 0 ∷ []; starts = 0 ∷ 0 ∷ 0 ∷ 0 ∷ []; rows = 89 ∷ 0 ∷ 0 ∷ 0 ∷ 0 ∷ 0 ∷ []; queue = 0 ∷ 0 ∷ [] }
+words-b0 = record { items = 0 ∷ 0 ∷ 0 ∷ 0 ∷ 0 ∷ 0 ∷ 0 ∷ 0 ∷ 0 ∷ 0 ∷ 0 ∷ 0 ∷ []; starts = 0 ∷ 0 ∷ 0 ∷ 0 ∷ []; rows = wordRows (89 ∷ 0 ∷ 0 ∷ []); queue = 0 ∷ 0 ∷ [] }
 
 abbrev pub words-b3 : Words
-words-b3 = record { items = 0 ∷ 3 ∷ 0 ∷ 1 ∷ 0 ∷ 0 ∷ 0 ∷ 0 ∷ 0 ∷ 0 ∷ 0 ∷ 0 ∷ []; starts = 0 ∷ 0 ∷ 1 ∷ 3 ∷ []; rows = 89 ∷ 0 ∷ 0 ∷ 0 ∷ 145 ∷ 0 ∷ []; queue = 0 ∷ 0 ∷ [] }
+words-b3 = record { items = 0 ∷ 3 ∷ 0 ∷ 1 ∷ 0 ∷ 0 ∷ 0 ∷ 0 ∷ 0 ∷ 0 ∷ 0 ∷ 0 ∷ []; starts = 0 ∷ 0 ∷ 1 ∷ 3 ∷ []; rows = wordRows (89 ∷ 0 ∷ 145 ∷ []); queue = 0 ∷ 0 ∷ [] }
 
 -- Words that were anything else before.
 abbrev old-b : Words
-old-b = record { items = replicate 12 9; starts = replicate 4 9; rows = replicate 6 9; queue = replicate 2 9 }
+old-b = record { items = replicate 12 9; starts = replicate 4 9; rows = replicate (rowWords * 3) 9; queue = replicate 2 9 }
 
 start-b : Reading file-b grammar-b (tableOf rows-b) (state 0 0) words-b0 []
 unfolding rowsOf
@@ -200,10 +200,10 @@ read-b = History.run {us = 0 ∷ 1 ∷ 2 ∷ []} (start-b .history) (Runs.done (
 
 -- A START IN THE MIDDLE BEGINS ANEW: over the words that B's parse left, "0 1" is read and a second 0 is answered 6. No sentence begins so.
 abbrev words-b1 : Words
-words-b1 = record { items = 0 ∷ 3 ∷ 0 ∷ 0 ∷ 0 ∷ 0 ∷ 0 ∷ 0 ∷ 0 ∷ 0 ∷ 0 ∷ 0 ∷ []; starts = 0 ∷ 0 ∷ 1 ∷ 0 ∷ []; rows = 89 ∷ 0 ∷ 34 ∷ 0 ∷ 0 ∷ 0 ∷ []; queue = 0 ∷ 0 ∷ [] }
+words-b1 = record { items = 0 ∷ 3 ∷ 0 ∷ 0 ∷ 0 ∷ 0 ∷ 0 ∷ 0 ∷ 0 ∷ 0 ∷ 0 ∷ 0 ∷ []; starts = 0 ∷ 0 ∷ 1 ∷ 0 ∷ []; rows = wordRows (89 ∷ 34 ∷ 0 ∷ []); queue = 0 ∷ 0 ∷ [] }
 
 abbrev words-b2 : Words
-words-b2 = record { items = 0 ∷ 3 ∷ 1 ∷ 4 ∷ 0 ∷ 0 ∷ 0 ∷ 0 ∷ 0 ∷ 0 ∷ 0 ∷ 0 ∷ []; starts = 0 ∷ 0 ∷ 1 ∷ 2 ∷ []; rows = 89 ∷ 0 ∷ 34 ∷ 0 ∷ 4 ∷ 0 ∷ []; queue = 0 ∷ 0 ∷ [] }
+words-b2 = record { items = 0 ∷ 3 ∷ 1 ∷ 4 ∷ 0 ∷ 0 ∷ 0 ∷ 0 ∷ 0 ∷ 0 ∷ 0 ∷ 0 ∷ []; starts = 0 ∷ 0 ∷ 1 ∷ 2 ∷ []; rows = wordRows (89 ∷ 34 ∷ 4 ∷ []); queue = 0 ∷ 0 ∷ [] }
 
 again-b : Reading file-b grammar-b (tableOf rows-b) (state 2 2) words-b2 (0 ∷ 1 ∷ [])
 unfolding advanced stepped ran andThen store enqueue completeMedial completeMedialItems completeUnary completeUnaryPredictions completeBinary completeBinaryPredictions complete nextSummand popSum completeSum completeAllSums over until union records.flat highest greatestOrigin predictions itemsFrom insert sortInto binary pushWords popWords pushed popped move goesUp rise siftUp takesRight child goesDown sink siftDown rowsOf

@@ -30,6 +30,11 @@ unfoldable pub rowsOf : List ℕ → List (List ℕ)
 rowsOf [] = []
 rowsOf (c ∷ cs) = padded rowWords (c ∷ []) ∷ rowsOf cs
 
+-- The same rows as words, one behind the other.
+abbrev pub wordRows : List ℕ → List ℕ
+wordRows [] = []
+wordRows (c ∷ cs) = padded rowWords (c ∷ []) ++ wordRows cs
+
 abbrev pub noRow : List ℕ
 noRow = replicate rowWords 0
 

@@ -58,7 +58,7 @@ module _ (a b : List ℕ) (long-b : headerBytes ≤ length b) (same : take heade
   pub says-length : {n : ℕ} → Says a (Length n) → Says b (Length n)
   says-length (whole right few) = gives-length b _ (λ wrong. right (wrong-same wrong)) (omega (arith, few, pair-same 9 (omega arith))) length-same
 
--- The length lies between the header's and that of 512 rules.
+-- The length lies between the header's and that of the most rules.
 pub told-bounds : (bytes : List ℕ) (n : ℕ) → Says bytes (Length n) → (headerBytes ≤ n) × (n ≤ longestFile)
 told-bounds bytes n (whole right few) =
     elim (ℕ-discrete (lengthOf bytes) (headerBytes + ruleBytes * ruleCountOf bytes)) [

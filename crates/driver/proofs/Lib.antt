@@ -1,7 +1,7 @@
 -- Laws on headers, on texts, on runs of parts, and on what is written.
 pub mod Headers
 pub mod Texts
-pub mod Widening
+pub mod Decoding
 pub mod Running
 pub mod Reading
 pub mod Writing

@@ -3,7 +3,7 @@ use mathlib.Core.Path.{_≡_, refl, sym, subst, _∙_}
 use mathlib.Core.List.{List, [], _++_, append-nil, append-assoc}
 use Prim.Native.Nat.{ℕ, suc, _+_, _-_, _*_, _≤_, _<_}
 use native.Mathlib.Omega.{arith}
-use lib.ListN.{length}
+use lib.ListN.{length, length-append}
 use Rattle.parse.specs.declared.State.{State}
 use Rattle.parse.specs.Words.{Words, wordsOf}
 use Rattle.recognizer.specs.declared.Answer.{Answer}
@@ -15,25 +15,28 @@ use Rattle.demands.specs.Steps.{Ended}
 use Rattle.demands.specs.Calls.{asItWas, Runs}
 use Rattle.demands.proofs.Singles.{further, runs-join}
 use Rattle.recognizer.proofs.Turning.{number-some}
-use Rattle.driver.specs.Parts.{partTokens, mostParts, InParts}
+use Rattle.driver.specs.Parts.{tokensOf, partBytes, partTokens, mostParts, InParts}
 use Rattle.driver.specs.Writes.{RunsPart, RunsOver}
-use Rattle.driver.proofs.Running.{runs-all}
+use Rattle.driver.proofs.Decoding.{Even, halves, tokens-join}
+use Rattle.driver.proofs.Running.{runs-all, runs-whole}
 
 abbrev pub mostTokens : ℕ
 mostTokens = partTokens * mostParts
 
--- Tokens of full parts, with so many left to read: whatever parts come behind them, all are in parts.
+-- Bytes of full parts, with so many left to read: they are whole tokens, and whatever parts come behind them, all are in parts.
 pub record Full (before : List ℕ) (left : ℕ) : Type 0 where
-  pub behind : (number : ℕ) (tokens : List ℕ) → InParts number left tokens → InParts number mostParts (before ++ tokens)
+  pub even : Even (length before)
+  pub behind : (number : ℕ) (bytes : List ℕ) → InParts number left bytes → InParts number mostParts (before ++ bytes)
 
 full-none : Full [] mostParts
-full-none = record { behind = λ number tokens parts. parts }
+full-none = record { even = record { half = 0; is = refl }; behind = λ number bytes parts. parts }
 
-full-more : {before : List ℕ} (part : List ℕ) {parts left : ℕ} → Full before parts → length part ≡ partTokens → parts ≡ suc left → Full (before ++ part) left
+full-more : {before : List ℕ} (part : List ℕ) {parts left : ℕ} → Full before parts → length part ≡ partBytes → parts ≡ suc left → Full (before ++ part) left
 full-more {before} part {parts} {left} f long one = record {
-  behind = λ number tokens rest.
-      subst (InParts number mostParts) (sym (append-assoc before part tokens))
-      (f .behind number (part ++ tokens) (subst (λ (n : ℕ). InParts number n (part ++ tokens)) (sym one) (InParts.full part long rest)));
+  even = record { half = f .even .half + partTokens; is = omega (arith, length-append before part, f .even .is, long) };
+  behind = λ number bytes rest.
+      subst (InParts number mostParts) (sym (append-assoc before part bytes))
+      (f .behind number (part ++ bytes) (subst (λ (n : ℕ). InParts number n (part ++ bytes)) (sym one) (InParts.full part long rest)));
 }
 
 -- No part is left: those before are all.
@@ -45,7 +48,7 @@ pub data SoFar (file : List ℕ) (s₀ : State) (w₀ : Words) : State → Words
   none : SoFar file s₀ w₀ s₀ w₀ 0 mostParts
   going :
       {s : State} {w : Words} {taken left : ℕ} {before : List ℕ} → Full before left
-      → Runs file s₀ w₀ before (record { outcome = asItWas 0 s w; taken = taken }) → SoFar file s₀ w₀ s w taken left
+      → Runs file s₀ w₀ (tokensOf before) (record { outcome = asItWas 0 s w; taken = taken }) → SoFar file s₀ w₀ s w taken left
   over : {s : State} {w : Words} {taken : ℕ} → RunsOver file s₀ w₀ (record { outcome = asItWas 0 s w; taken = taken }) → SoFar file s₀ w₀ s w taken 0
 
 -- One more part as the last.
@@ -56,28 +59,31 @@ one-left {number} {parts} {part} some last =
 
 module _ {file : List ℕ} {s₀ : State} {w₀ : Words} where
   -- The tokens before a part and its own are one run,
-  part-more : {s : State} {w : Words} {taken : ℕ} {before part : List ℕ} {e : Ended} → Runs file s₀ w₀ before (record { outcome = asItWas 0 s w; taken = taken })
-      → Runs file s w part e → Runs file s₀ w₀ (before ++ part) (further taken e)
-  part-more {before = before} {part = part} {e = e} runs more = runs-join file part e before runs refl more
+  part-more : {s : State} {w : Words} {taken left : ℕ} {before : List ℕ} (part : List ℕ) {e : Ended} → Full before left
+      → Runs file s₀ w₀ (tokensOf before) (record { outcome = asItWas 0 s w; taken = taken }) → Runs file s w (tokensOf part) e
+      → Runs file s₀ w₀ (tokensOf (before ++ part)) (further taken e)
+  part-more {taken = taken} {before = before} part {e = e} f runs more =
+      subst (λ (ts : List ℕ). Runs file s₀ w₀ ts (further taken e)) (sym (tokens-join before part (f .even)))
+      (runs-join file (tokensOf part) e (tokensOf before) runs refl more)
 
   -- and so are those of the first alone.
-  part-first : {part : List ℕ} {e : Ended} → Runs file s₀ w₀ part e → Runs file s₀ w₀ part (further 0 e)
-  part-first {part} {e} runs = subst (λ (n : ℕ). Runs file s₀ w₀ part (record { outcome = e .outcome; taken = n })) (omega arith) runs
+  part-first : {ts : List ℕ} {e : Ended} → Runs file s₀ w₀ ts e → Runs file s₀ w₀ ts (further 0 e)
+  part-first {ts} {e} runs = subst (λ (n : ℕ). Runs file s₀ w₀ ts (record { outcome = e .outcome; taken = n })) (omega arith) runs
 
   -- The last part ends the run.
   one-last : {s : State} {w : Words} {taken parts : ℕ} {e : Ended} → SoFar file s₀ w₀ s w taken parts → 0 < parts → (r : RunsPart file s w e)
       → InParts (e .outcome .number) parts (r .part) → RunsOver file s₀ w₀ (further taken e)
-  one-last SoFar.none some r last = record { tokens = r .part; in-parts = last; runs = part-first (r .runs) }
+  one-last SoFar.none some r last = record { bytes = r .part; in-parts = last; runs = part-first (r .runs) }
   one-last {e = e} (SoFar.going {before = before} f runs) some r last =
-      record { tokens = before ++ r .part; in-parts = f .behind (e .outcome .number) (r .part) last; runs = part-more runs (r .runs) }
+      record { bytes = before ++ r .part; in-parts = f .behind (e .outcome .number) (r .part) last; runs = part-more (r .part) f runs (r .runs) }
   one-last (SoFar.over all) some r last = absurd (omega (arith, some))
 
   -- A full part leaves the next to be read.
   one-full : {s s′ : State} {w w′ : Words} {taken taken′ parts left : ℕ} → SoFar file s₀ w₀ s w taken parts → parts ≡ suc left
-      → (r : RunsPart file s w (record { outcome = asItWas 0 s′ w′; taken = taken′ })) → length (r .part) ≡ partTokens
+      → (r : RunsPart file s w (record { outcome = asItWas 0 s′ w′; taken = taken′ })) → length (r .part) ≡ partBytes
       → SoFar file s₀ w₀ s′ w′ (taken + taken′) left
   one-full SoFar.none one r long = SoFar.going (full-more (r .part) full-none long one) (part-first (r .runs))
-  one-full (SoFar.going f runs) one r long = SoFar.going (full-more (r .part) f long one) (part-more runs (r .runs))
+  one-full (SoFar.going f runs) one r long = SoFar.going (full-more (r .part) f long one) (part-more (r .part) f runs (r .runs))
   one-full (SoFar.over all) one r long = absurd (omega (arith, one))
 
   module _ {s : State} {w v : Words} {taken parts : ℕ} (r : Ran) (before : SoFar file s₀ w₀ s w taken parts) (some : 0 < parts) (part : RunsPart file s w (endedOf r v)) where
@@ -93,17 +99,20 @@ module _ {file : List ℕ} {s₀ : State} {w₀ : Words} where
       -- and so does a part that is not full; a full one does not.
       last-by : r .taken < partTokens → SoFar file s₀ w₀ next v (taken + r .taken) 0
       last-by few =
-          SoFar.over (one-last before some (part-is is) (one-left some (InParts.not-full (omega (arith, few, runs-all (part-is is .runs) refl)))))
+          let all = runs-all (part-is is .runs) refl in
+          SoFar.over (one-last before some (part-is is) (one-left some (InParts.not-full (omega (arith, few, all, halves (part-is is .part) .all)))))
 
       full-by : partTokens ≤ r .taken → {left : ℕ} → parts ≡ suc left → SoFar file s₀ w₀ next v (taken + r .taken) left
-      full-by many one = one-full before one (part-is is) (omega (arith, many, runs-all (part-is is .runs) refl, part-is is .few))
+      full-by many one =
+          let whole = runs-whole (part-is is .part) (part-is is .runs) in
+          one-full before one (part-is is) (omega (arith, many, whole, part-is is .few))
 
   -- Where no parts are left, all were read.
   pub all-read : {s : State} {w : Words} {taken parts : ℕ} → SoFar file s₀ w₀ s w taken parts → parts ≤ 0 → RunsOver file s₀ w₀ (record { outcome = asItWas 0 s w; taken = taken })
   all-read SoFar.none nothing = absurd (omega (arith, nothing))
   all-read {parts = parts} (SoFar.going {before = before} f runs) nothing =
       let zero : parts ≡ 0 = omega (arith, nothing) in
-      record { tokens = before; in-parts = full-all 0 (subst (Full before) zero f); runs = runs }
+      record { bytes = before; in-parts = full-all 0 (subst (Full before) zero f); runs = runs }
   all-read (SoFar.over all) nothing = all
 
 pub record Reading (file : List ℕ) (s₀ : State) (items₀ starts₀ rows₀ queue₀ : List ℕ) (s : State) (items starts rows queue : List ℕ) (taken parts : ℕ) : Type 0 where

@@ -2,7 +2,7 @@
 use mathlib.Core.Path.{_≡_, refl, sym, ap, _∙_, subst}
 use mathlib.Core.Bool.{Bool, true, false}
 use mathlib.Core.List.{List, [], _∷_}
-use Prim.Native.Nat.{ℕ, suc, _≤_}
+use Prim.Native.Nat.{ℕ, suc, _+_, _*_, _≤_}
 use native.Mathlib.Omega.{arith}
 use native.Mathlib.Decide.{ℕ-discrete}
 use lib.Dec.{eqb}
@@ -10,13 +10,15 @@ use lib.ListN.{length}
 use Rattle.grammar.specs.Rules.{Grammar}
 use Rattle.parse.specs.declared.State.{State}
 use Rattle.parse.specs.Words.{Words, within}
-use Rattle.demands.specs.Steps.{Outcome, Ended, oneMore, stepped, ran}
-use Rattle.demands.specs.Calls.{Runs}
+use Rattle.demands.specs.Steps.{Outcome, Ended, noToken, oneMore, stepped, ran}
+use Rattle.demands.specs.Calls.{CallFault, Ready, Runs}
 use Rattle.demands.specs.Calls.Runs.{refused, done}
 use Rattle.demands.proofs.Running.{ran-on, ran-off}
 use Rattle.demands.proofs.Singles.{call-some}
-use Rattle.driver.specs.Parts.{partTokens}
+use Rattle.demands.proofs.Ways.{is-no-token}
+use Rattle.driver.specs.Parts.{foreign, tokensOf, partBytes, partTokens}
 use Rattle.driver.specs.Writes.{RunsPart}
+use Rattle.driver.proofs.Decoding.{halves}
 
 -- One token more, or a refusal, is at most one more taken.
 more-by :
@@ -58,11 +60,57 @@ pub runs-all : {file : List ℕ} {s : State} {w : Words} {ts : List ℕ} {e : En
 runs-all (refused fault) zero = absurd (call-some fault zero)
 runs-all {s = s} {w = w} {ts = ts} (done {g} {table} ready) zero = ran-all g table s (within w) ts zero
 
+-- A run over the tokens of bytes never takes a lone byte: it stops there with 5.
+record Whole (bytes : List ℕ) (e : Ended) : Type 0 where
+  pub few : 2 * e .taken ≤ length bytes
+  pub five : length bytes ≡ 2 * e .taken + 1 → e .outcome .number ≡ noToken
+
+ran-whole :
+    (g : Grammar) (table : List (List ℕ)) (s : State) (v : Words) (bytes : List ℕ) → g .tokens ≤ foreign
+    → Whole bytes (ran g table s v (tokensOf bytes))
+unfolding tokensOf ran
+ran-whole g table s v [] small = record { few = omega arith; five = λ lone. absurd (omega (arith, lone)) }
+ran-whole g table s v (one ∷ []) small =
+    let is = ap (λ (o : Outcome). o .number) (is-no-token g table s v foreign small) in
+    subst (Whole (one ∷ [])) (sym (ran-off g table s v foreign [] (λ zero. omega (arith, is, zero))))
+    (record { few = omega arith; five = λ lone. is })
+ran-whole g table s v (high ∷ (low ∷ rest)) small =
+    let t : ℕ = high * 256 + low in
+    let behind = ran-whole g table (stepped g table s v t .state) (stepped g table s v t .words) rest small in
+    elim (ℕ-discrete (stepped g table s v t .number) 0) [
+      | yes on ↦
+          subst (Whole (high ∷ (low ∷ rest))) (sym (ran-on g table s v t (tokensOf rest) on))
+          (record { few = omega (arith, behind .few); five = λ lone. behind .five (omega (arith, lone)) })
+      | no off ↦
+          subst (Whole (high ∷ (low ∷ rest))) (sym (ran-off g table s v t (tokensOf rest) off))
+          (record { few = omega arith; five = λ lone. absurd (omega (arith, lone)) })
+    ]
+
+-- 65535 is no token of a grammar that is accepted.
+ready-whole : {file : List ℕ} {s : State} {w : Words} {g : Grammar} {table : List (List ℕ)} (bytes : List ℕ) → Ready file s w g table
+    → Whole bytes (ran g table s (within w) (tokensOf bytes))
+ready-whole {s = s} {w = w} {g = g} {table = table} bytes ready =
+    let accepted = ready .sound .checked .accepted in
+    ran-whole g table s (within w) bytes (omega (arith, accepted .room, accepted .few-symbols))
+
+pub runs-whole : {file : List ℕ} {s : State} {w : Words} {e : Ended} (bytes : List ℕ) → Runs file s w (tokensOf bytes) e → 2 * e .taken ≤ length bytes
+runs-whole bytes (refused fault) = omega arith
+runs-whole bytes (done ready) = ready-whole bytes ready .few
+
+pub runs-lone : {file : List ℕ} {s : State} {w : Words} {e : Ended} (bytes : List ℕ) → ((n : ℕ) → CallFault file s w n → ⊥) → Runs file s w (tokensOf bytes) e
+    → length bytes ≡ 2 * e .taken + 1 → e .outcome .number ≡ noToken
+runs-lone bytes faultless (refused fault) lone = absurd (faultless _ fault)
+runs-lone bytes faultless (done ready) lone = ready-whole bytes ready .five lone
+
 -- A run of equal tokens.
 pub runs-same :
     {file : List ℕ} {s : State} {w : Words} {e : Ended} (ts part : List ℕ) → ts ≡ part → Runs file s w ts e → Runs file s w part e
 runs-same {file} {s} {w} {e} ts part same r = subst (λ (l : List ℕ). Runs file s w l e) same r
 
 -- A run over a part.
-pub runs-part : {file : List ℕ} {s : State} {w : Words} {e : Ended} (part : List ℕ) → Runs file s w part e → length part ≤ partTokens → RunsPart file s w e
+pub runs-part : {file : List ℕ} {s : State} {w : Words} {e : Ended} (part : List ℕ) → Runs file s w (tokensOf part) e → length part ≤ partBytes → RunsPart file s w e
 runs-part part runs few = record { part = part; few = few; runs = runs }
+
+-- It takes no more tokens than a part has.
+pub part-few : {file : List ℕ} {s : State} {w : Words} {e : Ended} (part : List ℕ) → Runs file s w (tokensOf part) e → length part ≤ partBytes → e .taken ≤ partTokens
+part-few part runs few = omega (arith, runs-few runs, halves part .few, few)

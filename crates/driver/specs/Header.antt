@@ -18,7 +18,7 @@ pub data Wrong (bytes : List ℕ) : Type 0 where
   version : (versionOf bytes ≡ 1 → ⊥) → Wrong bytes
   told-length : (lengthOf bytes ≡ headerBytes + ruleBytes * ruleCountOf bytes → ⊥) → Wrong bytes
 
--- That is 1; then R > 512 is 2; then L bytes are read.
+-- That is 1; then more rules than there may be are 2; then L bytes are read.
 pub data Says (bytes : List ℕ) : Header → Type 0 where
   malformed : Wrong bytes → Says bytes Malformed
   broken : (Wrong bytes → ⊥) → maxRules < ruleCountOf bytes → Says bytes Broken

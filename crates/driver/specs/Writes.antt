@@ -1,29 +1,33 @@
--- What the driver writes of the bytes that came for a grammar. What it reads behind them is whatever the system gave it: some list of tokens.
+-- What the driver writes of the bytes that came for a grammar. What it reads behind them is whatever the system gave it: some list of bytes.
 use mathlib.Core.Path.{_≡_}
 use mathlib.Core.Bool.{Bool}
 use mathlib.Core.List.{List, []}
 use Prim.Native.Nat.{ℕ, _≤_}
 use lib.ListN.{length, take}
 use Rattle.parse.specs.declared.State.{State}
-use Rattle.parse.specs.Words.{Words, maxItems, maxSets, maxQueued, itemRoom, setRoom, queueRoom}
+use Rattle.parse.specs.Words.{Words, maxItems, maxQueued, itemRoom, setRoom, queueRoom}
 use Rattle.demands.specs.Steps.{Outcome, Ended}
 use Rattle.demands.specs.Calls.{Starts, Runs, Finishes}
 use Rattle.driver.specs.declared.header.Header.the-variants.{Malformed, Broken, Length}
 use Rattle.driver.specs.Header.{Judged}
-use Rattle.driver.specs.Parts.{partTokens, mostParts, InParts}
+use Rattle.driver.specs.Parts.{tokensOf, partBytes, mostParts, InParts}
 use Rattle.driver.specs.Text.{grammarHead, Line, Report}
 
--- A run over a part that was read.
+-- The sets that the driver lends.
+abbrev pub lentSets : ℕ
+lentSets = 256
+
+-- A run over the tokens of a part that was read.
 pub record RunsPart (file : List ℕ) (s : State) (w : Words) (e : Ended) : Type 0 where
   pub part : List ℕ
-  pub few : length part ≤ partTokens
-  pub runs : Runs file s w part e
+  pub few : length part ≤ partBytes
+  pub runs : Runs file s w (tokensOf part) e
 
--- A run over the tokens that were read, part by part.
+-- A run over the tokens of all bytes that were read, part by part.
 pub record RunsOver (file : List ℕ) (s : State) (w : Words) (e : Ended) : Type 0 where
-  pub tokens : List ℕ
-  pub in-parts : InParts (e .outcome .number) mostParts tokens
-  pub runs : Runs file s w tokens e
+  pub bytes : List ℕ
+  pub in-parts : InParts (e .outcome .number) mostParts bytes
+  pub runs : Runs file s w (tokensOf bytes) e
 
 -- Whether a parse is finished, whatever the report's number.
 pub record SaysFinished (file : List ℕ) (s : State) (w : Words) (yes : Bool) : Type 0 where
@@ -43,11 +47,11 @@ pub data Recognized (file : List ℕ) (w : Words) (text : List ℕ) : Type 0 whe
   refused : {s : State} {o : Outcome} → Starts file s w o → (o .number ≡ 0 → ⊥) → Line [] grammarHead (o .number) text → Recognized file w text
   followed : {s : State} {o : Outcome} → Starts file s w o → o .number ≡ 0 → Followed file (o .state) (o .words) text → Recognized file w text
 
--- The same with every capacity at its largest.
+-- The same with what the driver lends: 256 sets, items and queue at their largest.
 pub record Answered (file text : List ℕ) : Type 0 where
   pub words : Words
   pub most-items : itemRoom words ≡ maxItems
-  pub most-sets : setRoom words ≡ maxSets
+  pub all-sets : setRoom words ≡ lentSets
   pub most-queued : queueRoom words ≡ maxQueued
   pub recognized : Recognized file words text
 

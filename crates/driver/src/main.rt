@@ -1,4 +1,4 @@
-// Standard input is a grammar file, then one byte a token. The answer is four lines, or one on a grammar that is refused.
+// Standard input is a grammar file, then two bytes a token. The answer is four lines, or one on a grammar that is refused.
 mod header;
 mod text;
 mod tokens;
@@ -31,12 +31,15 @@ use tokens::read_tokens;
 // The longest file that its header lets through.
 const LONGEST: usize = HEADER + RULE * RULES;
 
-// The words of the largest capacities.
+// The sets that are lent.
+const SETS: usize = 256;
+
+// The words of so many sets; items and queue at their largest.
 const ITEMS: usize = 2 * parse::room::ITEMS;
 
-const STARTS: usize = parse::room::SETS + 1;
+const STARTS: usize = SETS + 1;
 
-const ROWS: usize = bits::WIDTH * parse::room::SETS;
+const ROWS: usize = bits::WIDTH * SETS;
 
 const QUEUE: usize = parse::room::QUEUED;
 
@@ -139,7 +142,7 @@ fn recognize(
     }
 }
 
-// The same with every capacity at its largest.
+// The same with the words that are lent.
 fn recognize_whole(file: &[u8], out: &mut [u8]) -> usize
     requires { ⌜ textRoom ≤ lengthOf (now out) ⌝ }
     ensures place { λ r. ⌜ Counts r (now (out .exit)) ⌝ }

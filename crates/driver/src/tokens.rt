@@ -1,38 +1,53 @@
-// Tokens, one byte each, given to a run part by part.
+// Tokens, two bytes each, given to a run part by part.
 ghost use mathlib.Core.Path.{_≡_};
-ghost use Prim.Native.Nat.{_≤_};
+ghost use Prim.Native.Nat.{_+_, _*_, _≤_};
 ghost use lib.ListN.{length, take};
 ghost use lib.Dec.{ltb};
-ghost use Rattle.driver.specs.Parts.{partTokens};
+ghost use Rattle.io.specs.Counts.{Counts};
+ghost use Rattle.driver.specs.Parts.{tokensOf, partBytes, partTokens};
 ghost use Rattle.driver.specs.Writes.{RunsPart, RunsOver};
 ghost use Rattle.demands.specs.Calls.{Runs};
 ghost use Rattle.recognizer.specs.Answers.{endedOf};
 ghost use Rattle.parse.specs.Words.{wordsOf};
+use grammar::file::wide;
 use libc::STDIN_FILENO;
 use parse::State;
 use recognizer::Answer;
 use recognizer::Ran;
 
-// The tokens of a part: the bytes of `io::buffer`.
-const PART: usize = 4096;
+// The tokens of a part, and its bytes. Each part costs a check of the grammar, so it is large.
+const PART: usize = 32768;
 
-// Bytes as words.
-fn widen(bytes: &[u8], words: &mut [u16])
-    requires { ⌜ length (now bytes) ≤ length (now words) ⌝ }
-    ensures { λ _. ⌜ take (length (now (bytes .entry))) (now (words .exit)) ≡ now (bytes .entry) ⌝ }
+const BYTES: usize = 2 * PART;
+
+// A token that no grammar has.
+const FOREIGN: u16 = 65535;
+
+// The token that two bytes say.
+fn token(high: u8, low: u8) -> u16
+    ensures { λ r. ⌜ r ≡ high * 256 + low ⌝ }
 {
-    for i in 0..bytes.len() {
-        words[i] = word(bytes[i]);
+    (wide(high) * 256 + wide(low)) as u16
+}
+
+// The tokens that bytes say, a lone last byte one that no grammar has; answers how many.
+fn decode(bytes: &[u8], words: &mut [u16]) -> usize
+    requires { ⌜ length (now bytes) ≤ 2 * length (now words) ⌝ }
+    ensures place { λ r. ⌜ Counts r (now (words .exit)) ⌝ }
+    ensures said { λ r. ⌜ take r (now (words .exit)) ≡ tokensOf (now (bytes .entry)) ⌝ }
+{
+    let whole = bytes.len() / 2;
+    for i in 0..whole {
+        words[i] = token(bytes[2 * i], bytes[2 * i + 1]);
     }
+    if bytes.len() == 2 * whole {
+        return whole;
+    }
+    words[whole] = FOREIGN;
+    whole + 1
 }
 
-fn word(byte: u8) -> u16
-    ensures { λ r. ⌜ r ≡ byte ⌝ }
-{
-    byte as u16
-}
-
-// Runs one part: a token is a byte.
+// Runs one part.
 fn run_part(
     file: &[u8],
     state: State,
@@ -42,16 +57,15 @@ fn run_part(
     queue: &mut [u32],
     part: &[u8],
 ) -> Ran
-    requires { ⌜ length (now part) ≤ partTokens ⌝ }
+    requires { ⌜ length (now part) ≤ partBytes ⌝ }
     ensures calls { λ r. ⌜ Runs (now (file .entry)) state
         (wordsOf (now (items .entry)) (now (starts .entry)) (now (rows .entry)) (now (queue .entry)))
-        (now (part .entry))
+        (tokensOf (now (part .entry)))
         (endedOf r (wordsOf (now (items .exit)) (now (starts .exit)) (now (rows .exit)) (now (queue .exit)))) ⌝ }
     ensures few { λ r. ⌜ r .taken ≤ partTokens ⌝ }
 {
     let mut tokens = [0u16; PART];
-    widen(part, &mut tokens);
-    let count = part.len();
+    let count = decode(part, &mut tokens);
     recognizer::run(file, state, items, starts, rows, queue, &tokens[..count])
 }
 
@@ -76,7 +90,7 @@ fn read_part(
         (endedOf r (wordsOf (now (items .exit)) (now (starts .exit)) (now (rows .exit)) (now (queue .exit)))) ⌝ }
     ensures few { λ r. ⌜ r .taken ≤ partTokens ⌝ }
 {
-    let mut part = io::buffer();
+    let mut part = [0u8; BYTES];
     let count = io::read_full(STDIN_FILENO, &mut part);
     run_part(file, state, items, starts, rows, queue, &part[..count])
 }

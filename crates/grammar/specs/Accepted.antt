@@ -8,10 +8,10 @@ use Rattle.grammar.specs.Sentences.{Derives}
 
 -- The most symbols, and the most rules.
 abbrev pub maxSymbols : ℕ
-maxSymbols = 128
+maxSymbols = 512
 
 abbrev pub maxRules : ℕ
-maxRules = 512
+maxRules = 2048
 
 -- `a` is one of T..N-3.
 pub record Nonterminal (g : Grammar) (a : ℕ) : Type 0 where
@@ -26,10 +26,10 @@ pub record Productive (g : Grammar) (a : ℕ) : Type 0 where
 pub record Accepted (g : Grammar) : Type 0 where
   -- T ≥ 1
   pub a-token : 1 ≤ g .tokens
-  -- T+3 ≤ N ≤ 128
+  -- T+3 ≤ N ≤ 512
   pub room : g .tokens + 3 ≤ g .symbols
   pub few-symbols : g .symbols ≤ maxSymbols
-  -- 1 ≤ R ≤ 512
+  -- 1 ≤ R ≤ 2,048
   pub a-rule : 1 ≤ ruleCount g
   pub few-rules : ruleCount g ≤ maxRules
   -- rule 0 is W ::= S end, with S a nonterminal

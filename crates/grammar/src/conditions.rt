@@ -12,7 +12,7 @@ use crate::rules::first;
 use crate::rules::left;
 use crate::rules::second;
 
-// Whether T ≥ 1, T+3 ≤ N ≤ 128 and 1 ≤ R ≤ 512.
+// Whether T ≥ 1, and N and R are within their limits.
 pub fn sized(n: usize, t: usize, count: usize) -> bool
     requires { ⌜ t < 65536 ⌝ }
     ensures { λ r. ⌜ Decides r (Sized n t count) ⌝ }

@@ -5,7 +5,7 @@ use lib.ListN.{length, getD, take, drop, replicate}
 use Rattle.item.specs.Item.{itemWords}
 use Rattle.bits.specs.Width.{rowWords}
 
--- Items are two words each, origin and rule; a start is a word; a predicted row is two words; a queue entry is a word.
+-- Items are two words each, origin and rule; a start is a word; a predicted row is `rowWords` words; a queue entry is a word.
 pub record Words : Type 0 where
   pub items : List ℕ
   pub starts : List ℕ
@@ -37,7 +37,7 @@ itemRoomOf items = min maxItems (length items / itemWords)
 abbrev pub itemRoom : Words → ℕ
 itemRoom w = itemRoomOf (w .items)
 
--- E: the starts less one, half the row words.
+-- E: the starts less one, the row words by rows.
 abbrev pub setRoomOf : List ℕ → List ℕ → ℕ
 setRoomOf starts rows = min maxSets (min (length starts - 1) (length rows / rowWords))
 

@@ -23,7 +23,7 @@ fn seed(rules: &Rules, n: usize, count: usize) -> Table
     requires { ⌜ (count ≤ maxRules) × Within (now rules) n count ⌝ }
     ensures { λ r. ⌜ Seeded (now (rules .entry)) rowWords n count r ⌝ }
 {
-    let mut table = [[0; 2]; 128];
+    let mut table = [[0; 8]; 512];
     for x in 0..n {
         let row = table[x];
         table[x] = add(row, x);

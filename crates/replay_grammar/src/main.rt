@@ -4,6 +4,8 @@
 // only the number is printed.
 ghost use Prim.Native.Nat.{_≤_, _<_};
 ghost use Rattle.grammar.specs.Accepted.{maxSymbols};
+use bits::Row;
+use bits::WIDTH;
 use grammar::Checked;
 use grammar::file::rule_count;
 use grammar::file::symbols;
@@ -60,16 +62,23 @@ fn print(label: &[u8], n: usize, number: u8) {
     io::write_all(STDOUT_FILENO, &[b' ', number, b'\n']);
 }
 
+// The words of a row, parted by blanks.
+fn print_row(row: Row) {
+    io::print_hex(STDOUT_FILENO, row[0], DIGITS);
+    for i in 1..WIDTH {
+        io::write_all(STDOUT_FILENO, &[b' ']);
+        io::print_hex(STDOUT_FILENO, row[i], DIGITS);
+    }
+    io::write_all(STDOUT_FILENO, &[b'\n']);
+}
+
 // The first `n` rows.
 fn print_rows(table: &Table, n: usize)
     requires { ⌜ n ≤ maxSymbols ⌝ }
 {
     for x in 0..n {
         let row = table[x];
-        io::print_hex(STDOUT_FILENO, row[0], DIGITS);
-        io::write_all(STDOUT_FILENO, &[b' ']);
-        io::print_hex(STDOUT_FILENO, row[1], DIGITS);
-        io::write_all(STDOUT_FILENO, &[b'\n']);
+        print_row(row);
     }
 }
 

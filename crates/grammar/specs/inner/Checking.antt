@@ -10,7 +10,7 @@ use Rattle.grammar.specs.Rules.{Grammar, none}
 use Rattle.grammar.specs.Accepted.{maxSymbols, maxRules, Nonterminal, Productive}
 use Rattle.grammar.specs.inner.Decoded.{leftIn, firstIn, secondIn}
 
--- T ≥ 1; T+3 ≤ N ≤ 128; 1 ≤ R ≤ 512.
+-- T ≥ 1, and N and R are within their limits.
 pub record Sized (n t count : ℕ) : Type 0 where
   pub a-token : 1 ≤ t
   pub room : t + 3 ≤ n

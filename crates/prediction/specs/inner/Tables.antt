@@ -12,7 +12,7 @@ use Rattle.grammar.specs.Prediction.{rowAt}
 abbrev pub Bit : List (List ℕ) → ℕ → ℕ → Type 0
 Bit table x y = Holds (rowAt table x) y
 
--- 128 rows of `width` words.
+-- A row of `width` words for each symbol that there may be.
 pub record Shape (width : ℕ) (table : List (List ℕ)) : Type 0 where
   pub rows : length table ≡ maxSymbols
   pub row : (x : ℕ) → x < maxSymbols → Row width (rowAt table x)

@@ -1,15 +1,14 @@
 -- `driver::tokens::read_part` meets its contract: the run is over the part that was read.
+use Prim.Native.Nat.{ℕ}
 use native.Mathlib.Omega.{arith}
+use lib.ListN.{length-replicate}
 use Rattle.driver.proofs.Running.{runs-part}
 use borrow.Author.Needs.{needs}
 use Rattle.driver.proofs.tokens.read_part.Statement.{statement}
 use Rattle.driver.proofs.tokens.read_part.Tie as tie
 
-buffer-requires : tie.Need-buffer-requires
-buffer-requires c κs = search needs
-
 slice-aggregate-read-full : tie.Need-slice-aggregate-read-full
-slice-aggregate-read-full c = search needs
+slice-aggregate-read-full c = length-replicate {A = ℕ} 65536 0
 
 read-full-requires : tie.Need-read-full-requires
 read-full-requires c κs = search needs
@@ -36,13 +35,15 @@ same-length-4 : tie.Need-same-length-4
 same-length-4 c = search needs
 
 returns : tie.Need-returns
-returns c = let ran = c .before .before .before .before .before .before .before .before .run-part .ensures in (runs-part _ (ran .0) (omega (arith, c .before .before .before .before .before .before .before .before .before .before .before .before .before .before .before .read-full .ensures, c .before .before .before .before .before .before .before .before .before .before .before .before .before .before .before .before .before .buffer .ensures, c .before .before .before .before .before .before .before .before .before .before .before .before .before .before .before .read-full .kept)), ran .1)
+returns c =
+    let ran = c .before .before .before .before .before .before .before .before .run-part in
+    let came = c .before .before .before .before .before .before .before .before .before .before .before .before .before .before .before .read-full in
+    (runs-part _ (ran .ensures .0) (omega (arith, came .ensures, came .kept, length-replicate {A = ℕ} 65536 0)), ran .ensures .1)
 
 pub read-part-spec : {M : Type 1} → statement M
 read-part-spec =
     tie.close
     (tie.spec
-    buffer-requires
     slice-aggregate-read-full
     read-full-requires
     array-share-prefix-part

@@ -1,23 +1,23 @@
--- `driver::tokens::run_part` meets its contract. The words of a part are its bytes.
-use mathlib.Core.Path.{sym, ap}
-use lib.ListN.{length}
+-- `driver::tokens::run_part` meets its contract. The words of a part are its tokens.
+use Prim.Native.Nat.{ℕ}
 use native.Mathlib.Omega.{arith}
-use Rattle.driver.proofs.Running.{runs-few, runs-same}
+use lib.ListN.{length-replicate}
+use Rattle.driver.proofs.Running.{runs-same, part-few}
 use borrow.Author.Needs.{needs}
 use Rattle.driver.proofs.tokens.run_part.Statement.{statement}
 use Rattle.driver.proofs.tokens.run_part.Tie as tie
 
-slice-aggregate-widen : tie.Need-slice-aggregate-widen
-slice-aggregate-widen c = search needs
+slice-aggregate-decode : tie.Need-slice-aggregate-decode
+slice-aggregate-decode c = length-replicate {A = ℕ} 32768 0
 
-widen-requires : tie.Need-widen-requires
-widen-requires c κs = search needs
+decode-requires : tie.Need-decode-requires
+decode-requires c κs = search needs
 
 array-share-prefix-tokens : tie.Need-array-share-prefix-tokens
 array-share-prefix-tokens c = search needs
 
 slice-aggregate-run : tie.Need-slice-aggregate-run
-slice-aggregate-run c = sym (ap length (c .before .before .before .before .before .before .widen .ensures))
+slice-aggregate-run c = search needs
 
 run-requires : tie.Need-run-requires
 run-requires c κs = search needs
@@ -36,14 +36,18 @@ same-length-4 c = search needs
 
 returns : tie.Need-returns
 returns c =
-    let runs = runs-same _ _ (c .before .before .before .before .before .before .before .before .before .before .before .before .before .before .before .widen .ensures) (c .before .before .before .before .before .before .before .before .run .ensures .0) in (runs, omega (arith, runs-few runs, c .before .before .before .before .before .before .before .before .before .before .before .before .before .before .before .before .before .before .before .before .before .before .before .pre))
+    let decoded = c .before .before .before .before .before .before .before .before .before .before .before .before .before .before .before .decode in
+    let ran = c .before .before .before .before .before .before .before .before .run in
+    let runs = runs-same _ _ (decoded .ensures .1) (ran .ensures .0) in
+    let fits = c .before .before .before .before .before .before .before .before .before .before .before .before .before .before .before .before .before .before .before .before .before .before .before .pre in
+    (runs, part-few _ runs fits)
 
 pub run-part-spec : {M : Type 1} → statement M
 run-part-spec =
     tie.close
     (tie.spec
-    slice-aggregate-widen
-    widen-requires
+    slice-aggregate-decode
+    decode-requires
     array-share-prefix-tokens
     slice-aggregate-run
     run-requires
