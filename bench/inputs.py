@@ -132,4 +132,5 @@ def main():
               f"one of {len(long_one)}")
 
 
-main()
+if __name__ == "__main__":
+    main()
