@@ -27,7 +27,8 @@ enum-known-length c = search needs
 
 slice-aggregate-recognize-whole : tie.Need-slice-aggregate-recognize-whole
 slice-aggregate-recognize-whole c =
-    sym (length-take-le _ (c .before .before .before .before .before .before .before .args .bytes .now) (whole-fits _ (judged-same (c .before .before .length .given .1) (c .before .before .before .before .judged .ensures))))
+    let given = c .before .before .before .before .before .before .before .args in
+    sym (length-take-le _ (given .bytes .now) (whole-fits _ (judged-same (c .before .before .length .given .1) (c .before .before .before .before .judged .ensures))))
 
 recognize-whole-requires : tie.Need-recognize-whole-requires
 recognize-whole-requires c κs = search needs
@@ -36,19 +37,26 @@ same-length : tie.Need-same-length
 same-length c = search needs
 
 returns : tie.Need-returns
-returns c = (c .before .before .refusal .ensures .0, Written.malformed (judged-same (c .before .before .before .before .enum-told .given .1) (c .before .before .before .before .before .before .judged .ensures)) (c .before .before .refusal .ensures .1))
+returns c =
+    let judged = c .before .before .before .before .before .before .judged in
+    (c .before .before .refusal .ensures .0, Written.malformed (judged-same (c .before .before .before .before .enum-told .given .1) (judged .ensures)) (c .before .before .refusal .ensures .1))
 
 same-length-2 : tie.Need-same-length-2
 same-length-2 c = search needs
 
 returns-2 : tie.Need-returns-2
-returns-2 c = (c .before .before .refusal2 .ensures .0, Written.broken (judged-same (c .before .before .before .before .enum-told2 .given .1) (c .before .before .before .before .before .before .judged .ensures)) (c .before .before .refusal2 .ensures .1))
+returns-2 c =
+    let judged = c .before .before .before .before .before .before .judged in
+    (c .before .before .refusal2 .ensures .0, Written.broken (judged-same (c .before .before .before .before .enum-told2 .given .1) (judged .ensures)) (c .before .before .refusal2 .ensures .1))
 
 same-length-3 : tie.Need-same-length-3
 same-length-3 c = search needs
 
 returns-3 : tie.Need-returns-3
-returns-3 c = (c .before .before .recognize-whole .ensures .0, Written.answered (judged-same (c .before .before .before .before .before .before .length .given .1) (c .before .before .before .before .before .before .before .before .judged .ensures)) (c .before .before .recognize-whole .ensures .1))
+returns-3 c =
+    let judged = c .before .before .before .before .before .before .before .before .judged in
+    let told-length = c .before .before .before .before .before .before .length in
+    (c .before .before .recognize-whole .ensures .0, Written.answered (judged-same (told-length .given .1) (judged .ensures)) (c .before .before .recognize-whole .ensures .1))
 
 pub answer-spec : {M : Type 1} → statement M
 answer-spec =

@@ -39,7 +39,11 @@ same-length-5 : tie.Need-same-length-5
 same-length-5 c = search needs
 
 returns : tie.Need-returns
-returns c = (c .before .before .report .ensures .0, followed (c .before .before .before .before .before .before .before .before .before .before .before .before .before .before .before .before .before .before .before .before .read-tokens .result) (c .before .before .before .before .before .before .before .before .before .before .before .before .before .before .before .before .before .before .before .before .read-tokens .ensures) (c .before .before .before .before .before .before .before .before .before .before .before .state-of .ensures) (c .before .before .before .before .before .before .is-finished .ensures) (c .before .before .before .wide .ensures ∙ c .before .before .before .before .number-of .ensures) (c .before .before .report .ensures .1))
+returns c =
+    let ran = c .before .before .before .before .before .before .before .before .before .before .before .before .before .before .before .before .before .before .before .before .read-tokens in
+    let left = c .before .before .before .before .before .before .before .before .before .before .before .state-of in
+    let asked = c .before .before .before .before .before .before .is-finished in
+    (c .before .before .report .ensures .0, followed (ran .result) (ran .ensures) (left .ensures) (asked .ensures) (c .before .before .before .wide .ensures ∙ c .before .before .before .before .number-of .ensures) (c .before .before .report .ensures .1))
 
 pub follow-spec : {M : Type 1} → statement M
 follow-spec =

@@ -22,7 +22,9 @@ slice-reshare-prefix-told : tie.Need-slice-reshare-prefix-told
 slice-reshare-prefix-told c = front-counts (c .before .before .read-full .last .1 .0) (drop 11 (c .before .before .before .before .before .args .file .now)) _ (c .before .before .read-full .ensures .0) .0
 
 slice-aggregate-told : tie.Need-slice-aggregate-told
-slice-aggregate-told c = front-counts (c .before .before .before .read-full .last .1 .0) (drop 11 (c .before .before .before .before .before .before .args .file .now)) _ (c .before .before .before .read-full .ensures .0) .1
+slice-aggregate-told c =
+    let given = c .before .before .before .before .before .before .args in
+    front-counts (c .before .before .before .read-full .last .1 .0) (drop 11 (given .file .now)) _ (c .before .before .before .read-full .ensures .0) .1
 
 told-requires : tie.Need-told-requires
 told-requires c κs = search needs
@@ -44,9 +46,12 @@ part-read-full-start c = let bounds = told-bounds _ _ (says-same (c .before .len
 
 part-read-full-end : tie.Need-part-read-full-end
 part-read-full-end c =
+    let given = c .before .before .before .before .before .before .before .before .before .before .args in
+    let required = c .before .before .before .before .before .before .before .before .before .before .pre in
+    let header-read = c .before .before .before .before .before .before .before .read-full in
     let bounds = told-bounds _ _ (says-same (c .before .length .given .1) (c .before .before .before .told .ensures)) in
-    let long = length-front (c .before .before .before .before .before .before .before .before .before .before .args .file .now) (c .before .before .before .before .before .before .before .read-full .last .1 .0) 11 (c .before .before .before .before .before .before .before .read-full .kept .1 .0) in
-    omega (arith, bounds .1, long, c .before .before .before .before .before .before .before .before .before .before .pre)
+    let long = length-front (given .file .now) (header-read .last .1 .0) 11 (header-read .kept .1 .0) in
+    omega (arith, bounds .1, long, required)
 
 read-full-requires-2 : tie.Need-read-full-requires-2
 read-full-requires-2 c κs = search needs
@@ -58,28 +63,40 @@ same-length : tie.Need-same-length
 same-length c = search needs
 
 returns : tie.Need-returns
-returns c = read-header (c .before .before .before .before .before .before .read-full .last .1 .0) _ _ (c .before .before .before .before .before .before .read-full .kept .1 .0 ∙ length-take-le 11 (c .before .before .before .before .before .before .before .before .before .args .file .now) (omega (arith, c .before .before .before .before .before .before .before .before .before .pre))) (c .before .before .before .before .before .before .read-full .ensures .0)
+returns c =
+    let given = c .before .before .before .before .before .before .before .before .before .args in
+    let required = c .before .before .before .before .before .before .before .before .before .pre in
+    let header-read = c .before .before .before .before .before .before .read-full in
+    read-header (header-read .last .1 .0) _ _ (header-read .kept .1 .0 ∙ length-take-le 11 (given .file .now) (omega (arith, required))) (header-read .ensures .0)
 
 same-length-2 : tie.Need-same-length-2
 same-length-2 c = search needs
 
 returns-2 : tie.Need-returns-2
-returns-2 c = read-header (c .before .before .before .before .before .before .read-full .last .1 .0) _ _ (c .before .before .before .before .before .before .read-full .kept .1 .0 ∙ length-take-le 11 (c .before .before .before .before .before .before .before .before .before .args .file .now) (omega (arith, c .before .before .before .before .before .before .before .before .before .pre))) (c .before .before .before .before .before .before .read-full .ensures .0)
+returns-2 c =
+    let given = c .before .before .before .before .before .before .before .before .before .args in
+    let required = c .before .before .before .before .before .before .before .before .before .pre in
+    let header-read = c .before .before .before .before .before .before .read-full in
+    read-header (header-read .last .1 .0) _ _ (header-read .kept .1 .0 ∙ length-take-le 11 (given .file .now) (omega (arith, required))) (header-read .ensures .0)
 
 same-length-3 : tie.Need-same-length-3
 same-length-3 c = search needs
 
 returns-3 : tie.Need-returns-3
 returns-3 c =
-    let file = c .before .before .before .before .before .before .before .before .before .before .before .before .before .before .args .file .now in
-    let front = c .before .before .before .before .before .before .before .before .before .before .before .read-full .last .1 .0 in
+    let given = c .before .before .before .before .before .before .before .before .before .before .before .before .before .before .args in
+    let required = c .before .before .before .before .before .before .before .before .before .before .before .before .before .before .pre in
+    let header-read = c .before .before .before .before .before .before .before .before .before .before .before .read-full in
+    let header-told = c .before .before .before .before .before .before .before .told in
+    let file = given .file .now in
+    let front = header-read .last .1 .0 in
     let part = c .before .before .read-full2 .last .1 .0 in
-    let says = says-same (c .before .before .before .before .before .length .given .1) (c .before .before .before .before .before .before .before .told .ensures) in
+    let says = says-same (c .before .before .before .before .before .length .given .1) (header-told .ensures) in
     let bounds = told-bounds _ _ says in
-    let short = c .before .before .before .before .before .before .before .before .before .before .before .read-full .kept .1 .0 in
+    let short = header-read .kept .1 .0 in
     let long = length-front file front 11 short in
-    let eleven = length-take-le 11 file (omega (arith, c .before .before .before .before .before .before .before .before .before .before .before .before .before .before .pre)) in
-    read-rest (front ++ drop 11 file) part _ (c .before .before .before .before .before .before .before .before .before .before .before .read-full .result) _ (omega (arith, c .before .before .before .before .before .before .before .before .before .before .before .read-full .ensures .0, short, eleven)) (omega (arith, long, c .before .before .before .before .before .before .before .before .before .before .before .before .before .before .pre)) says
+    let eleven = length-take-le 11 file (omega (arith, required)) in
+    read-rest (front ++ drop 11 file) part _ (header-read .result) _ (omega (arith, header-read .ensures .0, short, eleven)) (omega (arith, long, required)) says
     (omega (arith, bounds .0, c .before .before .read-full2 .kept .1 .0, c .before .before .before .read-full-arg2 .given)) (c .before .before .read-full2 .ensures .0)
 
 pub read-grammar-spec : {M : Type 1} → statement M

@@ -22,7 +22,11 @@ read-part-requires : tie.Need-read-part-requires Inv-loop μ-loop
 read-part-requires c κs = search needs
 
 add-taken : tie.Need-add-taken Inv-loop μ-loop
-add-taken c = omega (arith, c .before .before .before .before .before .before .before .before .before .before .before .before .before .before .loop .inv .few, c .before .before .before .before .before .before .before .before .read-part .ensures .1, c .before .before .before .before .before .before .before .before .before .before .before .before .before .loop-test .taken)
+add-taken c =
+    let looped = c .before .before .before .before .before .before .before .before .before .before .before .before .before .before .loop in
+    let going-on = c .before .before .before .before .before .before .before .before .before .before .before .before .before .loop-test in
+    let part-run = c .before .before .before .before .before .before .before .before .read-part in
+    omega (arith, looped .inv .few, part-run .ensures .1, going-on .taken)
 
 enum-known-answer : tie.Need-enum-known-answer Inv-loop μ-loop
 enum-known-answer c = search needs
@@ -31,21 +35,35 @@ enum-known-answer-2 : tie.Need-enum-known-answer-2 Inv-loop μ-loop
 enum-known-answer-2 c = search needs
 
 same-length : tie.Need-same-length Inv-loop μ-loop
-same-length c = c .before .before .before .before .before .before .before .before .before .before .before .read-part .kept .1 .1 .0 ∙ c .before .before .before .before .before .before .before .before .before .before .before .before .before .before .before .before .before .loop .inv .items-long
+same-length c =
+    let looped = c .before .before .before .before .before .before .before .before .before .before .before .before .before .before .before .before .before .loop in
+    let part-run = c .before .before .before .before .before .before .before .before .before .before .before .read-part in
+    part-run .kept .1 .1 .0 ∙ looped .inv .items-long
 
 same-length-2 : tie.Need-same-length-2 Inv-loop μ-loop
-same-length-2 c = c .before .before .before .before .before .before .before .before .before .before .before .read-part .kept .1 .1 .1 .0 ∙ c .before .before .before .before .before .before .before .before .before .before .before .before .before .before .before .before .before .loop .inv .starts-long
+same-length-2 c =
+    let looped = c .before .before .before .before .before .before .before .before .before .before .before .before .before .before .before .before .before .loop in
+    let part-run = c .before .before .before .before .before .before .before .before .before .before .before .read-part in
+    part-run .kept .1 .1 .1 .0 ∙ looped .inv .starts-long
 
 same-length-3 : tie.Need-same-length-3 Inv-loop μ-loop
-same-length-3 c = c .before .before .before .before .before .before .before .before .before .before .before .read-part .kept .1 .1 .1 .1 .0 ∙ c .before .before .before .before .before .before .before .before .before .before .before .before .before .before .before .before .before .loop .inv .rows-long
+same-length-3 c =
+    let looped = c .before .before .before .before .before .before .before .before .before .before .before .before .before .before .before .before .before .loop in
+    let part-run = c .before .before .before .before .before .before .before .before .before .before .before .read-part in
+    part-run .kept .1 .1 .1 .1 .0 ∙ looped .inv .rows-long
 
 same-length-4 : tie.Need-same-length-4 Inv-loop μ-loop
-same-length-4 c = c .before .before .before .before .before .before .before .before .before .before .before .read-part .kept .1 .1 .1 .1 .1 .0 ∙ c .before .before .before .before .before .before .before .before .before .before .before .before .before .before .before .before .before .loop .inv .queue-long
+same-length-4 c =
+    let looped = c .before .before .before .before .before .before .before .before .before .before .before .before .before .before .before .before .before .loop in
+    let part-run = c .before .before .before .before .before .before .before .before .before .before .before .read-part in
+    part-run .kept .1 .1 .1 .1 .1 .0 ∙ looped .inv .queue-long
 
 returns : tie.Need-returns Inv-loop μ-loop
 returns c =
+    let looped = c .before .before .before .before .before .before .before .before .before .before .before .before .before .before .before .before .before .loop in
+    let going-on = c .before .before .before .before .before .before .before .before .before .before .before .before .before .before .before .before .loop-test in
     let part = c .before .before .before .before .before .before .before .before .before .before .before .read-part in
-    refused-by (part .result) (c .before .before .before .before .before .before .before .before .before .before .before .before .before .before .before .before .before .loop .inv .so-far) (omega (arith, c .before .before .before .before .before .before .before .before .before .before .before .before .before .before .before .before .loop-test .taken)) (part .ensures .0) (c .before .answer2 .given .1)
+    refused-by (part .result) (looped .inv .so-far) (omega (arith, going-on .taken)) (part .ensures .0) (c .before .answer2 .given .1)
 
 is-last-requires : tie.Need-is-last-requires Inv-loop μ-loop
 is-last-requires c κs = search needs
@@ -55,8 +73,10 @@ loop-less c = search needs
 
 loop-again : tie.Need-loop-again Inv-loop μ-loop
 loop-again c =
+    let looped = c .before .before .before .before .before .before .before .before .before .before .before .before .before .before .before .before .before .before .before .loop in
+    let going-on = c .before .before .before .before .before .before .before .before .before .before .before .before .before .before .before .before .before .before .loop-test in
     let part = c .before .before .before .before .before .before .before .before .before .before .before .before .before .read-part in
-    reading-last _ _ _ _ (part .result) _ (c .before .before .before .before .before .before .before .before .before .before .before .before .before .before .before .before .before .before .before .loop .inv) (part .ensures .0) (c .before .before .before .answer .given .1) (part .ensures .1) (omega (arith, c .before .before .before .before .before .before .before .before .before .before .before .before .before .before .before .before .before .before .loop-test .taken))
+    reading-last _ _ _ _ (part .result) _ (looped .inv) (part .ensures .0) (c .before .before .before .answer .given .1) (part .ensures .1) (omega (arith, going-on .taken))
     (part .kept .1 .1 .0) (part .kept .1 .1 .1 .0) (part .kept .1 .1 .1 .1 .0) (part .kept .1 .1 .1 .1 .1 .0)
     (ltb-true _ _ (sym (c .before .is-last .ensures) ∙ c .if1 .taken))
 
@@ -68,8 +88,10 @@ loop-less-2 c = search needs
 
 loop-again-2 : tie.Need-loop-again-2 Inv-loop μ-loop
 loop-again-2 c =
+    let looped = c .before .before .before .before .before .before .before .before .before .before .before .before .before .before .before .before .before .before .before .loop in
+    let going-on = c .before .before .before .before .before .before .before .before .before .before .before .before .before .before .before .before .before .before .loop-test in
     let part = c .before .before .before .before .before .before .before .before .before .before .before .before .before .read-part in
-    reading-full _ _ _ _ (part .result) _ (c .before .before .before .before .before .before .before .before .before .before .before .before .before .before .before .before .before .before .before .loop .inv) (part .ensures .0) (c .before .before .before .answer .given .1) (part .ensures .1) (omega (arith, c .before .before .before .before .before .before .before .before .before .before .before .before .before .before .before .before .before .before .loop-test .taken))
+    reading-full _ _ _ _ (part .result) _ (looped .inv) (part .ensures .0) (c .before .before .before .answer .given .1) (part .ensures .1) (omega (arith, going-on .taken))
     (part .kept .1 .1 .0) (part .kept .1 .1 .1 .0) (part .kept .1 .1 .1 .1 .0) (part .kept .1 .1 .1 .1 .1 .0)
     (ltb-false _ _ (sym (c .before .is-last .ensures) ∙ c .if1 .left))
 

@@ -16,9 +16,10 @@ same-length c = search needs
 -- The words are refused.
 returns : tie.Need-returns
 returns c =
+    let required = c .before .before .before .before .before .before .before .before .before .before .before .before .before .pre in
     let t = c .before .tell-count .ensures in
     let told = c .before .before .before .before .before .latest-words .ensures in
-    refused-prepared _ told (t .0) (t .1) (c .before .before .before .before .before .before .before .before .before .before .before .before .before .pre) (c .if1 .taken)
+    refused-prepared _ told (t .0) (t .1) (required) (c .if1 .taken)
 
 same-length-2 : tie.Need-same-length-2
 same-length-2 c = search needs
@@ -26,8 +27,9 @@ same-length-2 c = search needs
 -- There are fewer places than records.
 returns-2 : tie.Need-returns-2
 returns-2 c =
+    let words-told = c .before .before .before .before .before .before .latest-words in
     let t = c .before .before .tell-count .ensures in
-    let told = c .before .before .before .before .before .before .latest-words .ensures in
+    let told = words-told .ensures in
     short-prepared _ told (t .0) (t .1) (c .before .if1 .left) (c .if2 .taken)
 
 same-length-3 : tie.Need-same-length-3
@@ -36,8 +38,9 @@ same-length-3 c = search needs
 -- There are as many.
 returns-3 : tie.Need-returns-3
 returns-3 c =
+    let words-told = c .before .before .before .before .before .before .latest-words in
     let t = c .before .before .tell-count .ensures in
-    let told = c .before .before .before .before .before .before .latest-words .ensures in
+    let told = words-told .ensures in
     done-prepared _ told (t .0) (t .1) (c .before .if1 .left) (c .if2 .left)
 
 pub prepare-spec : {M : Type 1} → statement M

@@ -14,7 +14,9 @@ same-length : tie.Need-same-length
 same-length c = search needs
 
 returns : tie.Need-returns
-returns c = put-then (c .before .before .before .before .before .before .put-decimal .ensures) (c .before .before .put .ensures)
+returns c =
+    let decimal-put = c .before .before .before .before .before .before .put-decimal in
+    put-then (decimal-put .ensures) (c .before .before .put .ensures)
 
 pub put-number-spec : {M : Type 1} → statement M
 put-number-spec = tie.close (tie.spec put-decimal-requires put-requires same-length returns)
