@@ -59,15 +59,18 @@ impl Words {
         low
     }
 
-    /// Steps that double, then halves of the last step.
+    /// Steps that double, then halves of the last step: the proved code's.
     #[inline(always)]
     fn gallop(&self, from: usize, to: usize, x: usize) -> usize {
-        let (mut low, mut step) = (from, 1);
-        while low + step <= to && self.second(low + step - 1) < x {
-            low += step;
-            step *= 2;
+        let mut low = from;
+        while low - from < to - low {
+            let probe = low + (low - from);
+            if self.second(probe) >= x {
+                return self.halves(low, probe, x);
+            }
+            low = probe + 1;
         }
-        self.halves(low, to.min(low + step - 1), x)
+        self.halves(low, to, x)
     }
 
     /// Halves whose number depends on the size alone. Without the hint rustc makes a branch of the choice.

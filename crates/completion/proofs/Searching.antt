@@ -29,7 +29,7 @@ module _ (rs : List Rule) (items : List ℕ) (from to : ℕ) (search : Searchabl
       subst (λ (q : ℕ). secondAt rs items p ≤ secondAt rs items q) (omega arith)
       (le-trans (later p n low (omega arith)) (search .ordered (p + n) (omega arith) (omega arith)))
 
-  never-fall : (p q : ℕ) → from ≤ p → p ≤ q → q < to → secondAt rs items p ≤ secondAt rs items q
+  pub never-fall : (p q : ℕ) → from ≤ p → p ≤ q → q < to → secondAt rs items p ≤ secondAt rs items q
   never-fall p q low up high =
       subst (λ (m : ℕ). secondAt rs items p ≤ secondAt rs items m) (omega arith) (later p (q - p) low (omega arith))
 
@@ -158,14 +158,14 @@ module _ (rs : List Rule) (starts : List ℕ) (k x first number : ℕ) (s : Pass
       (over number (λ i. turn (before + i)) s) (subst Same (sym queues) kept)
       ∙ queues
 
--- What can be searched can be searched from a later place on.
-pub searchable-from : (rs : List Rule) (items : List ℕ) (from to f : ℕ) → Searchable rs items from to → from ≤ f → f ≤ to → Searchable rs items f to
-searchable-from rs items from to f search low high =
+-- What can be searched can be searched within.
+pub searchable-within : (rs : List Rule) (items : List ℕ) (from to f t : ℕ) → Searchable rs items from to → from ≤ f → f ≤ t → t ≤ to → Searchable rs items f t
+searchable-within rs items from to f t search low mid high =
     record {
-      upwards = high;
-      there = λ p l h. search .there p (omega arith) h;
-      rules = λ p l h. search .rules p (omega arith) h;
-      ordered = λ p l h. search .ordered p (omega arith) h;
+      upwards = mid;
+      there = λ p l h. search .there p (omega arith) (omega arith);
+      rules = λ p l h. search .rules p (omega arith) (omega arith);
+      ordered = λ p l h. search .ordered p (omega arith) (omega arith);
     }
 
 -- The items of a set can be searched.
@@ -191,6 +191,86 @@ pub queueing-sound : (first number n : ℕ) (s : Pass) → PassFits s → first 
 queueing-sound first number n s sound there few =
     over-keeps (λ (u : Pass). PassFits u × (u .at .items ≡ s .at .items)) n (queueing first)
     (λ i u h known. (then-sound u (enqueue (first + i)) (known .0) (λ on. enqueue-sound (first + i) u (known .0) (omega (arith, known .1))), then-next-count u (enqueue (first + i)) (enqueue-count (first + i) u) ∙ known .1)) s (sound, refl)
+
+-- A search by halves: seconds below the symbol stand before `low`, and none from `high` on.
+pub record Halving (rs : List Rule) (items : List ℕ) (from to x low high : ℕ) : Type 0 where
+  pub from-on : from ≤ low
+  pub upwards : low ≤ high
+  pub up-to : high ≤ to
+  pub below : (p : ℕ) → from ≤ p → p < low → secondAt rs items p < x
+  pub not-below : (p : ℕ) → high ≤ p → p < to → x ≤ secondAt rs items p
+
+module _ (rs : List Rule) (items : List ℕ) (from to x : ℕ) (search : Searchable rs items from to) where
+  pub halving-starts : Halving rs items from to x from to
+  halving-starts = record {
+    from-on = omega arith;
+    upwards = search .upwards;
+    up-to = omega arith;
+    below = λ p low high. absurd (omega arith);
+    not-below = λ p low high. absurd (omega arith);
+  }
+
+  module _ (low high middle : ℕ) (h : Halving rs items from to x low high) (after : low ≤ middle) (before : middle < high) where
+    -- The second in the middle is below: so are all before it.
+    pub halving-up : secondAt rs items middle < x → Halving rs items from to x (middle + 1) high
+    halving-up l = record {
+      from-on = omega (arith, h .from-on);
+      upwards = omega arith;
+      up-to = h .up-to;
+      below = λ p a b. omega (arith, l, never-fall rs items from to search p middle a (omega arith) (omega (arith, h .up-to)));
+      not-below = h .not-below;
+    }
+
+    -- It is not: so is none behind it.
+    pub halving-down : x ≤ secondAt rs items middle → Halving rs items from to x low middle
+    halving-down l = record {
+      from-on = h .from-on;
+      upwards = after;
+      up-to = omega (arith, h .up-to);
+      below = h .below;
+      not-below = λ p a b. omega (arith, l, never-fall rs items from to search middle p (omega (arith, h .from-on)) a b);
+    }
+
+  pub halving-ends : (low high : ℕ) → Halving rs items from to x low high → high ≤ low → FirstNotBelow rs items from to x low
+  halving-ends low high h l = record {
+    from-on = h .from-on;
+    up-to = omega (arith, h .upwards, h .up-to);
+    below = h .below;
+    not-below = λ m. h .not-below low (omega arith) m;
+  }
+
+-- All seconds before `low` are below the symbol.
+pub record Passed (rs : List Rule) (items : List ℕ) (from to x low : ℕ) : Type 0 where
+  pub from-on : from ≤ low
+  pub up-to : low ≤ to
+  pub below : (p : ℕ) → from ≤ p → p < low → secondAt rs items p < x
+
+module _ (rs : List Rule) (items : List ℕ) (from to x : ℕ) (search : Searchable rs items from to) where
+  pub passed-none : Passed rs items from to x from
+  passed-none = record { from-on = omega arith; up-to = search .upwards; below = λ p low high. absurd (omega arith) }
+
+  -- A second is below: so are all before it.
+  pub passed-on : (p : ℕ) → from ≤ p → p < to → secondAt rs items p < x → Passed rs items from to x (p + 1)
+  passed-on p low high l = record {
+    from-on = omega arith;
+    up-to = omega arith;
+    below = λ q a b. omega (arith, l, never-fall rs items from to search q p a (omega arith) high);
+  }
+
+  -- The first that is not below from there on is the first of all.
+  pub first-passed : (low high r : ℕ) → Passed rs items from to x low → high ≤ to → (high < to → x ≤ secondAt rs items high)
+      → FirstNotBelow rs items low high x r → FirstNotBelow rs items from to x r
+  first-passed low high r passed end stops first = record {
+    from-on = omega (arith, passed .from-on, first .from-on);
+    up-to = omega (arith, first .up-to);
+    below = λ p a b. elim (decLt p low) [ yes l ↦ passed .below p a l | no m ↦ first .below p (omega arith) b ];
+    not-below = λ m. elim (decLt r high) [
+      | yes l ↦ first .not-below l
+      | no n ↦
+          let at-end : high ≡ r = omega (arith, first .up-to) in
+          subst (λ (q : ℕ). x ≤ secondAt rs items q) at-end (stops (omega arith))
+    ];
+  }
 
 -- One stretch of places is found and no other, also where no item has the symbol behind its dot.
 module _ {rs : List Rule} {items : List ℕ} {from to x first number first′ number′ : ℕ} (a : Found rs items from to x first number) (b : Found rs items from to x first′ number′) where

@@ -1,93 +1,81 @@
-use Rattle.completion.proofs.Searching.{second-read}
-use Rattle.completion.proofs.Waiting.{rules-length}
-use Rattle.item.specs.Item.{ruleAt}
-use Rattle.completion.specs.inner.Search.{secondAt}
-use borrow.Author.Count.{below-more}
-use Rattle.grammar.specs.inner.Decoded.{rulesIn}
-use borrow.Author.Needs.{needs}
+-- `completion::medial::first_not_below` meets its contract. The invariant, `Passed`: all before `low` are below.
+use Prim.Native.Nat.{ℕ, _+_, _-_, _≤_, _<_}
 use native.Mathlib.Omega.{arith}
-use Prim.Native.Nat.{ℕ, _-_, _≤_, _<_}
+use borrow.Author.Needs.{needs}
+use Rattle.grammar.specs.inner.Decoded.{rulesIn}
+use Rattle.completion.proofs.Searching.{searchable-within, Passed, passed-none, passed-on, first-passed}
 use Rattle.completion.proofs.medial.first_not_below.Statement.{statement}
 use Rattle.completion.proofs.medial.first_not_below.Tie as tie
 
 abbrev Inv-loop : tie.InvT-loop
-Inv-loop rules count items from to x p₀ p =
-    (from ≤ p) × (p ≤ to) × ((q : ℕ) → q < p → from ≤ q → secondAt (rulesIn rules count) items q < x)
+Inv-loop rules count items from to x low₀ low = Passed (rulesIn rules count) items from to x low
 
 abbrev μ-loop : tie.MeasureT-loop
-μ-loop rules count items from to x p₀ p = to - p
+μ-loop rules count items from to x low₀ low = to - low
 
--- src/medial.rt:33:5
 loop-holds : tie.Need-loop-holds Inv-loop μ-loop
-loop-holds c =
-    (search needs, c .before .pre .1 .upwards, λ q h l. absurd (omega arith))
+loop-holds c = passed-none _ _ _ _ _ (c .before .pre .1)
 
--- src/medial.rt:34:42
-rule-requires : tie.Need-rule-requires Inv-loop μ-loop
-rule-requires c κs =
-    c .before .before .before .pre .1 .there (c .before .loop .p) (c .before .loop .inv .0) (c .loop-test .taken)
+sub-loop : tie.Need-sub-loop Inv-loop μ-loop
+sub-loop c = search needs
 
--- src/medial.rt:34:42
-cast-second : tie.Need-cast-second Inv-loop μ-loop
-cast-second c = search needs
+sub-loop-2 : tie.Need-sub-loop-2 Inv-loop μ-loop
+sub-loop-2 c = search needs
 
--- src/medial.rt:34:12
-second-requires : tie.Need-second-requires Inv-loop μ-loop
-second-requires c κs =
-    let given = c .before .before .before .before .args in
-    let required = c .before .before .before .before .pre in
-    let rs = rulesIn (given .rules .now) (given .count) in
-    omega (arith, c .rule .ensures, required .1 .rules (c .before .before .loop .p) (c .before .before .loop .inv .0) (c .before .loop-test .taken), rules-length (given .rules .now) (given .count), required .0)
+sub-probe : tie.Need-sub-probe Inv-loop μ-loop
+sub-probe c = search needs
 
--- src/medial.rt:35:13
+add-probe : tie.Need-add-probe Inv-loop μ-loop
+add-probe c = search needs
+
+second-at-requires : tie.Need-second-at-requires Inv-loop μ-loop
+second-at-requires c κs =
+    let given = c .before .before .before .args in
+    let required = c .before .before .before .pre in
+    let looped = c .before .loop in
+    let probe : ℕ = looped .low + (looped .low - given .from) in
+    let after : given .from ≤ probe = omega (arith, looped .inv .from-on) in
+    let before : probe < given .to = omega (arith, c .loop-test .taken) in
+    (required .0, required .1 .there probe after before, required .1 .rules probe after before)
+
+by-halves-requires : tie.Need-by-halves-requires Inv-loop μ-loop
+by-halves-requires c κs =
+    let required = c .before .before .before .before .before .pre in
+    let looped = c .before .before .before .loop in
+    (required .0, searchable-within _ _ _ _ _ _ (required .1) (looped .inv .from-on) (omega arith) (omega (arith, c .before .before .loop-test .taken)))
+
 returns : tie.Need-returns Inv-loop μ-loop
 returns c =
-    let given = c .before .before .before .before .before .before .args in
     let required = c .before .before .before .before .before .before .pre in
     let looped = c .before .before .before .before .loop in
-    let rs = rulesIn (given .rules .now) (given .count) in
-    let there : ruleAt (given .items .now) (looped .p) < given .count =
-    omega (arith, required .1 .rules (looped .p) (looped .inv .0) (c .before .before .before .loop-test .taken), rules-length (given .rules .now) (given .count)) in
-    record {
-      from-on = looped .inv .0;
-      up-to = looped .inv .1;
-      below = λ q low high. looped .inv .2 q high low;
-      not-below = λ h. omega (arith, c .if1 .taken, second-read (given .rules .now) (given .count) (given .items .now) (looped .p) (c .before .before .rule .result) (c .before .second .result) (c .before .before .rule .ensures) there (c .before .second .ensures .0));
-    }
+    let going-on = c .before .before .before .loop-test in
+    let looked = c .before .before .second-at in
+    first-passed _ _ _ _ _ (required .1) _ _ _ (looped .inv) (omega (arith, going-on .taken)) (λ l. omega (arith, c .before .if1 .taken, looked .ensures)) (c .by-halves .ensures)
 
--- src/medial.rt:37:9
-add-p : tie.Need-add-p Inv-loop μ-loop
-add-p c = search needs
+add-low : tie.Need-add-low Inv-loop μ-loop
+add-low c = search needs
 
--- src/medial.rt:33:5
 loop-less : tie.Need-loop-less Inv-loop μ-loop
 loop-less c = search needs
 
--- src/medial.rt:33:5
 loop-again : tie.Need-loop-again Inv-loop μ-loop
 loop-again c =
-    let given = c .before .before .before .before .before .before .args in
-    let required = c .before .before .before .before .before .before .pre in
-    let looped = c .before .before .before .before .loop in
-    let rs = rulesIn (given .rules .now) (given .count) in
-    let there : ruleAt (given .items .now) (looped .p) < given .count =
-    omega (arith, required .1 .rules (looped .p) (looped .inv .0) (c .before .before .before .loop-test .taken), rules-length (given .rules .now) (given .count)) in (
-      search needs,
-      search needs,
-      below-more (λ (q : ℕ). given .from ≤ q → secondAt rs (given .items .now) q < given .x) (looped .p) (looped .inv .2)
-          (λ low. omega (arith, c .if1 .left, second-read (given .rules .now) (given .count) (given .items .now) (looped .p) (c .before .before .rule .result) (c .before .second .result) (c .before .before .rule .ensures) there (c .before .second .ensures .0))),
-    )
+    let required = c .before .before .before .before .before .pre in
+    let looped = c .before .before .before .loop in
+    let going-on = c .before .before .loop-test in
+    passed-on _ _ _ _ _ (required .1) _ (omega (arith, looped .inv .from-on)) (omega (arith, going-on .taken)) (omega (arith, c .if1 .left, c .before .second-at .ensures))
 
--- src/medial.rt:21:1
+by-halves-requires-2 : tie.Need-by-halves-requires-2 Inv-loop μ-loop
+by-halves-requires-2 c κs =
+    let required = c .before .before .before .pre in
+    let looped = c .before .loop in
+    (required .0, searchable-within _ _ _ _ _ _ (required .1) (looped .inv .from-on) (looped .inv .up-to) (omega arith))
+
 returns-2 : tie.Need-returns-2 Inv-loop μ-loop
 returns-2 c =
-    let looped = c .before .loop in
-    record {
-      from-on = looped .inv .0;
-      up-to = looped .inv .1;
-      below = λ q low high. looped .inv .2 q high low;
-      not-below = λ h. absurd (omega (arith, c .loop-test .left));
-    }
+    let required = c .before .before .before .before .pre in
+    let looped = c .before .before .loop in
+    first-passed _ _ _ _ _ (required .1) _ _ _ (looped .inv) (omega arith) (λ l. absurd (omega arith)) (c .by-halves2 .ensures)
 
 pub first-not-below-spec : {M : Type 1} → statement M
 first-not-below-spec =
@@ -96,11 +84,15 @@ first-not-below-spec =
     Inv-loop
     μ-loop
     loop-holds
-    rule-requires
-    cast-second
-    second-requires
+    sub-loop
+    sub-loop-2
+    sub-probe
+    add-probe
+    second-at-requires
+    by-halves-requires
     returns
-    add-p
+    add-low
     loop-less
     loop-again
+    by-halves-requires-2
     returns-2)

@@ -1,6 +1,7 @@
-use Rattle.completion.proofs.Searching.{found, searchable-from}
+use Rattle.completion.proofs.Searching.{found, searchable-within}
 use Rattle.grammar.specs.inner.Decoded.{rulesIn}
 use Prim.Native.Nat.{_-_}
+use native.Mathlib.Omega.{arith}
 use borrow.Author.Needs.{needs}
 use Rattle.completion.proofs.medial.medial_item_set_range.Statement.{statement}
 use Rattle.completion.proofs.medial.medial_item_set_range.Tie as tie
@@ -18,7 +19,7 @@ first-not-below-requires-2 : tie.Need-first-not-below-requires-2
 first-not-below-requires-2 c κs =
     let a = c .before .before .args in
     let rs = rulesIn (a .rules .now) (a .count) in
-    (c .before .before .pre .0, searchable-from rs (a .items .now) (a .from) (a .to) (c .first-not-below .result) (c .before .before .pre .1) (c .first-not-below .ensures .from-on) (c .first-not-below .ensures .up-to))
+    (c .before .before .pre .0, searchable-within rs (a .items .now) (a .from) (a .to) (c .first-not-below .result) (a .to) (c .before .before .pre .1) (c .first-not-below .ensures .from-on) (c .first-not-below .ensures .up-to) (omega arith))
 
 -- src/medial.rt:58:17
 sub-t9 : tie.Need-sub-t9
