@@ -2,6 +2,7 @@
 pub mod Decoding
 pub mod Asked
 pub mod Marks
+pub mod Rounds
 pub mod Productivity
 pub mod Judging
 pub mod Verdicts

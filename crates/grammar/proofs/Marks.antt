@@ -9,9 +9,9 @@ use native.Mathlib.Omega.{arith}
 use borrow.Author.Count.{below-more}
 use lib.ListN.{length, getD, set, replicate, length-set, length-replicate, getD-replicate, List·getD-eq-default}
 use lib.Seq.{getD-set-same, getD-set-other}
-use Rattle.laws.proofs.Decides.{true-false, false-true}
+use Rattle.laws.proofs.Decides.{true-false, false-true, decides-map}
 use Rattle.grammar.specs.Accepted.{maxSymbols}
-use Rattle.grammar.specs.inner.Checking.{Marked, TokensMarked, AllMarked, LowSymbols, Fires}
+use Rattle.grammar.specs.inner.Checking.{Marked, TokensMarked, AllMarked, LowSymbols, RightMarked, Fires}
 use Rattle.grammar.specs.Rules.{none}
 use Rattle.grammar.specs.inner.Decoded.{leftIn, firstIn, secondIn}
 use Rattle.laws.specs.Decides.{Decides}
@@ -81,30 +81,34 @@ one-unmarked marks from a to l u m h = true-false (sym (h .marked a l u) ∙ m)
 pub low-second : (words : List ℕ) (r c : ℕ) → LowSymbols words (r + 1) → c ≡ secondIn words r → (c ≡ none → ⊥) → c < maxSymbols
 low-second words r c h e n = ⊎-elim (λ (x : secondIn words r ≡ none). absurd (n (e ∙ x))) (λ (x : secondIn words r < maxSymbols). omega arith) (h .second r (omega arith))
 
--- Rule `r` does not fire where its left side is marked or its first symbol is not.
-pub fires-not-left : (words : List ℕ) (marks : List Bool) (r a : ℕ) → a ≡ leftIn words r → getD marks a false ≡ true → Fires words marks r → ⊥
-fires-not-left words marks r a e m f = f .left (subst (λ (x : ℕ). Marked marks x) e m)
+-- A right side is not marked where its first symbol is not.
+pub right-not-first : (words : List ℕ) (marks : List Bool) (r b : ℕ) → b ≡ firstIn words r → getD marks b false ≡ false → RightMarked words marks r → ⊥
+right-not-first words marks r b e m h = true-false (sym (h .first) ∙ ap (λ (x : ℕ). getD marks x false) (sym e) ∙ m)
 
-pub fires-not-first : (words : List ℕ) (marks : List Bool) (r b : ℕ) → b ≡ firstIn words r → getD marks b false ≡ false → Fires words marks r → ⊥
-fires-not-first words marks r b e m f = true-false (sym (f .first) ∙ ap (λ (x : ℕ). getD marks x false) (sym e) ∙ m)
-
-module _ (words : List ℕ) (marks : List Bool) (r a b c : ℕ) (ea : a ≡ leftIn words r) (eb : b ≡ firstIn words r) (ec : c ≡ secondIn words r)
-    (ma : getD marks a false ≡ false) (mb : getD marks b false ≡ true) where
-  still : Marked marks (leftIn words r) → ⊥
-  still m = true-false (sym m ∙ ap (λ (x : ℕ). getD marks x false) (sym ea) ∙ ma)
-
+module _ (words : List ℕ) (marks : List Bool) (r b c : ℕ) (eb : b ≡ firstIn words r) (ec : c ≡ secondIn words r) (mb : getD marks b false ≡ true) where
   first-marked : Marked marks (firstIn words r)
   first-marked = subst (λ (x : ℕ). Marked marks x) eb mb
 
-  -- It fires where it has no second symbol, or where that is marked too.
-  pub fires-one : c ≡ none → Fires words marks r
-  fires-one e = record { left = still; first = first-marked; second = inl (sym ec ∙ e) }
+  -- With the first marked it is where there is no second symbol, or where that is marked too.
+  pub right-one : c ≡ none → RightMarked words marks r
+  right-one e = record { first = first-marked; second = inl (sym ec ∙ e) }
 
-  pub fires-two : (c ≡ none → ⊥) → Decides (getD marks c false) (Fires words marks r)
-  fires-two n = record {
-    if-yes = λ m. record { left = still; first = first-marked; second = inr (subst (λ (x : ℕ). Marked marks x) ec m) };
-    if-no = λ m f. ⊎-elim (λ (e : secondIn words r ≡ none). n (ec ∙ e)) (λ (y : Marked marks (secondIn words r)). true-false (sym y ∙ ap (λ (x : ℕ). getD marks x false) (sym ec) ∙ m)) (f .second);
+  pub right-two : (c ≡ none → ⊥) → Decides (getD marks c false) (RightMarked words marks r)
+  right-two n = record {
+    if-yes = λ m. record { first = first-marked; second = inr (subst (λ (x : ℕ). Marked marks x) ec m) };
+    if-no = λ m h. ⊎-elim (λ (e : secondIn words r ≡ none). n (ec ∙ e)) (λ (y : Marked marks (secondIn words r)). true-false (sym y ∙ ap (λ (x : ℕ). getD marks x false) (sym ec) ∙ m)) (h .second);
   }
+
+-- Rule `r` does not fire where its left side is marked; where that is not, it fires where its right side is marked.
+pub fires-not : (words : List ℕ) (marks : List Bool) (r a : ℕ) → a ≡ leftIn words r → getD marks a false ≡ true → Fires words marks r → ⊥
+fires-not words marks r a e m f = f .left (subst (λ (x : ℕ). Marked marks x) e m)
+
+pub fires-right : (words : List ℕ) (marks : List Bool) (r a : ℕ) (answer : Bool) → a ≡ leftIn words r → getD marks a false ≡ false
+    → Decides answer (RightMarked words marks r) → Decides answer (Fires words marks r)
+fires-right words marks r a answer e m = decides-map (λ h. record { left = still; right = h }) (λ f. f .right)
+  where
+    still : Marked marks (leftIn words r) → ⊥
+    still x = true-false (sym x ∙ ap (λ (x : ℕ). getD marks x false) (sym e) ∙ m)
 
 -- Fewer rules of low symbols.
 pub low-less : (words : List ℕ) (count r : ℕ) → LowSymbols words count → r ≤ count → LowSymbols words r

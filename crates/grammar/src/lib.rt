@@ -8,6 +8,7 @@ ghost use Rattle.grammar.specs.inner.Decoded.{grammarIn, Decodes};
 mod conditions;
 pub mod file;
 pub mod limits;
+mod marked;
 mod pairs;
 mod productive;
 pub mod rules;

@@ -80,11 +80,15 @@ pub record AllProductive (g : Grammar) : Type 0 where
 abbrev pub Marked : List Bool → ℕ → Type 0
 Marked marks a = getD marks a false ≡ true
 
+-- Every symbol on the right of rule `r` is marked.
+pub record RightMarked (words : List ℕ) (marks : List Bool) (r : ℕ) : Type 0 where
+  pub first : Marked marks (firstIn words r)
+  pub second : (secondIn words r ≡ none) ⊎ Marked marks (secondIn words r)
+
 -- Rule `r` marks its left side: the right side is marked, and the left side is not yet.
 pub record Fires (words : List ℕ) (marks : List Bool) (r : ℕ) : Type 0 where
   pub left : Marked marks (leftIn words r) → ⊥
-  pub first : Marked marks (firstIn words r)
-  pub second : (secondIn words r ≡ none) ⊎ Marked marks (secondIn words r)
+  pub right : RightMarked words marks r
 
 -- The tokens are marked, and nothing else.
 pub record TokensMarked (t : ℕ) (marks : List Bool) : Type 0 where
