@@ -4,6 +4,7 @@ pub mod Asked
 pub mod Marks
 pub mod Rounds
 pub mod Productivity
+pub mod Reachability
 pub mod Judging
 pub mod Verdicts
 pub mod Facts

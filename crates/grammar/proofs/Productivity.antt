@@ -15,7 +15,7 @@ use Rattle.grammar.specs.Sentences.Derives.{token, unary, binary}
 use Rattle.grammar.specs.Accepted.{maxSymbols, Productive}
 use Rattle.grammar.specs.inner.Decoded.{leftIn, firstIn, secondIn, grammarIn}
 use Rattle.grammar.specs.inner.Checking.{Marked, TokensMarked, AllMarked, Fires, AllProductive}
-use Rattle.grammar.proofs.Decoding.{in-count, in-left, in-first, in-second, in-says}
+use Rattle.grammar.proofs.Decoding.{in-says, SaysIn, says-in}
 use Rattle.grammar.proofs.Rounds.{Marking, Round, unmarked-less, marking-more, round-marks}
 
 module _ (words : List ℕ) (n t count : ℕ) where
@@ -76,25 +76,16 @@ module _ (words : List ℕ) (n t count : ℕ) where
       → Marked marks b → (c ≡ none) ⊎ Marked marks c → Marked marks a
   closed marks quiet r a b c s mb mc = go (getD marks a false) refl
     where
-      there : r < count
-      there = subst (λ (k : ℕ). r < k) (in-count words n t count) (s .there)
-
-      ea : leftIn words r ≡ a
-      ea = sym (in-left words n t count r there) ∙ s .left
-
-      eb : firstIn words r ≡ b
-      eb = sym (in-first words n t count r there) ∙ s .first
-
-      ec : secondIn words r ≡ c
-      ec = sym (in-second words n t count r there) ∙ s .second
+      in-words : SaysIn words count r a b c
+      in-words = says-in words n t count s
 
       go : (m : Bool) → getD marks a false ≡ m → Marked marks a
       go true e = e
-      go false e = absurd (quiet r there (record {
-        left = λ m. true-false (sym m ∙ ap (λ (x : ℕ). getD marks x false) ea ∙ e);
+      go false e = absurd (quiet r (in-words .there) (record {
+        left = λ m. true-false (sym m ∙ ap (λ (x : ℕ). getD marks x false) (in-words .left) ∙ e);
         right = record {
-          first = subst (λ (x : ℕ). Marked marks x) (sym eb) mb;
-          second = ⊎-elim (λ (x : c ≡ none). inl (ec ∙ x)) (λ (m : Marked marks c). inr (subst (λ (x : ℕ). Marked marks x) (sym ec) m)) mc;
+          first = subst (λ (x : ℕ). Marked marks x) (sym (in-words .first)) mb;
+          second = ⊎-elim (λ (x : c ≡ none). inl (in-words .second ∙ x)) (λ (m : Marked marks c). inr (subst (λ (x : ℕ). Marked marks x) (sym (in-words .second)) m)) mc;
         };
       }))
 

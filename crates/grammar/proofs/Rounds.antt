@@ -27,6 +27,15 @@ unmarked-less (false ∷ xs) zero l e = omega arith
 unmarked-less (true ∷ xs) (suc a) l e = unmarked-less xs a (omega arith) e
 unmarked-less (false ∷ xs) (suc a) l e = let h : unmarked (set xs a true) < unmarked xs = unmarked-less xs a (omega arith) e in omega arith
 
+-- No mark makes them more.
+pub unmarked-no-more : (l : List Bool) (a : ℕ) → unmarked (set l a true) ≤ unmarked l
+unfolding unmarked
+unmarked-no-more [] a = omega arith
+unmarked-no-more (true ∷ xs) zero = omega arith
+unmarked-no-more (false ∷ xs) zero = omega arith
+unmarked-no-more (true ∷ xs) (suc a) = unmarked-no-more xs a
+unmarked-no-more (false ∷ xs) (suc a) = let h : unmarked (set xs a true) ≤ unmarked xs = unmarked-no-more xs a in omega arith
+
 -- `Given` is marked from the start; `Right` is what a mark says of a symbol.
 module _ (Given Right : ℕ → Type 0) where
   -- Marks that are right so far.

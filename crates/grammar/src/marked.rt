@@ -5,7 +5,7 @@ ghost use Prim.Native.Nat.{ℕ, _+_, _≤_, _<_};
 ghost use lib.ListN.{length, getD};
 ghost use Rattle.laws.specs.Decides.{Decides};
 ghost use Rattle.grammar.specs.Accepted.{maxRules, maxSymbols};
-ghost use Rattle.grammar.specs.inner.Checking.{LowSymbols, RightMarked, AllMarked};
+ghost use Rattle.grammar.specs.inner.Checking.{LowSymbols, Last, RightMarked, AllMarked};
 use crate::limits::SYMBOLS;
 use crate::rules::NONE;
 use crate::rules::Rules;
@@ -15,6 +15,18 @@ use crate::rules::second;
 // A mark for each symbol.
 pub type Marks = [bool; SYMBOLS];
 
+// The last symbol on the right of rule `r`: the second, or the first where there is no second.
+pub fn last(rules: &Rules, r: usize) -> usize
+    requires { ⌜ r < maxRules ⌝ }
+    ensures { λ s. ⌜ Last (now (rules .entry)) r s ⌝ }
+{
+    let c = second(rules, r);
+    if c == NONE {
+        return first(rules, r);
+    }
+    c
+}
+
 // Whether every symbol on the right of rule `r` is marked.
 pub fn right_marked(rules: &Rules, marks: &Marks, r: usize) -> bool
     requires { ⌜ (r < maxRules) × LowSymbols (now rules) (r + 1) ⌝ }
@@ -23,11 +35,7 @@ pub fn right_marked(rules: &Rules, marks: &Marks, r: usize) -> bool
     if !marks[first(rules, r)] {
         return false;
     }
-    let c = second(rules, r);
-    if c == NONE {
-        return true;
-    }
-    marks[c]
+    marks[last(rules, r)]
 }
 
 // Whether all symbols from `from` up to `to` are marked.
