@@ -11,7 +11,7 @@ import library
 import model
 from by_hand import expect, passed
 
-RANDOM, LEAST = 4000, 500
+RANDOM, LEAST = 4000, 400
 
 
 def answered(file):
