@@ -64,7 +64,8 @@ enum {
     BRINESADDLE_NODE_STACK = 512      /* node_write, node_read, node_walk */
 };
 
-/* Checks a grammar file of version 1. Answers 0, 1 or 2, and writes nothing. */
+/* Checks a grammar file of version 1. Answers 0, 1 or 2, and writes nothing. A nonterminal that the start symbol does not reach by the rules
+ * is 2; files with one were accepted once. */
 uint32_t brinesaddle_check(const uint8_t *file, size_t file_len);
 
 /* Starts a parse. `set` and `held` hold an old state, of any value.

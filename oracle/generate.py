@@ -20,7 +20,8 @@ def random_grammar(rng, tokens, nonterminals, rules, unary):
     """An accepted grammar with about that many rules. A rule is unary with the given chance.
 
     The blocks of rules stand in random order, and a unary rule leads to a token or to a nonterminal of a later block.
-    Nonterminals that would derive no token string get a rule of tokens.
+    Nonterminals that would derive no token string get a rule of tokens, and those that S would not reach a place on the right of one that it
+    reaches.
     """
     symbols = tokens + nonterminals + 2
     blocks = list(range(tokens, symbols - 2))
@@ -53,10 +54,17 @@ def random_grammar(rng, tokens, nonterminals, rules, unary):
         if left not in productive:
             of_block[left].append((left, rng.randrange(tokens), None))
             productive = model.productive(grammar())
+    reachable = model.reachable(grammar())
+    for left in blocks:
+        if left not in reachable:
+            using = rng.choice([block for block in blocks if block in reachable])
+            other = rng.randrange(symbols - 2)
+            of_block[using].append((using, *rng.choice([(left, other), (other, left)])))
+            reachable = model.reachable(grammar())
     made = grammar()
     file = model.make_file(*made)
     answer, checked = model.check(file)
-    if answer != 0:  # one rule too many: the repair above may pass the most rules
+    if answer != 0:  # one rule too many: the repairs above may pass the most rules
         return random_grammar(rng, tokens, nonterminals, rules - 8, unary)
     assert checked == made
     return file, made

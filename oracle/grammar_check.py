@@ -46,6 +46,17 @@ def derives_some(x, t, rules, path, known):
     return False
 
 
+def reached(rules):
+    """The first symbol of rule 0, and all that it leads to from left sides to right sides."""
+    seen, left = set(), [b for a, b, c in rules[:1]]
+    while left:
+        x = left.pop()
+        if x not in seen:
+            seen.add(x)
+            left += [y for a, b, c in rules if a == x for y in ([b] if c == NONE else [b, c])]
+    return seen
+
+
 def broken(n, t, rules):
     """The conditions that do not hold, by the names of the fields of `Accepted`, each looked at by itself."""
     w, end = n - 2, n - 1
@@ -69,6 +80,7 @@ def broken(n, t, rules):
         "distinct": len(set(rules)) == len(rules),
         "unary-below": all(i < j for i, (a, b, c) in enumerate(rules) if c == NONE and b in nonterminals for j in places.get(b, [])),
         "productive": all(derives_some(x, t, rules, frozenset(), known) for x in nonterminals),
+        "reachable": set(nonterminals) <= reached(rules),
     }
     return [field for field, held in holds.items() if not held]
 
@@ -111,11 +123,18 @@ def pack(n, t, rules, version=1, length=None, count=None):
 A = (6, 2, [(4, 2, 5), (2, 2, 3), (2, 0, NONE), (3, 1, 2)])
 B = (8, 3, [(6, 3, 7), (3, 3, 4), (3, 4, NONE), (4, 0, 5), (5, 1, 2)])
 
+# The inputs of C-14's readings (docs/DECISIONS.md): A with a nonterminal, and with forty, that no rule uses; a ring off S; a token unused.
+LOOSE = pack(7, 2, [(5, 2, 6)] + A[2][1:] + [(4, 0, NONE)])
+FORTY = pack(46, 2, [(44, 2, 45)] + A[2][1:] + [(a, 0, NONE) for a in range(4, 44)])
+RING = pack(7, 1, [(5, 1, 6), (1, 0, NONE), (2, 3, NONE), (3, 0, NONE), (3, 0, 2), (4, 0, 4), (4, 0, NONE)])
+UNUSED_TOKEN = (5, 2, [(3, 2, 4), (2, 0, NONE)])
+
 
 def wide(n, count):
-    """An accepted grammar of n symbols and count rules: one token, every other nonterminal a pair of tokens, S all the rest."""
+    """An accepted grammar of n symbols and count rules: one token, every nonterminal behind S a token and the next one, the last a pair of
+    tokens, S all the rest."""
     t, w, end = 1, n - 2, n - 1
-    rules = [(w, 1, end)] + [(a, 0, 0) for a in range(2, n - 2)] + [(1, 0, NONE)]
+    rules = [(w, 1, end)] + [(a, 0, a + 1) for a in range(2, n - 3)] + [(n - 3, 0, 0), (1, 0, NONE)]
     pairs = ((1, b, c) for b in range(n - 2) for c in range(n - 2))
     while len(rules) < count:
         rules.append(next(pairs))
@@ -123,8 +142,9 @@ def wide(n, count):
 
 
 def named():
-    """Label, file and the one condition that it breaks: grammars of the paper, limits, each condition broken alone, each way to be
-    malformed. T ≥ 1, T+3 ≤ N and R ≥ 1 cannot be broken alone, as no nonterminal, or no rule 0, is left then."""
+    """Label, file and the conditions that it breaks, where that is the point of it: grammars of the paper, limits, each condition broken
+    alone, each way to be malformed. T ≥ 1, T+3 ≤ N and R ≥ 1 cannot be broken alone, as no nonterminal, or no rule 0, is left then. Nor
+    can S being a nonterminal: what is none has no rule, and reaches no nonterminal."""
     def changed(base, **fields):
         n, t, rules = base
         return pack(fields.pop("n", n), fields.pop("t", t), fields.pop("rules", rules), **fields)
@@ -157,9 +177,9 @@ def named():
     yield "rule 0: left is the end mark", with_rule(A, 0, (5, 2, 5)), "wraps"
     yield "rule 0: no end mark", with_rule(A, 0, (4, 2, NONE)), "wraps"
     yield "rule 0: W for the end mark", with_rule(A, 0, (4, 2, 4)), "wraps"
-    yield "rule 0: S is a token", with_rule(A, 0, (4, 0, 5)), "starts"
-    yield "rule 0: S is W", with_rule(A, 0, (4, 4, 5)), "starts"
-    yield "rule 0: S is none", with_rule(A, 0, (4, NONE, 5)), "starts"
+    yield "rule 0: S is a token", with_rule(A, 0, (4, 0, 5)), "starts", "reachable"
+    yield "rule 0: S is W", with_rule(A, 0, (4, 4, 5)), "starts", "reachable"
+    yield "rule 0: S is none", with_rule(A, 0, (4, NONE, 5)), "starts", "reachable"
     yield "rule 0 at the end", changed(A, rules=A[2][1:] + A[2][:1]), None
     yield "left side a token", changed(A, rules=A[2] + [(1, 0, 0)]), "lefts"
     yield "left side W", changed(A, rules=A[2][:1] + [(4, 2, 2)] + A[2][1:]), "lefts"
@@ -184,11 +204,22 @@ def named():
     yield "A ::= A", changed(A, rules=A[2][:3] + [(2, 2, NONE)] + A[2][3:]), "unary-below"
     yield "A ::= B and B ::= A", changed(A, rules=A[2][:3] + [(2, 3, NONE)] + A[2][3:] + [(3, 2, NONE)]), "unary-below"
     yield "A ::= 0 behind token rules", changed(A, rules=A[2] + [(3, 0, NONE)]), None
-    yield "nonterminal without a rule", pack(7, 2, [(5, 2, 6)] + A[2][1:]), "productive"
-    yield "nonterminal that needs itself", pack(7, 2, [(5, 2, 6)] + A[2][1:] + [(4, 4, 0)]), "productive"
-    yield "nonterminals that need each other", pack(8, 2, [(6, 2, 7)] + A[2][1:] + [(4, 5, 0), (5, 4, 0)]), "productive"
+    using_4 = A[2][1:3] + [(2, 1, 4)] + A[2][3:]
+    yield "nonterminal without a rule", pack(7, 2, [(5, 2, 6)] + using_4), "productive"
+    yield "nonterminal that needs itself", pack(7, 2, [(5, 2, 6)] + using_4 + [(4, 4, 0)]), "productive"
+    yield "nonterminals that need each other", pack(8, 2, [(6, 2, 7)] + using_4 + [(4, 5, 0), (5, 4, 0)]), "productive"
     yield "S derives nothing", pack(6, 2, [(4, 2, 5), (2, 2, 3), (3, 1, 1)]), "productive"
     yield "productive in many rounds", pack(12, 1, [(10, 1, 11)] + [(i, i + 1, i + 1) for i in range(1, 9)] + [(9, 0, NONE)]), None
+    yield "nonterminal that no rule uses", LOOSE, "reachable"
+    yield "nonterminal that no rule uses, though it uses S", pack(7, 2, [(5, 2, 6)] + A[2][1:] + [(4, 2, 2)]), "reachable"
+    yield "nonterminal that only its own rules use", pack(7, 2, [(5, 2, 6)] + A[2][1:] + [(4, 4, 0), (4, 0, NONE)]), "reachable"
+    yield "nonterminals that only each other use", RING, "reachable"
+    yield "forty nonterminals that no rule uses", FORTY, "reachable"
+    yield "the last nonterminal out of reach", pack(6, 1, [(4, 1, 5), (1, 2, NONE), (2, 0, NONE), (3, 0, NONE)]), "reachable"
+    yield "the first nonterminal out of reach", pack(6, 1, [(4, 2, 5), (1, 0, NONE), (2, 3, NONE), (3, 0, NONE)]), "reachable"
+    yield "reached as a second symbol alone", pack(6, 1, [(4, 1, 5), (1, 0, 2), (2, 0, 3), (3, 0, NONE)]), None
+    yield "reachable in many rounds", pack(12, 1, [(10, 9, 11), (1, 0, NONE)] + [(i, 0, i - 1) for i in range(2, 10)]), None
+    yield "token that no rule uses", pack(*UNUSED_TOKEN), None
     yield "no bytes", b"", None
     yield "10 bytes", a[:10], None
     yield "11 bytes", a[:11], None
@@ -212,8 +243,15 @@ def named():
     yield "R = 65535 in the header alone", changed(A, count=65535), None
 
 
+def reached_part(n, t, rules):
+    """A grammar without the nonterminals that S does not reach: the others keep their order, and are numbered from T on."""
+    kept = list(range(t)) + sorted(reached(rules).intersection(range(t, n - 2))) + [n - 2, n - 1]
+    number = {x: i for i, x in enumerate(kept)} | {NONE: NONE}
+    return len(kept), t, [tuple(number[x] for x in rule) for rule in rules if rule[0] in number]
+
+
 def grammar(rng):
-    """A grammar that is often accepted: blocks of rules, unary rules mostly downwards."""
+    """A grammar that is often accepted: blocks of rules, unary rules mostly downwards, mostly all reached from S."""
     t = rng.randint(1, 4)
     k = rng.randint(1, 5)
     n = t + k + 2
@@ -232,7 +270,7 @@ def grammar(rng):
                 low = t if rng.random() < 0.5 else t + k
                 block.append((a, rng.randrange(low), rng.randrange(low)))
         rules += block if rng.random() < 0.1 else list(dict.fromkeys(block))
-    return n, t, rules
+    return (n, t, rules) if rng.random() < 0.25 else reached_part(n, t, rules)
 
 
 def damaged(rng, case):
@@ -315,8 +353,8 @@ def cases():
     """Standard input and output of the program."""
     labelled = list(named()) + [(label, pack(*case), None) for label, case in tables()]
     given, wanted = b"", ""
-    for label, data, field in labelled:
-        assert field is None or broken(*parse(data)) == [field], (label, broken(*parse(data)))
+    for label, data, *fields in labelled:
+        assert fields == [None] or broken(*parse(data)) == fields, (label, broken(*parse(data)))
         given += record(label, data)
         wanted += "%s %d\n" % (label, answer(data))
         if answer(data) == 0:

@@ -92,6 +92,15 @@ def a_forged_state(rng):
     Reported(case.file, *differential.fitting(rng, case.chart)).well_formed(rng, grammar)
 
 
+def an_ended_state(rng):
+    """One behind which no token can stand, as its latest row has none."""
+    case = generate.forged_case(rng, generate.small_grammar, 0)
+    grammar = model.check(case.file)[1]
+    *rows, latest = case.chart.rows
+    ended = case.chart._replace(rows=[*rows, latest >> grammar.tokens << grammar.tokens])
+    Reported(case.file, *differential.fitting(rng, ended)).well_formed(rng, grammar)
+
+
 def many_tokens(rng):
     """As many tokens as there can be."""
     return generate.random_grammar(rng, model.MAX_TOKENS, 1, rng.randint(20, 600), 0.3)
@@ -146,7 +155,7 @@ def a_refused_file(rng):
 
 # ------------------------------------------------------------------------------------------------------------- Runs
 
-KINDS = [(a_parse, 41), (a_forged_state, 30), (a_wide_state, 1), (a_damaged_state, 13), (a_refused_file, 15)]
+KINDS = [(a_parse, 41), (a_forged_state, 25), (an_ended_state, 5), (a_wide_state, 1), (a_damaged_state, 13), (a_refused_file, 15)]
 PLACES = ["empty place, too short", "empty place, nothing to tell", "empty place, refused", "one short", "exact", "longer", "longer, refused"]
 ASKED = [f"{report} {answer}" for report in REPORTS for answer in (0, 1, 2, 4, 13)] + \
         [f"{report}: {kind}" for report in REPORTS for kind in PLACES] + [f"offered, answered {answer}" for answer in (0, 6, 7, 8, 9)]

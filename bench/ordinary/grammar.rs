@@ -83,6 +83,7 @@ impl Grammar {
             && grammar.has_fit_order()
             && !grammar.has_equal_pair()
             && grammar.is_productive()
+            && grammar.is_reachable()
         {
             Ok(grammar)
         } else {
@@ -150,6 +151,29 @@ impl Grammar {
                 {
                     marked[left] = true;
                     changed = true;
+                }
+            }
+            if !changed {
+                return marked[self.tokens..self.wrapper()].iter().all(|&mark| mark);
+            }
+        }
+    }
+
+    /// Whether every nonterminal is reachable from S.
+    fn is_reachable(&self) -> bool {
+        let mut marked = [false; MAX_SYMBOLS];
+        marked[usize::from(self.rules[0].first)] = true;
+        loop {
+            let mut changed = false;
+            for rule in &self.rules[1..] {
+                if !marked[usize::from(rule.left)] {
+                    continue;
+                }
+                for symbol in [rule.first, rule.second] {
+                    if symbol != NONE && !marked[usize::from(symbol)] {
+                        marked[usize::from(symbol)] = true;
+                        changed = true;
+                    }
                 }
             }
             if !changed {

@@ -7,12 +7,12 @@ use Prim.Native.Nat.{ℕ, zero, suc, _+_, _-_, _<_}
 use native.Mathlib.Decide.{ℕ-discrete}
 use native.Mathlib.Omega.{arith}
 use lib.Dec.{eqb, ltb, leb}
-use borrow.Author.Tests.{ltb-true, leb-true, eqb-true, lt-ltb, le-leb, eq-eqb, not-true}
+use borrow.Author.Tests.{ltb-true, leb-true, eqb-true, eqb-false, lt-ltb, le-leb, eq-eqb, not-true}
 use Rattle.laws.proofs.Decides.{false-true}
 use Rattle.laws.proofs.Tests.{both-true}
 use Rattle.grammar.specs.Rules.{Rule, Grammar, Says, none, ruleCount, ruleAt, wrapper, endMark, start}
 use Rattle.grammar.specs.Sentences.{Derives}
-use Rattle.grammar.specs.Accepted.{Accepted, Nonterminal, Productive, maxSymbols, maxRules}
+use Rattle.grammar.specs.Accepted.{Accepted, Nonterminal, Productive, Reachable, maxSymbols, maxRules}
 
 -- One of two tests passes; one passes where the other does.
 pub one-true : (a b : Bool) → (a || b) ≡ true → (a ≡ true) ⊎ (b ≡ true)
@@ -104,6 +104,39 @@ module _ (g : Grammar) where
                 record { string = one .string ++ two .string; derives = Derives.binary says n (one .derives) (two .derives) }
           ]
 
+  -- Symbols that S reaches by rules one below the other, `depth` of them at the most.
+  abbrev on-right : ℕ → ℕ → Bool
+  on-right r x = eqb (ruleAt g r .first) x || (eqb (ruleAt g r .second) x && not (eqb x none))
+
+  unfoldable pub reaches : ℕ → ℕ → Bool
+  reaches zero x = eqb (start g) x
+  reaches (suc depth) x = eqb (start g) x || some (ruleCount g) (λ r. elim (on-right r x) [ true ↦ reaches depth (ruleAt g r .left) | false ↦ false ])
+
+  reaches-start : (x : ℕ) → eqb (start g) x ≡ true → Reachable g x
+  reaches-start x e = subst (Reachable g) (eqb-true (start g) x e) Reachable.from-start
+
+  reaches-reachable : (depth x : ℕ) → reaches depth x ≡ true → Reachable g x
+  unfolding reaches
+  reaches-reachable zero x e = reaches-start x e
+  reaches-reachable (suc depth) x e =
+      ⊎-elim (reaches-start x)
+      (λ (h : some (ruleCount g) _ ≡ true).
+      let f = found (ruleCount g) _ h in
+      let used = guarded (on-right (f .number) x) _ (f .passes) in
+      by-rule (f .number) (f .low) (used .0) (reaches-reachable depth (ruleAt g (f .number) .left) (used .1)))
+      (one-true (eqb (start g) x) _ e)
+    where
+      by-rule : (r : ℕ) → r < ruleCount g → on-right r x ≡ true → Reachable g (ruleAt g r .left) → Reachable g x
+      by-rule r l e left =
+          ⊎-elim
+          (λ (h : eqb (ruleAt g r .first) x ≡ true).
+          Reachable.by-first (record { there = l; left = refl; first = eqb-true (ruleAt g r .first) x h; second = refl }) left)
+          (λ (h : (eqb (ruleAt g r .second) x && not (eqb x none)) ≡ true).
+          let both = both-true (eqb (ruleAt g r .second) x) (not (eqb x none)) h in
+          Reachable.by-second (record { there = l; left = refl; first = refl; second = eqb-true (ruleAt g r .second) x (both .0) })
+          (eqb-false x none (not-true (eqb x none) (both .1))) left)
+          (one-true (eqb (ruleAt g r .first) x) (eqb (ruleAt g r .second) x && not (eqb x none)) e)
+
   -- What the check asks of rules, as tests.
   abbrev inner : ℕ → Bool
   inner x = leb (g .tokens) x && ltb x (wrapper g)
@@ -140,6 +173,7 @@ module _ (g : Grammar) where
     pub distincts : every rules (λ q. every rules (λ r. implies (ltb q r) (not (same q r)))) ≡ true
     pub unary-belows : every rules (λ r. every rules (below r)) ≡ true
     pub productives : every (wrapper g) (λ a. implies (leb (g .tokens) a) (yields (wrapper g - g .tokens) a)) ≡ true
+    pub reachables : every (wrapper g) (λ a. implies (leb (g .tokens) a) (reaches (wrapper g - g .tokens) a)) ≡ true
 
   is-inner : (x : ℕ) → inner x ≡ true → Nonterminal g x
   is-inner x e =
@@ -149,6 +183,11 @@ module _ (g : Grammar) where
   -- What a test says of each rule but rule 0.
   other : (test : ℕ → Bool) → every rules (λ r. implies (ltb 0 r) (test r)) ≡ true → (r : ℕ) → 0 < r → r < rules → test r ≡ true
   other test e r z l = implied (ltb 0 r) (test r) (every-at rules (λ r. implies (ltb 0 r) (test r)) e r l) (lt-ltb 0 r z)
+
+  -- What a test says of each nonterminal.
+  each : (test : ℕ → Bool) → every (wrapper g) (λ a. implies (leb (g .tokens) a) (test a)) ≡ true → (a : ℕ) → Nonterminal g a → test a ≡ true
+  each test e a is =
+      implied (leb (g .tokens) a) (test a) (every-at (wrapper g) (λ a. implies (leb (g .tokens) a) (test a)) e a (is .no-wrapper)) (le-leb (g .tokens) a (is .no-token))
 
   -- A GRAMMAR IS ACCEPTED where the tests pass.
   pub passes-accepted : Passes → Accepted g
@@ -191,9 +230,6 @@ module _ (g : Grammar) where
         (implied (eqb (ruleAt g r .second) none && eqb (ruleAt g s .left) (ruleAt g r .first)) (ltb r s)
         (every-at rules (below r) (every-at rules (λ r. every rules (below r)) (t .unary-belows) r a) s b)
         (ap₂ _&&_ (eq-eqb (ruleAt g r .second) none one) (eq-eqb (ruleAt g s .left) (ruleAt g r .first) e)));
-    productive = λ a is.
-        yields-productive (wrapper g - g .tokens) a
-        (implied (leb (g .tokens) a) (yields (wrapper g - g .tokens) a)
-        (every-at (wrapper g) (λ a. implies (leb (g .tokens) a) (yields (wrapper g - g .tokens) a)) (t .productives) a (is .no-wrapper))
-        (le-leb (g .tokens) a (is .no-token)));
+    productive = λ a is. yields-productive (wrapper g - g .tokens) a (each (yields (wrapper g - g .tokens)) (t .productives) a is);
+    reachable = λ a is. reaches-reachable (wrapper g - g .tokens) a (each (reaches (wrapper g - g .tokens)) (t .reachables) a is);
   }

@@ -28,7 +28,7 @@ use Rattle.demands.specs.Calls.{Sound, asItWas, Starts, Takes, Runs, Fin
 use Rattle.demands.specs.Histories.{History}
 use Rattle.demands.proofs.Again.{Reading, reading-start, reading-on}
 use Rattle.demands.proofs.Telling.{token-tells, finished-tells}
-use Rattle.demands.proofs.Computed.{every, some, yields, passes-accepted}
+use Rattle.demands.proofs.Computed.{every, some, yields, reaches, passes-accepted}
 use Rattle.demands.proofs.Tabled.{wordRows, rowsOf, tableOf, leads, tabulates-predicts}
 
 -- A file with the right lengths is not malformed.
@@ -56,7 +56,7 @@ abbrev pub rows-a : List ℕ
 rows-a = 1 ∷ 2 ∷ 5 ∷ 10 ∷ 21 ∷ 32 ∷ []
 
 accepted-a : Accepted grammar-a
-unfolding every some yields
+unfolding every some yields reaches
 accepted-a = passes-accepted grammar-a (record {
   a-token = refl;
   room = refl;
@@ -73,6 +73,7 @@ accepted-a = passes-accepted grammar-a (record {
   distincts = refl;
   unary-belows = refl;
   productives = refl;
+  reachables = refl;
 })
 
 predicts-a : Predicts grammar-a rowWords (tableOf rows-a)
@@ -152,7 +153,7 @@ abbrev pub rows-b : List ℕ
 rows-b = 1 ∷ 2 ∷ 4 ∷ 25 ∷ 17 ∷ 34 ∷ 89 ∷ 128 ∷ []
 
 accepted-b : Accepted grammar-b
-unfolding every some yields
+unfolding every some yields reaches
 accepted-b = passes-accepted grammar-b (record {
   a-token = refl;
   room = refl;
@@ -169,6 +170,7 @@ accepted-b = passes-accepted grammar-b (record {
   distincts = refl;
   unary-belows = refl;
   productives = refl;
+  reachables = refl;
 })
 
 predicts-b : Predicts grammar-b rowWords (tableOf rows-b)

@@ -69,6 +69,24 @@ module _ (words : List ℕ) (n t count r : ℕ) (l : r < count) where
   pub in-says : Says (grammarIn words n t count) r (leftIn words r) (firstIn words r) (secondIn words r)
   in-says = record { there = subst (λ (k : ℕ). r < k) (sym (in-count words n t count)) l; left = in-left; first = in-first; second = in-second }
 
+-- The words of a rule that says `a ::= b c`.
+pub record SaysIn (words : List ℕ) (count r a b c : ℕ) : Type 0 where
+  pub there : r < count
+  pub left : leftIn words r ≡ a
+  pub first : firstIn words r ≡ b
+  pub second : secondIn words r ≡ c
+
+pub says-in : (words : List ℕ) (n t count : ℕ) {r a b c : ℕ} → Says (grammarIn words n t count) r a b c → SaysIn words count r a b c
+says-in words n t count {r} s = record {
+  there = there;
+  left = sym (in-left words n t count r there) ∙ s .left;
+  first = sym (in-first words n t count r there) ∙ s .first;
+  second = sym (in-second words n t count r there) ∙ s .second;
+}
+  where
+    there : r < count
+    there = subst (λ (k : ℕ). r < k) (in-count words n t count) (s .there)
+
 -- The rules of a file stand behind its header.
 pub of-count : (file : List ℕ) → ruleCount (grammarOf file) ≡ ruleCountOf file
 of-count file = from-count file headerBytes (ruleCountOf file)

@@ -11,7 +11,7 @@ use Rattle.grammar.specs.Accepted.{Accepted, maxSymbols, maxRules}
 use Rattle.grammar.specs.inner.Decoded.{leftIn, firstIn, secondIn, grammarIn}
 use Rattle.grammar.specs.File.{Malformed, versionOf, lengthOf, ruleCountOf, headerBytes, ruleBytes}
 use Rattle.grammar.specs.File.Malformed.{short, version, real-length, told-length}
-use Rattle.grammar.specs.inner.Checking.{Sized, Wraps, Drawn, Ruled, Same, EqualPair, LowSymbols, AllProductive}
+use Rattle.grammar.specs.inner.Checking.{Sized, Wraps, Drawn, Ruled, Same, EqualPair, LowSymbols, AllProductive, AllReachable}
 use Rattle.grammar.proofs.Decoding.{rule, in-count, in-rule, in-left, in-first, in-second}
 
 module _ (words : List ℕ) (n t count : ℕ) (size : Sized n t count) where
@@ -80,6 +80,10 @@ module _ (words : List ℕ) (n t count : ℕ) (size : Sized n t count) where
   pub accepted-productive : Accepted g → AllProductive g
   accepted-productive h = record { productive = h .productive }
 
+  -- and reachable.
+  pub accepted-reachable : Accepted g → AllReachable g
+  accepted-reachable h = record { reachable = h .reachable }
+
   module _ (w : Wraps words n t) (h : Ruled words n t count) where
     -- Every symbol of the rules is below the limit.
     pub low : LowSymbols words count
@@ -113,8 +117,8 @@ module _ (words : List ℕ) (n t count : ℕ) (size : Sized n t count) where
     below (suc r) s l e x ls = h .precedes (suc r) (omega arith) l .unary-below e s ls x
 
     -- What passes every test is accepted.
-    pub judged : (EqualPair words count → ⊥) → AllProductive g → Accepted g
-    judged no-pair all = record {
+    pub judged : (EqualPair words count → ⊥) → AllProductive g → AllReachable g → Accepted g
+    judged no-pair all used = record {
       a-token = size .a-token;
       room = size .room;
       few-symbols = size .few-symbols;
@@ -140,6 +144,7 @@ module _ (words : List ℕ) (n t count : ℕ) (size : Sized n t count) where
       distinct = λ q r l lr e. no-pair (record { lower = q; higher = r; order = l; there = counted lr; same = same q r l (counted lr) e });
       unary-below = λ r s lr ls e x. above r s (counted lr) (counted ls) e x;
       productive = all .productive;
+      reachable = used .reachable;
     }
       where
         together : (q r s : ℕ) → q < r → r < s → s < count → ruleAt g q .left ≡ ruleAt g s .left → ruleAt g q .left ≡ ruleAt g r .left

@@ -2,7 +2,9 @@
 pub mod Decoding
 pub mod Asked
 pub mod Marks
+pub mod Rounds
 pub mod Productivity
+pub mod Reachability
 pub mod Judging
 pub mod Verdicts
 pub mod Facts

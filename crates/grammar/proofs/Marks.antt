@@ -1,23 +1,24 @@
 -- Marks, one a symbol.
 use mathlib.Core.Path.{_≡_, sym, ap, subst, _∙_}
 use mathlib.Core.Logic.{_⊎_, inl, inr, ⊎-elim}
-use mathlib.Core.Bool.{Bool, true, false}
+use mathlib.Core.Bool.{Bool, true, false, not}
 use mathlib.Core.List.{List}
 use Prim.Native.Nat.{ℕ, _+_, _≤_, _<_}
 use native.Mathlib.Decide.{ℕ-discrete, decLt}
 use native.Mathlib.Omega.{arith}
 use borrow.Author.Count.{below-more}
+use borrow.Author.Tests.{not-true, not-false}
 use lib.ListN.{length, getD, set, replicate, length-set, length-replicate, getD-replicate, List·getD-eq-default}
 use lib.Seq.{getD-set-same, getD-set-other}
-use Rattle.laws.proofs.Decides.{true-false, false-true}
+use Rattle.laws.proofs.Decides.{true-false, false-true, decides-map}
 use Rattle.grammar.specs.Accepted.{maxSymbols}
-use Rattle.grammar.specs.inner.Checking.{Marked, TokensMarked, AllMarked, LowSymbols, Fires}
+use Rattle.grammar.specs.inner.Checking.{Marked, TokensMarked, AllMarked, LowSymbols, RightMarked, Fires, Spreads, Last}
 use Rattle.grammar.specs.Rules.{none}
 use Rattle.grammar.specs.inner.Decoded.{leftIn, firstIn, secondIn}
 use Rattle.laws.specs.Decides.{Decides}
 
 -- Nothing is marked at first.
-unmarked-at : (n a : ℕ) → Marked (replicate n false) a → ⊥
+pub unmarked-at : (n a : ℕ) → Marked (replicate n false) a → ⊥
 unmarked-at n a m = elim (decLt a n) [
   | yes l ↦ false-true (sym (getD-replicate n a false false l) ∙ m)
   | no g ↦ false-true (sym (List·getD-eq-default (replicate n false) false {n = a} (out g)) ∙ m)
@@ -77,34 +78,52 @@ last-marked marks from a to h l = record { marked = λ b m u. h .marked b m (ome
 pub one-unmarked : (marks : List Bool) (from a to : ℕ) → from ≤ a → a < to → getD marks a false ≡ false → AllMarked marks from to → ⊥
 one-unmarked marks from a to l u m h = true-false (sym (h .marked a l u) ∙ m)
 
--- A second symbol that is there is low.
-pub low-second : (words : List ℕ) (r c : ℕ) → LowSymbols words (r + 1) → c ≡ secondIn words r → (c ≡ none → ⊥) → c < maxSymbols
-low-second words r c h e n = ⊎-elim (λ (x : secondIn words r ≡ none). absurd (n (e ∙ x))) (λ (x : secondIn words r < maxSymbols). omega arith) (h .second r (omega arith))
+-- A right side is not marked where its first symbol is not; where that is, it is where its last symbol is.
+pub right-not : (words : List ℕ) (marks : List Bool) (r b : ℕ) → b ≡ firstIn words r → getD marks b false ≡ false → RightMarked words marks r → ⊥
+right-not words marks r b e m h = true-false (sym (h .first) ∙ ap (λ (x : ℕ). getD marks x false) (sym e) ∙ m)
 
--- Rule `r` does not fire where its left side is marked or its first symbol is not.
-pub fires-not-left : (words : List ℕ) (marks : List Bool) (r a : ℕ) → a ≡ leftIn words r → getD marks a false ≡ true → Fires words marks r → ⊥
-fires-not-left words marks r a e m f = f .left (subst (λ (x : ℕ). Marked marks x) e m)
+pub right-last : (words : List ℕ) (marks : List Bool) (r b d : ℕ) → b ≡ firstIn words r → getD marks b false ≡ true → Last words r d
+    → Decides (getD marks d false) (RightMarked words marks r)
+right-last words marks r b d e mb last = record {
+  if-yes = λ m. record {
+    first = subst (λ (x : ℕ). Marked marks x) e mb;
+    second = elim (ℕ-discrete (secondIn words r) none) [ yes one ↦ inl one | no two ↦ inr (subst (λ (x : ℕ). Marked marks x) (last .behind two) m) ];
+  };
+  if-no = λ m h. elim (ℕ-discrete (secondIn words r) none) [
+    | yes one ↦ true-false (sym (h .first) ∙ ap (λ (x : ℕ). getD marks x false) (sym (last .alone one)) ∙ m)
+    | no two ↦ ⊎-elim two (λ (y : Marked marks (secondIn words r)). true-false (sym y ∙ ap (λ (x : ℕ). getD marks x false) (sym (last .behind two)) ∙ m)) (h .second)
+  ];
+}
 
-pub fires-not-first : (words : List ℕ) (marks : List Bool) (r b : ℕ) → b ≡ firstIn words r → getD marks b false ≡ false → Fires words marks r → ⊥
-fires-not-first words marks r b e m f = true-false (sym (f .first) ∙ ap (λ (x : ℕ). getD marks x false) (sym e) ∙ m)
+-- Rule `r` does not fire where its left side is marked; where that is not, it fires where its right side is marked.
+pub fires-not : (words : List ℕ) (marks : List Bool) (r a : ℕ) → a ≡ leftIn words r → getD marks a false ≡ true → Fires words marks r → ⊥
+fires-not words marks r a e m f = f .left (subst (λ (x : ℕ). Marked marks x) e m)
 
-module _ (words : List ℕ) (marks : List Bool) (r a b c : ℕ) (ea : a ≡ leftIn words r) (eb : b ≡ firstIn words r) (ec : c ≡ secondIn words r)
-    (ma : getD marks a false ≡ false) (mb : getD marks b false ≡ true) where
-  still : Marked marks (leftIn words r) → ⊥
-  still m = true-false (sym m ∙ ap (λ (x : ℕ). getD marks x false) (sym ea) ∙ ma)
+pub fires-right : (words : List ℕ) (marks : List Bool) (r a : ℕ) (answer : Bool) → a ≡ leftIn words r → getD marks a false ≡ false
+    → Decides answer (RightMarked words marks r) → Decides answer (Fires words marks r)
+fires-right words marks r a answer e m = decides-map (λ h. record { left = still; right = h }) (λ f. f .right)
+  where
+    still : Marked marks (leftIn words r) → ⊥
+    still x = true-false (sym x ∙ ap (λ (x : ℕ). getD marks x false) (sym e) ∙ m)
 
-  first-marked : Marked marks (firstIn words r)
-  first-marked = subst (λ (x : ℕ). Marked marks x) eb mb
+-- Rule `r` does not spread where its left side is not marked; where that is, it spreads where its right side is not.
+pub spreads-not : (words : List ℕ) (marks : List Bool) (r a : ℕ) → a ≡ leftIn words r → getD marks a false ≡ false → Spreads words marks r → ⊥
+spreads-not words marks r a e m s = true-false (sym (s .left) ∙ ap (λ (x : ℕ). getD marks x false) (sym e) ∙ m)
 
-  -- It fires where it has no second symbol, or where that is marked too.
-  pub fires-one : c ≡ none → Fires words marks r
-  fires-one e = record { left = still; first = first-marked; second = inl (sym ec ∙ e) }
+pub spreads-right : (words : List ℕ) (marks : List Bool) (r a : ℕ) (answer : Bool) → a ≡ leftIn words r → getD marks a false ≡ true
+    → Decides answer (RightMarked words marks r) → Decides (not answer) (Spreads words marks r)
+spreads-right words marks r a answer e m d = record {
+  if-yes = λ x. record { left = subst (λ (x : ℕ). Marked marks x) e m; right = d .if-no (not-true answer x) };
+  if-no = λ x s. s .right (d .if-yes (not-false answer x));
+}
 
-  pub fires-two : (c ≡ none → ⊥) → Decides (getD marks c false) (Fires words marks r)
-  fires-two n = record {
-    if-yes = λ m. record { left = still; first = first-marked; second = inr (subst (λ (x : ℕ). Marked marks x) ec m) };
-    if-no = λ m f. ⊎-elim (λ (e : secondIn words r ≡ none). n (ec ∙ e)) (λ (y : Marked marks (secondIn words r)). true-false (sym y ∙ ap (λ (x : ℕ). getD marks x false) (sym ec) ∙ m)) (f .second);
-  }
+-- The last symbol is low.
+pub low-last : (words : List ℕ) (r d : ℕ) → LowSymbols words (r + 1) → Last words r d → d < maxSymbols
+low-last words r d h last = elim (ℕ-discrete (secondIn words r) none) [
+  | yes one ↦ subst (λ (x : ℕ). x < maxSymbols) (sym (last .alone one)) (h .first r (omega arith))
+  | no two ↦ subst (λ (x : ℕ). x < maxSymbols) (sym (last .behind two))
+      (⊎-elim (λ (e : secondIn words r ≡ none). absurd (two e)) (λ (l : secondIn words r < maxSymbols). l) (h .second r (omega arith)))
+]
 
 -- Fewer rules of low symbols.
 pub low-less : (words : List ℕ) (count r : ℕ) → LowSymbols words count → r ≤ count → LowSymbols words r

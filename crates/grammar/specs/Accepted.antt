@@ -23,6 +23,12 @@ pub record Productive (g : Grammar) (a : ℕ) : Type 0 where
   pub string : List ℕ
   pub derives : Derives g a string
 
+-- S is reachable, and where the left side of a rule is, both symbols on its right are.
+pub data Reachable (g : Grammar) : ℕ → Type 0 where
+  from-start : Reachable g (start g)
+  by-first : {r a b c : ℕ} → Says g r a b c → Reachable g a → Reachable g b
+  by-second : {r a b c : ℕ} → Says g r a b c → (c ≡ none → ⊥) → Reachable g a → Reachable g c
+
 pub record Accepted (g : Grammar) : Type 0 where
   -- T ≥ 1
   pub a-token : 1 ≤ g .tokens
@@ -49,3 +55,5 @@ pub record Accepted (g : Grammar) : Type 0 where
       (r s : ℕ) → r < ruleCount g → s < ruleCount g → ruleAt g r .second ≡ none → ruleAt g s .left ≡ ruleAt g r .first → r < s
   -- every nonterminal derives some string of tokens
   pub productive : (a : ℕ) → Nonterminal g a → Productive g a
+  -- every nonterminal is reachable from S by the rules
+  pub reachable : (a : ℕ) → Nonterminal g a → Reachable g a

@@ -8,8 +8,10 @@ ghost use Rattle.grammar.specs.inner.Decoded.{grammarIn, Decodes};
 mod conditions;
 pub mod file;
 pub mod limits;
+mod marked;
 mod pairs;
 mod productive;
+mod reachable;
 pub mod rules;
 
 use crate::conditions::ruled;
@@ -22,6 +24,7 @@ use crate::file::tokens;
 use crate::limits::WORDS;
 use crate::pairs::equal_pair;
 use crate::productive::all_productive;
+use crate::reachable::all_reachable;
 use crate::rules::Rules;
 use crate::rules::decode;
 
@@ -46,7 +49,10 @@ fn accepted(rules: &Rules, n: usize, t: usize, count: usize) -> bool
     if equal_pair(rules, count) {
         return false;
     }
-    all_productive(rules, n, t, count)
+    if !all_productive(rules, n, t, count) {
+        return false;
+    }
+    all_reachable(rules, n, t, count)
 }
 
 // The check of any bytes. The rules of an accepted file are left in `rules`, so that no call decodes its file again.

@@ -2,21 +2,17 @@
 ghost use mathlib.Core.Path.{_≡_};
 ghost use mathlib.Core.Bool.{true, false};
 ghost use Prim.Native.Nat.{ℕ, _+_, _≤_, _<_};
-ghost use lib.Dec.{ltb};
 ghost use lib.ListN.{length, getD};
 ghost use Rattle.laws.specs.Decides.{Decides};
 ghost use Rattle.grammar.specs.Accepted.{maxRules, maxSymbols};
 ghost use Rattle.grammar.specs.inner.Decoded.{grammarIn};
-ghost use Rattle.grammar.specs.inner.Checking.{LowSymbols, Fires, AllProductive, TokensMarked, AllMarked};
+ghost use Rattle.grammar.specs.inner.Checking.{LowSymbols, Fires, AllProductive, TokensMarked};
 use crate::limits::SYMBOLS;
-use crate::rules::NONE;
+use crate::marked::Marks;
+use crate::marked::all_marked;
+use crate::marked::right_marked;
 use crate::rules::Rules;
-use crate::rules::first;
 use crate::rules::left;
-use crate::rules::second;
-
-// A mark for each symbol.
-type Marks = [bool; SYMBOLS];
 
 // The tokens marked.
 fn mark_tokens(t: usize) -> Marks
@@ -38,27 +34,7 @@ fn fires(rules: &Rules, marks: &Marks, r: usize) -> bool
     if marks[left(rules, r)] {
         return false;
     }
-    if !marks[first(rules, r)] {
-        return false;
-    }
-    let c = second(rules, r);
-    if c == NONE {
-        return true;
-    }
-    marks[c]
-}
-
-// Whether all symbols from `from` up to `to` are marked.
-fn all_marked(marks: &Marks, from: usize, to: usize) -> bool
-    requires { ⌜ to ≤ maxSymbols ⌝ }
-    ensures { λ r. ⌜ Decides r (AllMarked (now (marks .entry)) from to) ⌝ }
-{
-    for a in from..to {
-        if !marks[a] {
-            return false;
-        }
-    }
-    true
+    right_marked(rules, marks, r)
 }
 
 // Whether every nonterminal derives some string of tokens: rounds over the rules, until a round marks nothing.

@@ -1,7 +1,7 @@
 -- `grammar::accepted` meets its contract. One condition a return.
 use borrow.Author.Tests.{not-true, not-false}
 use Rattle.laws.proofs.Decides.{says-no, decides-map}
-use Rattle.grammar.proofs.Judging.{accepted-wraps, accepted-ruled, accepted-distinct, accepted-productive, low, judged}
+use Rattle.grammar.proofs.Judging.{accepted-wraps, accepted-ruled, accepted-distinct, accepted-productive, accepted-reachable, low, judged}
 use borrow.Author.Needs.{needs}
 use Rattle.grammar.proofs.accepted.Statement.{statement}
 use Rattle.grammar.proofs.accepted.Tie as tie
@@ -41,15 +41,42 @@ all-productive-requires c κs =
 
 returns-4 : tie.Need-returns-4
 returns-4 c =
-    let required = c .before .before .before .before .before .before .before .pre in
-    let wrapper-checked = c .before .before .before .before .before .before .wraps in
+    let required = c .before .before .before .before .before .before .before .before .pre in
+    says-no (λ h. c .before .all-productive .ensures .if-no (not-true _ (c .if4 .taken)) (accepted-productive _ _ _ _ required h))
+
+all-reachable-requires : tie.Need-all-reachable-requires
+all-reachable-requires c κs =
+    let required = c .before .before .before .before .before .before .before .before .pre in
+    let wrapper-checked = c .before .before .before .before .before .before .before .wraps in
+    let wrapper-tested = c .before .before .before .before .before .before .if1 in
+    let rules-checked = c .before .before .before .before .before .ruled in
+    let rules-tested = c .before .before .before .before .if2 in (
+      search needs,
+      search needs,
+      search needs,
+      search needs,
+      low _ _ _ _ required (wrapper-checked .ensures .if-yes (not-false _ (wrapper-tested .left))) (rules-checked .ensures .if-yes (not-false _ (rules-tested .left))),
+    )
+
+returns-5 : tie.Need-returns-5
+returns-5 c =
+    let required = c .before .before .before .before .before .before .before .before .before .pre in
+    let wrapper-checked = c .before .before .before .before .before .before .before .before .wraps in
+    let wrapper-tested = c .before .before .before .before .before .before .before .if1 in
+    let rules-checked = c .before .before .before .before .before .before .ruled in
+    let rules-tested = c .before .before .before .before .before .if2 in
+    let pairs-searched = c .before .before .before .before .equal-pair in
+    let pairs-tested = c .before .before .before .if3 in
+    let productivity-checked = c .before .before .all-productive in
+    let productivity-tested = c .before .if4 in
     decides-map
     (judged _ _ _ _ required
-    (wrapper-checked .ensures .if-yes (not-false _ (c .before .before .before .before .before .if1 .left)))
-    (c .before .before .before .before .ruled .ensures .if-yes (not-false _ (c .before .before .before .if2 .left)))
-    (c .before .before .equal-pair .ensures .if-no (c .before .if3 .left)))
-    (accepted-productive _ _ _ _ required)
-    (c .all-productive .ensures)
+    (wrapper-checked .ensures .if-yes (not-false _ (wrapper-tested .left)))
+    (rules-checked .ensures .if-yes (not-false _ (rules-tested .left)))
+    (pairs-searched .ensures .if-no (pairs-tested .left))
+    (productivity-checked .ensures .if-yes (not-false _ (productivity-tested .left))))
+    (accepted-reachable _ _ _ _ required)
+    (c .all-reachable .ensures)
 
 pub accepted-spec : {M : Type 1} → statement M
 accepted-spec =
@@ -62,4 +89,6 @@ accepted-spec =
     equal-pair-requires
     returns-3
     all-productive-requires
-    returns-4)
+    returns-4
+    all-reachable-requires
+    returns-5)

@@ -7,7 +7,7 @@ use mathlib.Core.Logic.{_⊎_}
 use Prim.Native.Nat.{ℕ, _+_, _-_, _≤_, _<_}
 use lib.ListN.{length, getD}
 use Rattle.grammar.specs.Rules.{Grammar, none}
-use Rattle.grammar.specs.Accepted.{maxSymbols, maxRules, Nonterminal, Productive}
+use Rattle.grammar.specs.Accepted.{maxSymbols, maxRules, Nonterminal, Productive, Reachable}
 use Rattle.grammar.specs.inner.Decoded.{leftIn, firstIn, secondIn}
 
 -- T ≥ 1, and N and R are within their limits.
@@ -76,15 +76,33 @@ pub record LowSymbols (words : List ℕ) (count : ℕ) : Type 0 where
 pub record AllProductive (g : Grammar) : Type 0 where
   pub productive : (a : ℕ) → Nonterminal g a → Productive g a
 
+-- Every nonterminal is reachable from S by the rules.
+pub record AllReachable (g : Grammar) : Type 0 where
+  pub reachable : (a : ℕ) → Nonterminal g a → Reachable g a
+
 -- `a` is marked.
 abbrev pub Marked : List Bool → ℕ → Type 0
 Marked marks a = getD marks a false ≡ true
 
+-- `a` is the last symbol on the right of rule `r`: the second, or the first where there is no second.
+pub record Last (words : List ℕ) (r a : ℕ) : Type 0 where
+  pub alone : secondIn words r ≡ none → a ≡ firstIn words r
+  pub behind : (secondIn words r ≡ none → ⊥) → a ≡ secondIn words r
+
+-- Every symbol on the right of rule `r` is marked.
+pub record RightMarked (words : List ℕ) (marks : List Bool) (r : ℕ) : Type 0 where
+  pub first : Marked marks (firstIn words r)
+  pub second : (secondIn words r ≡ none) ⊎ Marked marks (secondIn words r)
+
 -- Rule `r` marks its left side: the right side is marked, and the left side is not yet.
 pub record Fires (words : List ℕ) (marks : List Bool) (r : ℕ) : Type 0 where
   pub left : Marked marks (leftIn words r) → ⊥
-  pub first : Marked marks (firstIn words r)
-  pub second : (secondIn words r ≡ none) ⊎ Marked marks (secondIn words r)
+  pub right : RightMarked words marks r
+
+-- Rule `r` marks its right side: the left side is marked, and the right side is not yet.
+pub record Spreads (words : List ℕ) (marks : List Bool) (r : ℕ) : Type 0 where
+  pub left : Marked marks (leftIn words r)
+  pub right : RightMarked words marks r → ⊥
 
 -- The tokens are marked, and nothing else.
 pub record TokensMarked (t : ℕ) (marks : List Bool) : Type 0 where

@@ -1,7 +1,8 @@
--- `grammar::productive::all_productive` meets its contract. The invariants: `Marking`, that every mark is right, and `Round`, what a round has marked so far; the number of symbols not marked falls.
+-- `grammar::productive::all_productive` meets its contract. The invariants: `Yielding`, that every mark is right, and `Firing`, what a round has marked so far; the number of symbols not marked falls.
 use borrow.Author.Tests.{not-true, not-false}
 use Rattle.grammar.proofs.Marks.{low-less}
-use Rattle.grammar.proofs.Productivity.{unmarked, Marking, Round, marking-tokens, round-begins, round-passes, round-marks, decided}
+use Rattle.grammar.proofs.Rounds.{unmarked, round-begins, round-passes}
+use Rattle.grammar.proofs.Productivity.{Yielding, Firing, yielding-tokens, firing-marks, decided}
 use borrow.Author.Needs.{needs}
 use native.Mathlib.Omega.{arith}
 use Prim.Native.Nat.{_-_}
@@ -9,13 +10,13 @@ use Rattle.grammar.proofs.productive.all_productive.Statement.{statemen
 use Rattle.grammar.proofs.productive.all_productive.Tie as tie
 
 abbrev Inv-loop2 : tie.InvT-loop2
-Inv-loop2 rules n t count marks₀ marked₀ r₀ marks marked r = Round rules n t count marks₀ marks marked r
+Inv-loop2 rules n t count marks₀ marked₀ r₀ marks marked r = Firing rules n t count marks₀ marks marked r
 
 abbrev μ-loop2 : tie.MeasureT-loop2
 μ-loop2 rules n t count marks₀ marked₀ r₀ marks marked r = count - r
 
 abbrev Inv-loop : tie.InvT-loop
-Inv-loop rules n t count marks₀ marks = Marking rules n t count marks
+Inv-loop rules n t count marks₀ marks = Yielding rules n t count marks
 
 abbrev μ-loop : tie.MeasureT-loop
 μ-loop rules n t count marks₀ marks = unmarked marks
@@ -24,7 +25,7 @@ mark-tokens-requires : tie.Need-mark-tokens-requires Inv-loop2 μ-loop2 Inv-loop
 mark-tokens-requires c κs = search needs
 
 loop-holds : tie.Need-loop-holds Inv-loop2 μ-loop2 Inv-loop μ-loop
-loop-holds c = marking-tokens _ _ _ _ _ (c .mark-tokens .ensures)
+loop-holds c = yielding-tokens _ _ _ _ _ (c .mark-tokens .ensures)
 
 loop2-holds : tie.Need-loop2-holds Inv-loop2 μ-loop2 Inv-loop μ-loop
 loop2-holds c = round-begins _ _ _ _ _ (c .loop .inv)
@@ -67,7 +68,7 @@ loop2-again-2 c =
     let rules-looped = c .before .before .before .before .before .loop2 in
     let rule-entered = c .before .before .before .before .loop2-test in
     let fire-asked = c .before .before .fires in
-    round-marks _ _ _ _ _ _ _ _ _ (rules-looped .inv) (rule-entered .taken)
+    firing-marks _ _ _ _ _ _ _ _ _ (rules-looped .inv) (rule-entered .taken)
     (fire-asked .ensures .if-yes (not-false _ (c .before .if1 .left))) (c .left .ensures .0)
     (omega (arith, required .3 .left (rules-looped .r) (rule-entered .taken)))
 

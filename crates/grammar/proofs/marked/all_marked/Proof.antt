@@ -1,4 +1,4 @@
--- `grammar::productive::all_marked` meets its contract. The invariant: all symbols passed are marked.
+-- `grammar::marked::all_marked` meets its contract. The invariant: all symbols passed are marked.
 use borrow.Author.Tests.{not-true, not-false}
 use Rattle.grammar.specs.inner.Checking.{AllMarked}
 use Rattle.laws.proofs.Decides.{says-yes, says-no}
@@ -6,8 +6,8 @@ use Rattle.grammar.proofs.Marks.{none-marked, more-marked, last-marked,
 use borrow.Author.Needs.{needs}
 use native.Mathlib.Omega.{arith}
 use Prim.Native.Nat.{_-_, _≤_}
-use Rattle.grammar.proofs.productive.all_marked.Statement.{statement}
-use Rattle.grammar.proofs.productive.all_marked.Tie as tie
+use Rattle.grammar.proofs.marked.all_marked.Statement.{statement}
+use Rattle.grammar.proofs.marked.all_marked.Tie as tie
 
 abbrev Inv-loop : tie.InvT-loop
 Inv-loop marks from to a₀ a = (from ≤ a) × AllMarked marks from a

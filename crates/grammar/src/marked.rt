@@ -1,0 +1,52 @@
+// Marks, one a symbol.
+ghost use mathlib.Core.Path.{_≡_};
+ghost use mathlib.Core.Bool.{true, false};
+ghost use Prim.Native.Nat.{ℕ, _+_, _≤_, _<_};
+ghost use lib.ListN.{length, getD};
+ghost use Rattle.laws.specs.Decides.{Decides};
+ghost use Rattle.grammar.specs.Accepted.{maxRules, maxSymbols};
+ghost use Rattle.grammar.specs.inner.Checking.{LowSymbols, Last, RightMarked, AllMarked};
+use crate::limits::SYMBOLS;
+use crate::rules::NONE;
+use crate::rules::Rules;
+use crate::rules::first;
+use crate::rules::second;
+
+// A mark for each symbol.
+pub type Marks = [bool; SYMBOLS];
+
+// The last symbol on the right of rule `r`: the second, or the first where there is no second.
+pub fn last(rules: &Rules, r: usize) -> usize
+    requires { ⌜ r < maxRules ⌝ }
+    ensures { λ s. ⌜ Last (now (rules .entry)) r s ⌝ }
+{
+    let c = second(rules, r);
+    if c == NONE {
+        return first(rules, r);
+    }
+    c
+}
+
+// Whether every symbol on the right of rule `r` is marked.
+pub fn right_marked(rules: &Rules, marks: &Marks, r: usize) -> bool
+    requires { ⌜ (r < maxRules) × LowSymbols (now rules) (r + 1) ⌝ }
+    ensures { λ s. ⌜ Decides s (RightMarked (now (rules .entry)) (now (marks .entry)) r) ⌝ }
+{
+    if !marks[first(rules, r)] {
+        return false;
+    }
+    marks[last(rules, r)]
+}
+
+// Whether all symbols from `from` up to `to` are marked.
+pub fn all_marked(marks: &Marks, from: usize, to: usize) -> bool
+    requires { ⌜ to ≤ maxSymbols ⌝ }
+    ensures { λ r. ⌜ Decides r (AllMarked (now (marks .entry)) from to) ⌝ }
+{
+    for a in from..to {
+        if !marks[a] {
+            return false;
+        }
+    }
+    true
+}
