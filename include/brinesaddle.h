@@ -153,9 +153,9 @@ uint32_t brinesaddle_latest_records(const uint8_t *file, size_t file_len, size_t
  *   Product      action, left factor, flag, right factor
  *   NullingLeaf  symbol, 0, 0, 0
  *   Evaluated    symbol, 0, 0, 0
- * Factors are positions in the same store. A Product's flag tells whether there is a right factor: what is read has 1, or 0 and a right
- * factor of 0; in what is written any number but 0 counts as 1. A writer may leave anything in numbers that its node has no use for, so in
- * the right factor too where the flag is 0. */
+ * Factors are positions in the same store, before the Product's own. A Product's flag tells whether there is a right factor: what is read
+ * has 1, or 0 and a right factor of 0; in what is written any number but 0 counts as 1. A writer may leave anything in numbers that its
+ * node has no use for, so in the right factor too where the flag is 0. */
 enum {
     BRINESADDLE_SUM = 0,
     BRINESADDLE_PRODUCT = 1,
@@ -165,8 +165,8 @@ enum {
 };
 
 /* Writes a node at position p of a store.
- * Answers 0, 10 (a value is unfit, or the kind is none of the four) or 11. Done: `behind` is the position behind the node, and no other
- * unit is changed. Refused: store and `behind` as they were. */
+ * Answers 0, 10 (a value is too large, a factor does not lie before p, or the kind is none of the four) or 11. Done: `behind` is the
+ * position behind the node, and no other unit is changed. Refused: store and `behind` as they were. */
 uint32_t brinesaddle_node_write(uint16_t *store, size_t store_len, size_t p, const uint32_t node[5], size_t *behind);
 
 /* Reads the first node from p on, fillers 0xFFFF skipped.

@@ -194,14 +194,14 @@ def near(rng, *edges):
 
 
 def random_node(rng, position):
-    """A node on which 01 and the Rust agree: one unit, two units, or the long Product."""
-    kind = rng.choice(["sum", "leaf", "link", "link", "product", "product"])
+    """A node on which 01 and the Rust agree: one unit, two units, or the long Product. Its factors lie before it, so at 0 there is no Product."""
+    kind = rng.choice(["sum", "leaf"] + ["link", "link", "product", "product"] * (position > 0))
     if kind == "sum":
         return model.Sum(rng.choice([0, 1, 2, 30, 31, rng.randrange(32)]), rng.choice([0, 254, 255, rng.randrange(256)]))
     if kind == "leaf":
         return rng.choice([model.NullingLeaf, model.Evaluated])(rng.choice([0, 4094, 4095, rng.randrange(4096)]))
-    near_factor = lambda: max(0, position - near(rng, 0, 31, 255, 8191))
-    factor = lambda: near_factor() if rng.random() < 0.9 else rng.randrange(2**32 - 1)
+    near_factor = lambda: max(0, position - max(1, near(rng, 1, 31, 255, 8191)))
+    factor = lambda: near_factor() if rng.random() < 0.9 else rng.randrange(position)
     action = min(near(rng, 0, 255, 65535, 2**29 - 3), 2**29 - 1)
     return model.Product(action, factor(), None if kind == "link" else factor())
 

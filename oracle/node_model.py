@@ -13,16 +13,18 @@ def halves(value):
     return value & 0xFFFF, value >> 16
 
 
-def unfit(node):
+def unfit(p, node):
+    """A factor lies strictly before the node."""
     if node[0] == "Sum":
         return node[1] >= 2**28
     if node[0] == "Product":
-        return node[1] >= 2**29 or node[3] == ALL_ONES
+        _, action, left, right = node
+        return action >= 2**29 or left >= p or right is not None and (right >= p or right == ALL_ONES)
     return False
 
 
 def rows(p, node):
-    """The rows of the table that the node fits, in the table's order."""
+    """The rows of the table that a node which is not unfit at p fits, in the table's order."""
     if node[0] == "Sum":
         _, count, nonterminal = node
         if count < 32 and nonterminal < 256:
@@ -32,11 +34,11 @@ def rows(p, node):
     elif node[0] == "Product":
         _, action, left, right = node
         if right is None:
-            if left <= p and p - left < 32 and action < 256:
+            if p - left < 32 and action < 256:
                 yield [0x2000 + (p - left) * 256 + action]
-            if left <= p and p - left < 8192 and action < 65536:
+            if p - left < 8192 and action < 65536:
                 yield [0x4000 + (p - left), action]
-        elif right <= p and p - right < 32 and left <= p and p - left < 256 and action < 65536:
+        elif p - right < 32 and p - left < 256 and action < 65536:
             yield [0x6000 + (p - right) * 256 + (p - left), action]
         low, high = halves(action)
         yield [0xC000 + high, low, *halves(left), *halves(ALL_ONES if right is None else right)]
@@ -49,7 +51,7 @@ def rows(p, node):
 
 def units(p, node):
     """The units of a node at p, or None where it is unfit."""
-    return None if unfit(node) else next(rows(p, node))
+    return None if unfit(p, node) else next(rows(p, node))
 
 
 def write(store, p, node):

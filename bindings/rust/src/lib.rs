@@ -74,7 +74,7 @@ impl Refusal {
             Refusal::ItemsFull => "there is no room for another item",
             Refusal::QueueFull => "there is no room for another queue entry",
             Refusal::SetsFull => "there is no room for another set",
-            Refusal::Unfit => "a value is too large for a node",
+            Refusal::Unfit => "a value is unfit for a node at its position",
             Refusal::NoRoom => "the node does not fit the store from its position",
             Refusal::NoNode => "the units at the position are no node",
         }
@@ -324,8 +324,8 @@ impl<'a> Parse<'a> {
     }
 }
 
-/// A node of a forest. Factors are positions in the same store. Whether a Product has a right factor is a flag at the library's door, where
-/// any number but 0 counts as 1; here it is an option.
+/// A node of a forest. Factors are positions in the same store, before the Product's own. Whether a Product has a right factor is a flag at
+/// the library's door, where any number but 0 counts as 1; here it is an option.
 #[derive(Clone, Copy, Debug, PartialEq, Eq)]
 pub enum Node {
     Sum { count: u32, nonterminal: u32 },

@@ -101,7 +101,9 @@ fn a_report_on_a_forged_state_is_refused() {
 fn of_a_node() {
     let mut store = [0xFFFF, 0, 0xF000, 0];
     let unfit = write_node(&mut store, 0, Node::Sum { count: 1 << 28, nonterminal: 0 }).unwrap_err();
-    assert_eq!(text(unfit), "a value is too large for a node (refusal 10)");
+    assert_eq!(text(unfit), "a value is unfit for a node at its position (refusal 10)");
+    let own_factor = write_node(&mut store, 1, Node::Product { action: 0, left: 1, right: None }).unwrap_err();
+    assert_eq!(own_factor, unfit);
     let no_room = write_node(&mut store, 4, Node::Evaluated { symbol: 0 }).unwrap_err();
     assert_eq!(text(no_room), "the node does not fit the store from its position (refusal 11)");
     assert_eq!(text(read_node(&store, 2).unwrap_err()), "the units at the position are no node (refusal 12)");

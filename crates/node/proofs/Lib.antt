@@ -1,5 +1,5 @@
 -- Laws of the node store: tests and choices, units in a store, what the reader's table spells, the walk; then the laws that a buyer
--- reads, in RoundTrip, Longer and InOrder, and the numbers to try, in Numbers.
+-- reads, in RoundTrip, Before, Longer and InOrder, and the numbers to try, in Numbers.
 pub mod Choices
 pub mod Fit
 pub mod Fillers
@@ -10,6 +10,7 @@ pub mod Exact
 pub mod Walks
 pub mod Puts
 pub mod RoundTrip
+pub mod Before
 pub mod Longer
 pub mod InOrder
 pub mod Agree

@@ -8,7 +8,7 @@ use lib.ListN.{length, getD}
 use borrow.Author.Tests.{lt-ltb, lt-leb, ne-eqb}
 use Rattle.node.specs.Choice.{both, bothBelow}
 use Rattle.node.specs.Rows.{unitsOf, unitsAt, listOf, rowOf, sumRow, aloneRow, pairRow, productRow, longProduct, leafRow}
-use Rattle.node.specs.Rows.{unfit, unfitRight, distance, low, high, allOnes, countLimit, actionLimit}
+use Rattle.node.specs.Rows.{unfit, unfitRight, unfitProduct, distance, low, high, allOnes, countLimit, actionLimit}
 use Rattle.node.specs.Answers.{answer, noNode, nothing}
 use Rattle.node.specs.Reading.{filler, headFrom, standAll, stand, spelt, readUnits}
 use Rattle.node.specs.declared.Right.the-variants.{At, Nothing}
@@ -16,6 +16,7 @@ use Rattle.node.specs.declared.Node.{Node}
 use Rattle.node.specs.declared.Node.the-variants.{Sum, Product, NullingLeaf, Evaluated}
 use Rattle.node.specs.declared.Spelt.the-variants.{Like}
 use Rattle.node.proofs.Choices.{BothBelow, below}
+use Rattle.node.proofs.Fit.{product-fit, right-fit}
 use Rattle.node.proofs.Fillers.{head-here}
 use Rattle.node.proofs.Stands as S
 use Rattle.node.proofs.Spells as Sp
@@ -26,11 +27,12 @@ use Rattle.node.proofs.Exact.{reads-exactly}
 pub data Longer (p : ℕ) : Node → List ℕ → Type 0 where
   sum : {count nonterminal : ℕ} → count < 32 → nonterminal < 256
       → Longer p (Sum count nonterminal) ((0xE000 + high count) ∷ low count ∷ low nonterminal ∷ high nonterminal ∷ [])
-  middle : {action left : ℕ} → distance p left < 32 → action < 256
+  middle : {action left : ℕ} → left < p → distance p left < 32 → action < 256
       → Longer p (Product action left Nothing) ((0x4000 + distance p left) ∷ action ∷ [])
-  alone : {action left : ℕ} → distance p left < 8192 → action < 65536
+  alone : {action left : ℕ} → left < p → distance p left < 8192 → action < 65536
       → Longer p (Product action left Nothing) (listOf (longProduct action left allOnes))
-  pair : {action left right : ℕ} → distance p right < 32 → distance p left < 256 → action < 65536 → (right ≡ allOnes → ⊥)
+  pair : {action left right : ℕ} → left < p → right < p → distance p right < 32 → distance p left < 256 → action < 65536
+      → (right ≡ allOnes → ⊥)
       → Longer p (Product action left (At right)) (listOf (longProduct action left right))
   evaluated : {symbol : ℕ} → symbol < 4096 → Longer p (Evaluated symbol) (0xA000 ∷ 0 ∷ low symbol ∷ high symbol ∷ [])
   nulling : {symbol : ℕ} → symbol < 4096 → Longer p (NullingLeaf symbol) (0xA001 ∷ 0 ∷ low symbol ∷ high symbol ∷ [])
@@ -40,25 +42,35 @@ due-sum : (p c n : ℕ) → c < 32 → n < 256 → unitsAt p (Sum c n) ≡ (c * 
 unfolding unitsOf unfit rowOf sumRow bothBelow
 due-sum p c n hc hn = simp (lt-leb countLimit c (omega arith), lt-ltb c 32 hc, lt-ltb n 256 hn)
 
-due-short : (p a l : ℕ) → distance p l < 32 → a < 256 → unitsAt p (Product a l Nothing) ≡ (0x2000 + distance p l * 256 + a) ∷ []
-unfolding unitsOf unfit unfitRight rowOf productRow aloneRow bothBelow
-due-short p a l hl ha = simp (lt-leb actionLimit a (omega arith), lt-ltb (distance p l) 32 hl, lt-ltb a 256 ha)
+fit-alone : (p a l : ℕ) → l < p → a < 65536 → unfitProduct p a l Nothing ≡ false
+unfolding unfitRight
+fit-alone p a l before ha = product-fit (record { action-small = omega arith; left-before = before; right-fit = refl })
+
+due-short :
+    (p a l : ℕ) → l < p → distance p l < 32 → a < 256 → unitsAt p (Product a l Nothing) ≡ (0x2000 + distance p l * 256 + a) ∷ []
+unfolding unitsOf unfit rowOf productRow aloneRow bothBelow
+due-short p a l before hl ha = simp (fit-alone p a l before (omega arith), lt-ltb (distance p l) 32 hl, lt-ltb a 256 ha)
 
 due-middle :
-    (p a l : ℕ) → bothBelow (distance p l) 32 a 256 ≡ false → distance p l < 8192 → a < 65536
+    (p a l : ℕ) → l < p → bothBelow (distance p l) 32 a 256 ≡ false → distance p l < 8192 → a < 65536
     → unitsAt p (Product a l Nothing) ≡ (0x4000 + distance p l) ∷ a ∷ []
-unfolding unitsOf unfit unfitRight rowOf productRow aloneRow
-due-middle p a l no-short hl ha =
-    rw (lt-leb actionLimit a (omega arith), no-short) (unfold bothBelow in simp (lt-ltb (distance p l) 8192 hl, lt-ltb a 65536 ha))
+unfolding unitsOf unfit rowOf productRow aloneRow
+due-middle p a l before no-short hl ha =
+    rw (fit-alone p a l before ha, no-short) (unfold bothBelow in simp (lt-ltb (distance p l) 8192 hl, lt-ltb a 65536 ha))
 
 due-pair :
-    (p a l r : ℕ) → distance p r < 32 → distance p l < 256 → a < 65536 → (r ≡ allOnes → ⊥)
+    (p a l r : ℕ) → l < p → r < p → distance p r < 32 → distance p l < 256 → a < 65536 → (r ≡ allOnes → ⊥)
     → unitsAt p (Product a l (At r)) ≡ (0x6000 + distance p r * 256 + distance p l) ∷ a ∷ []
-unfolding unitsOf unfit unfitRight rowOf productRow pairRow bothBelow
-due-pair p a l r hr hl ha present =
+unfolding unitsOf unfit rowOf productRow pairRow bothBelow
+due-pair p a l r left-before right-before hr hl ha present =
+    let fit : unfitProduct p a l (At r) ≡ false =
+    product-fit (record {
+      action-small = omega arith;
+      left-before = left-before;
+      right-fit = right-fit right-before (ne-eqb r allOnes present);
+    }) in
     simp (
-      lt-leb actionLimit a (omega arith),
-      ne-eqb r allOnes present,
+      fit,
       lt-ltb a 65536 ha,
       lt-ltb (distance p r) 32 hr,
       lt-ltb (distance p l) 256 hl,
@@ -95,13 +107,13 @@ longer-is-12 s p (sum {count = c} {nonterminal = n} hc hn) st =
     not-own s p (0xE000 + high c) (Sum c n) _ _ (S.first-stands s p _ _ st .first .within) (f .head) (λ e. omega (arith, e))
     (Sp.long-sum s p _ c n (omega arith) (f .head) (f .second) (f .value ∙ Sp.halves n))
     (due-sum p c n hc hn) (λ e. omega (arith, e))
-longer-is-12 s p (middle {action = a} {left = l} hl ha) st =
+longer-is-12 s p (middle {action = a} {left = l} before hl ha) st =
     let f : S.First s p (0x4000 + distance p l) (a ∷ []) = S.first-stands s p _ _ st in
     not-own s p (0x4000 + distance p l) (Product a l Nothing) _ _ (f .first .within) (f .first .there) (λ e. omega (arith, e))
     (Sp.middle-alone s p _ (distance p l) a l (omega arith) (f .first .there) (S.first-stands s (p + 1) _ _ (f .others) .first .there)
-    (Sp.factor-back p l (omega arith)))
-    (due-short p a l hl ha) (λ e. omega (arith, e))
-longer-is-12 s p (alone {action = a} {left = l} hl ha) st = on (bothBelow (distance p l) 32 a 256) refl
+    (Sp.factor-back p l before))
+    (due-short p a l before hl ha) (λ e. omega (arith, e))
+longer-is-12 s p (alone {action = a} {left = l} before hl ha) st = on (bothBelow (distance p l) 32 a 256) refl
   where
     spells : spelt s p ≡ Like (Product a l Nothing)
     spells = Sp.product-spells s p a l allOnes Nothing (omega arith) Sp.long-none st
@@ -116,17 +128,17 @@ longer-is-12 s p (alone {action = a} {left = l} hl ha) st = on (bothBelow (dista
           arith,
           e,
         ))
-        spells (due-short p a l (b .first) (b .second)) (λ e. omega (arith, e, b .first, b .second))
+        spells (due-short p a l before (b .first) (b .second)) (λ e. omega (arith, e, b .first, b .second))
     on false e =
         not-own s p (0xC000 + high a) (Product a l Nothing) _ _ (S.first-stands s p _ _ st .first .within) begins (λ e. omega (
           arith,
           e,
         ))
-        spells (due-middle p a l e hl ha) (λ e. omega (arith, e))
-longer-is-12 s p (pair {action = a} {left = l} {right = r} hr hl ha present) st =
+        spells (due-middle p a l before e hl ha) (λ e. omega (arith, e))
+longer-is-12 s p (pair {action = a} {left = l} {right = r} left-before right-before hr hl ha present) st =
     not-own s p (0xC000 + high a) (Product a l (At r)) _ _ (S.first-stands s p _ _ st .first .within) (S.first-stands s p _ _ st .first .there)
     (λ e. omega (arith, e)) (Sp.product-spells s p a l r (At r) (omega arith) (Sp.long-present r (ne-eqb r allOnes present)) st)
-    (due-pair p a l r hr hl ha present) (λ e. omega (arith, e))
+    (due-pair p a l r left-before right-before hr hl ha present) (λ e. omega (arith, e))
 longer-is-12 s p (evaluated {symbol = n} h) st =
     let f : S.Four s p 0xA000 0 (high n * 65536 + low n) = S.four-stand s p _ _ _ _ _ st in
     not-own s p 0xA000 (Evaluated n) _ _ (S.first-stands s p _ _ st .first .within) (f .head) (λ e. omega (arith, e))

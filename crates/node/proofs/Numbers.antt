@@ -2,8 +2,8 @@
 use mathlib.Core.Path.{_≡_, refl}
 use mathlib.Core.List.{List, [], _∷_, _++_}
 use Rattle.node.specs.Choice.{bothBelow}
-use Rattle.node.specs.Rows.{unitsOf, unitsAt, rowOf, sumRow, longProduct, aloneRow, pairRow, productRow, leafRow, unfit}
-use Rattle.node.specs.Rows.{unfitRight, distance}
+use Rattle.node.specs.Rows.{unitsOf, unitsAt, rowOf, sumRow, longProduct, aloneRow, pairRow, productRow, leafRow, unfit, unfitProduct}
+use Rattle.node.specs.Rows.{unfitRight}
 use Rattle.node.specs.declared.Right.the-variants.{At, Nothing}
 use Rattle.node.specs.declared.Node.the-variants.{Sum, Product, NullingLeaf}
 
@@ -40,5 +40,5 @@ nodeRows =
     ∷ []
 
 pub numbers : All nodeRows
-unfolding nodeRows unitsOf rowOf sumRow longProduct aloneRow pairRow productRow leafRow unfit unfitRight distance bothBelow
+unfolding nodeRows unitsOf rowOf sumRow longProduct aloneRow pairRow productRow leafRow unfit unfitProduct unfitRight bothBelow
 numbers = (refl, (refl, (refl, (refl, (refl, (refl, tt))))))

@@ -26,11 +26,11 @@ use Rattle.node.proofs.Exact.{Within, within, Read, read-taken, read-st
 use Rattle.node.proofs.Puts.{put-stands, put-standing, put-below, put-behind}
 
 -- A node that stands somewhere is fit.
-pub standing-fit : (s : List ℕ) (q : ℕ) (n : Node) → stand s q (unitsAt q n) ≡ true → unfit n ≡ false
+pub standing-fit : (s : List ℕ) (q : ℕ) (n : Node) → stand s q (unitsAt q n) ≡ true → unfit q n ≡ false
 unfolding unitsOf stand
-standing-fit s q n st = on (unfit n) refl st
+standing-fit s q n st = on (unfit q n) refl st
   where
-    on : (t : Bool) → unfit n ≡ t → stand s q (listOf (pick t Unfit (rowOf q n))) ≡ true → unfit n ≡ false
+    on : (t : Bool) → unfit q n ≡ t → stand s q (listOf (pick t Unfit (rowOf q n))) ≡ true → unfit q n ≡ false
     on true e st = cc
     on false e st = e
 
@@ -40,7 +40,7 @@ unfolding longSpelt
 no-filler s q n st is =
     let like : speltBy s q 0xFFFF ≡ Like n = ap (speltBy s q) (sym is) ∙ units-spell s q n st in
     let wide : n ≡ Sum (0x1FFF * 65536 + getD s (q + 1) 0) (valueAt s (q + 2)) = cc in
-    let small : 0x1FFF * 65536 + getD s (q + 1) 0 < countLimit = fit-sum wide (standing-fit s q n st) in
+    let small : 0x1FFF * 65536 + getD s (q + 1) 0 < countLimit = fit-sum q wide (standing-fit s q n st) in
     omega (arith, small)
 
 -- Units that stand, and what they stand for, at the very position.

@@ -9,7 +9,7 @@ use lib.Dec.{ltb, leb, eqb}
 use borrow.Author.Tests.{lt-ltb, le-ltb, le-leb, leb-true, ltb-true}
 use Rattle.node.specs.Choice.{pick, both, bothBelow}
 use Rattle.node.specs.Rows.{distance, unitsOf, unitsAt, listOf, rowOf, sumRow, longProduct, aloneRow, pairRow, productRow}
-use Rattle.node.specs.Rows.{leafRow, unfit, unfitRight, low, high, allOnes, countLimit, actionLimit}
+use Rattle.node.specs.Rows.{leafRow, unfit, low, high, allOnes, countLimit, actionLimit}
 use Rattle.node.specs.Reading.{factorAt, alone, paired, longRight, valueAt, nearSpelt, leafSpelt, longSpelt, speltBy, spelt}
 use Rattle.node.specs.Reading.{stand}
 use Rattle.node.specs.declared.Right.{Right}
@@ -19,20 +19,15 @@ use Rattle.node.specs.declared.Node.the-variants.{Sum, Product, NullingL
 use Rattle.node.specs.declared.Units.the-variants.{Unfit, One, Two, Four}
 use Rattle.node.specs.declared.Spelt.the-variants.{Like}
 use Rattle.node.proofs.Choices.{BothBelow, below, Both, both-true}
-use Rattle.node.proofs.Fit.{fit-sum, fit-product, either-second}
+use Rattle.node.proofs.Fit.{fit-sum, FitProduct, fit-product, FitRight, fit-right}
 use Rattle.node.proofs.Stands as S
 
--- A distance that a row has room for leads back to its factor.
-pub factor-back : (q f : ℕ) → distance q f < 8192 → factorAt q (distance q f) ≡ At f
-unfolding distance factorAt
-factor-back q f h = on (leb f q) refl
-  where
-    on : (t : Bool) → leb f q ≡ t → factorAt q (distance q f) ≡ At f
-    on true e =
-        let le : f ≤ q = leb-true f q e in
-        let back : q - (q - f) ≡ f = omega arith in
-        simp (e, le-leb (q - f) q (omega arith), back)
-    on false e = absurd (omega (arith, (simp e at h)))
+-- The distance of a factor before q leads back to it.
+pub factor-back : (q f : ℕ) → f < q → factorAt q (distance q f) ≡ At f
+unfolding factorAt
+factor-back q f h =
+    let back : q - (q - f) ≡ f = omega arith in
+    simp (le-leb (q - f) q (omega arith), back)
 
 module _ (s : List ℕ) (q x : ℕ) where
   -- One row each.
@@ -167,9 +162,9 @@ module _ (s : List ℕ) (q : ℕ) where
       long-product s q _ a l r h (f .head) (f .second) (f .value ∙ halves l) (ap longRight (S.six-stand s q _ _ _ _ _ _ st)
       ∙ right)
 
-  alone-spells : (a l : ℕ) → a < actionLimit → stand s q (listOf (aloneRow q a l)) ≡ true → spelt s q ≡ Like (Product a l Nothing)
+  alone-spells : (a l : ℕ) → a < actionLimit → l < q → stand s q (listOf (aloneRow q a l)) ≡ true → spelt s q ≡ Like (Product a l Nothing)
   unfolding aloneRow stand
-  alone-spells a l h st = short (bothBelow (distance q l) 32 a 256) refl st
+  alone-spells a l h before st = short (bothBelow (distance q l) 32 a 256) refl st
     where
       middle : (t : Bool) → bothBelow (distance q l) 8192 a 65536 ≡ t
           → stand s q (listOf (pick t (Two (0x4000 + distance q l) a) (longProduct a l allOnes))) ≡ true
@@ -178,7 +173,7 @@ module _ (s : List ℕ) (q : ℕ) where
           let b : BothBelow (distance q l) 8192 a 65536 = below (sym e) refl in
           let f : S.First s q (0x4000 + distance q l) (a ∷ []) = S.first-stands s q _ _ st in
           middle-alone s q _ (distance q l) a l (b .first) (f .first .there) (S.first-stands s (q + 1) _ _ (f .others) .first .there)
-          (factor-back q l (b .first))
+          (factor-back q l before)
       middle false e st = product-spells a l allOnes Nothing h long-none st
 
       short : (t : Bool) → bothBelow (distance q l) 32 a 256 ≡ t
@@ -188,14 +183,14 @@ module _ (s : List ℕ) (q : ℕ) where
       short true e st =
           let b : BothBelow (distance q l) 32 a 256 = below (sym e) refl in
           short-alone s q _ (distance q l) a l (b .first) (b .second) (S.first-stands s q _ _ st .first .there)
-          (factor-back q l (omega (arith, b .first)))
+          (factor-back q l before)
       short false e st = middle (bothBelow (distance q l) 8192 a 65536) refl st
 
   pair-spells :
-      (a l r : ℕ) → a < actionLimit → eqb r allOnes ≡ false → stand s q (listOf (pairRow q a l r)) ≡ true
+      (a l r : ℕ) → a < actionLimit → l < q → FitRight q r → stand s q (listOf (pairRow q a l r)) ≡ true
       → spelt s q ≡ Like (Product a l (At r))
   unfolding pairRow stand
-  pair-spells a l r h present st = on (both (ltb a 65536) (bothBelow (distance q r) 32 (distance q l) 256)) refl st
+  pair-spells a l r h before right st = on (both (ltb a 65536) (bothBelow (distance q r) 32 (distance q l) 256)) refl st
     where
       on : (t : Bool) → both (ltb a 65536) (bothBelow (distance q r) 32 (distance q l) 256) ≡ t
           → stand s q (listOf (pick t (Two (0x6000 + distance q r * 256 + distance q l) a) (longProduct a l r))) ≡ true
@@ -206,9 +201,9 @@ module _ (s : List ℕ) (q : ℕ) where
           let f : S.First s q (0x6000 + distance q r * 256 + distance q l) (a ∷ []) = S.first-stands s q _ _ st in
           short-pair s q _ (distance q r) (distance q l) a l r (b .first) (b .second) (f .first .there)
           (S.first-stands s (q + 1) _ _ (f .others) .first .there)
-          (factor-back q l (omega (arith, b .second))) (factor-back q r (omega (arith, b .first)))
+          (factor-back q l before) (factor-back q r (right .before))
       on false e st =
-          product-spells a l r (At r) h (long-present r present) st
+          product-spells a l r (At r) h (long-present r (right .present)) st
 
   leaf-spells :
       (leaf : ℕ → Node) (short wide n : ℕ)
@@ -225,20 +220,22 @@ module _ (s : List ℕ) (q : ℕ) where
           let f : S.Four s q wide 0 (high n * 65536 + low n) = S.four-stand s q _ _ _ _ _ st in
           four (f .head) (f .value ∙ halves n)
 
-  row-spells : (n : Node) → unfit n ≡ false → stand s q (listOf (rowOf q n)) ≡ true → spelt s q ≡ Like n
-  unfolding rowOf productRow unfit unfitRight
-  row-spells (Sum c n) fit st = sum-spells c n (fit-sum {nonterminal = n} refl fit) st
-  row-spells (Product a l Nothing) fit st = alone-spells a l (fit-product {left = l} {right = Nothing} refl fit) st
+  row-spells : (n : Node) → unfit q n ≡ false → stand s q (listOf (rowOf q n)) ≡ true → spelt s q ≡ Like n
+  unfolding rowOf productRow unfit
+  row-spells (Sum c n) fit st = sum-spells c n (fit-sum q {nonterminal = n} refl fit) st
+  row-spells (Product a l Nothing) fit st =
+      let f : FitProduct q a l Nothing = fit-product fit in alone-spells a l (f .action-small) (f .left-before) st
   row-spells (Product a l (At r)) fit st =
-      pair-spells a l r (fit-product {left = l} {right = At r} refl fit) (either-second (leb actionLimit a) (eqb r allOnes) fit) st
+      let f : FitProduct q a l (At r) = fit-product fit in
+      pair-spells a l r (f .action-small) (f .left-before) (fit-right (f .right-fit)) st
   row-spells (NullingLeaf n) fit st = leaf-spells NullingLeaf 0x9000 0xA001 n (short-nulling s q _ n) (wide-nulling s q _ n) st
   row-spells (Evaluated n) fit st = leaf-spells Evaluated 0x8000 0xA000 n (short-evaluated s q _ n) (wide-evaluated s q _ n) st
 
   -- The units of a node stand nowhere but where they spell that node.
   pub units-spell : (n : Node) → stand s q (unitsAt q n) ≡ true → spelt s q ≡ Like n
   unfolding unitsOf stand
-  units-spell n st = on (unfit n) refl st
+  units-spell n st = on (unfit q n) refl st
     where
-      on : (t : Bool) → unfit n ≡ t → stand s q (listOf (pick t Unfit (rowOf q n))) ≡ true → spelt s q ≡ Like n
+      on : (t : Bool) → unfit q n ≡ t → stand s q (listOf (pick t Unfit (rowOf q n))) ≡ true → spelt s q ≡ Like n
       on true e st = cc
       on false e st = row-spells n e st

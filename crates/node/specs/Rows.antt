@@ -29,29 +29,29 @@ countLimit = 0x10000000
 abbrev pub actionLimit : ℕ
 actionLimit = 0x20000000
 
--- Distance is p − factor and exists where factor ≤ p.
-abbrev pub hasDistance : ℕ → ℕ → Bool
-hasDistance p factor = leb factor p
+-- A factor lies strictly before its node: one at p or behind it is unfit for a node at p.
+abbrev pub unfitFactor : ℕ → ℕ → Bool
+unfitFactor p factor = leb p factor
 
--- No row of the table has room for a distance from here on.
-abbrev pub far : ℕ
-far = 8192
+-- Distance is p − factor, at least 1 of a fit factor.
+abbrev pub distance : ℕ → ℕ → ℕ
+distance p factor = p - factor
 
--- p − factor where it exists, and otherwise farther than any row reaches.
-unfoldable pub distance : ℕ → ℕ → ℕ
-distance p factor = pick (hasDistance p factor) (p - factor) far
+-- A present right factor is unfit as any factor is, and 0xFFFFFFFF at every position.
+unfoldable pub unfitRight : ℕ → Right → Bool
+unfitRight p (At factor) = either (unfitFactor p factor) (eqb factor allOnes)
+unfitRight p Nothing = false
 
--- A present right factor 0xFFFFFFFF.
-unfoldable pub unfitRight : Right → Bool
-unfitRight (At factor) = eqb factor allOnes
-unfitRight Nothing = false
+-- Action ≥ 2^29, or an unfit factor.
+unfoldable pub unfitProduct : ℕ → ℕ → ℕ → Right → Bool
+unfitProduct p action left right = either (leb actionLimit action) (either (unfitFactor p left) (unfitRight p right))
 
--- Unfit: count ≥ 2^28, action ≥ 2^29, a present right factor 0xFFFFFFFF.
-unfoldable pub unfit : Node → Bool
-unfit (Sum count nonterminal) = leb countLimit count
-unfit (Product action left right) = either (leb actionLimit action) (unfitRight right)
-unfit (NullingLeaf symbol) = false
-unfit (Evaluated symbol) = false
+-- Unfit at p: count ≥ 2^28, or an unfit Product.
+unfoldable pub unfit : ℕ → Node → Bool
+unfit p (Sum count nonterminal) = leb countLimit count
+unfit p (Product action left right) = unfitProduct p action left right
+unfit p (NullingLeaf symbol) = false
+unfit p (Evaluated symbol) = false
 
 -- Sum, count < 32, nonterminal < 256; other Sum.
 unfoldable pub sumRow : ℕ → ℕ → Units
@@ -95,7 +95,7 @@ rowOf p (NullingLeaf symbol) = leafRow 0x9000 0xA001 symbol
 
 -- The units of a node at p, or unfit.
 unfoldable pub unitsOf : ℕ → Node → Units
-unitsOf p node = pick (unfit node) Unfit (rowOf p node)
+unitsOf p node = pick (unfit p node) Unfit (rowOf p node)
 
 -- The units one behind another: none of an unfit node.
 abbrev pub listOf : Units → List ℕ

@@ -1,5 +1,6 @@
 // The units of a node at a position: a function for each kind of node, a branch for each row of the table.
 ghost use mathlib.Core.Path.{_≡_};
+ghost use mathlib.Core.Bool.{false};
 ghost use Prim.Native.Nat.{_<_};
 ghost use Rattle.node.specs.Choice.{bothBelow};
 ghost use Rattle.node.specs.Rows as U;
@@ -7,15 +8,12 @@ use crate::Node;
 use crate::Right;
 use crate::Units;
 
-// Counts from COUNT_LIMIT on, actions from ACTION_LIMIT on and a present right factor NO_FACTOR are unfit.
+// Counts from COUNT_LIMIT on, actions from ACTION_LIMIT on and a present right factor NO_FACTOR are unfit at every position.
 const COUNT_LIMIT: u32 = 0x1000_0000;
 
 const ACTION_LIMIT: u32 = 0x2000_0000;
 
 pub const NO_FACTOR: u32 = 0xFFFF_FFFF;
-
-// No row has room for a distance from here on.
-const FAR: usize = 8192;
 
 fn low(x: u32) -> u16
     ensures { λ r. ⌜ r ≡ U.low x ⌝ }
@@ -29,17 +27,42 @@ fn high(x: u32) -> u16
     (x / 65536) as u16
 }
 
-fn unfit_right(right: Right) -> bool
-    ensures { λ r. ⌜ r ≡ U.unfitRight right ⌝ }
+// A factor lies strictly before its node.
+fn unfit_factor(p: usize, factor: u32) -> bool
+    ensures { λ r. ⌜ r ≡ U.unfitFactor p factor ⌝ }
+{
+    p <= factor as usize
+}
+
+fn unfit_right(p: usize, right: Right) -> bool
+    ensures { λ r. ⌜ r ≡ U.unfitRight p right ⌝ }
 {
     match right {
-        Right::At(factor) => factor == NO_FACTOR,
+        Right::At(factor) => {
+            if unfit_factor(p, factor) {
+                true
+            } else {
+                factor == NO_FACTOR
+            }
+        }
         Right::Nothing => false,
     }
 }
 
-fn unfit(node: Node) -> bool
-    ensures { λ r. ⌜ r ≡ U.unfit node ⌝ }
+fn unfit_product(p: usize, action: u32, left: u32, right: Right) -> bool
+    ensures { λ r. ⌜ r ≡ U.unfitProduct p action left right ⌝ }
+{
+    if ACTION_LIMIT <= action {
+        return true;
+    }
+    if unfit_factor(p, left) {
+        return true;
+    }
+    unfit_right(p, right)
+}
+
+fn unfit(p: usize, node: Node) -> bool
+    ensures { λ r. ⌜ r ≡ U.unfit p node ⌝ }
 {
     match node {
         Node::Sum {
@@ -48,26 +71,20 @@ fn unfit(node: Node) -> bool
         } => COUNT_LIMIT <= count,
         Node::Product {
             action,
-            left: _,
+            left,
             right,
-        } => {
-            if ACTION_LIMIT <= action {
-                true
-            } else {
-                unfit_right(right)
-            }
-        }
+        } => unfit_product(p, action, left, right),
         Node::NullingLeaf { symbol: _ } => false,
         Node::Evaluated { symbol: _ } => false,
     }
 }
 
-// The distance from p back to a factor; FAR where there is none.
+// The distance from p back to a factor.
 fn distance(p: usize, factor: u32) -> usize
+    requires { ⌜ factor < p ⌝ }
     ensures { λ r. ⌜ r ≡ U.distance p factor ⌝ }
 {
-    let at = factor as usize;
-    if at <= p { p - at } else { FAR }
+    p - factor as usize
 }
 
 fn both_below(a: usize, a_limit: usize, b: usize, b_limit: usize) -> bool
@@ -107,7 +124,7 @@ fn long_product(action: u32, left: u32, right: u32) -> Units
 
 // Product without a right factor: one unit, two units, and the other.
 fn alone_row(p: usize, action: u32, left: u32) -> Units
-    requires { ⌜ action < U.actionLimit ⌝ }
+    requires { ⌜ (action < U.actionLimit) × (left < p) ⌝ }
     ensures { λ r. ⌜ r ≡ U.aloneRow p action left ⌝ }
 {
     let back = distance(p, left);
@@ -125,7 +142,7 @@ fn alone_row(p: usize, action: u32, left: u32) -> Units
 
 // Product with a right factor: two units, and the other.
 fn pair_row(p: usize, action: u32, left: u32, right: u32) -> Units
-    requires { ⌜ action < U.actionLimit ⌝ }
+    requires { ⌜ (action < U.actionLimit) × ((left < p) × (right < p)) ⌝ }
     ensures { λ r. ⌜ r ≡ U.pairRow p action left right ⌝ }
 {
     if 65536 <= action {
@@ -142,7 +159,7 @@ fn pair_row(p: usize, action: u32, left: u32, right: u32) -> Units
 }
 
 fn product_row(p: usize, action: u32, left: u32, right: Right) -> Units
-    requires { ⌜ action < U.actionLimit ⌝ }
+    requires { ⌜ U.unfitProduct p action left right ≡ false ⌝ }
     ensures { λ r. ⌜ r ≡ U.productRow p action left right ⌝ }
 {
     match right {
@@ -167,7 +184,7 @@ fn leaf_row(short: u16, wide: u16, symbol: u32) -> Units
 pub fn units_of(p: usize, node: Node) -> Units
     ensures { λ r. ⌜ r ≡ U.unitsOf p node ⌝ }
 {
-    if unfit(node) {
+    if unfit(p, node) {
         return Units::Unfit;
     }
     match node {

@@ -1,7 +1,8 @@
 -- `rows::product_row` meets its contract: each arm is given which right factor it has.
 use mathlib.Core.Path.{sym, ap, _∙_}
 use borrow.Author.Needs.{needs}
-use Rattle.node.specs.Rows.{productRow}
+use Rattle.node.specs.Rows.{productRow, unfitRight}
+use Rattle.node.proofs.Fit.{fit-product, fit-right}
 use Rattle.node.proofs.rows.product_row.Statement.{statement}
 use Rattle.node.proofs.rows.product_row.Tie as tie
 
@@ -9,13 +10,18 @@ enum-told : tie.Need-enum-told
 enum-told c = search needs
 
 alone-row-requires : tie.Need-alone-row-requires
-alone-row-requires c κs = search needs
+alone-row-requires c κs =
+    let fit = fit-product (c .before .before .pre) in
+    (fit .action-small, fit .left-before)
 
 enum-known-right : tie.Need-enum-known-right
 enum-known-right c = search needs
 
 pair-row-requires : tie.Need-pair-row-requires
-pair-row-requires c κs = search needs
+pair-row-requires c κs =
+    let fit = fit-product (c .before .before .before .pre) in
+    let right = fit-right (sym (ap (unfitRight _) (c .before .right .given .1)) ∙ fit .right-fit) in
+    (fit .action-small, (fit .left-before, right .before))
 
 returns : tie.Need-returns
 unfolding productRow

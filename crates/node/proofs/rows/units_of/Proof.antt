@@ -1,8 +1,8 @@
 -- `rows::units_of` meets its contract: what is not unfit has the limits that its row asks.
 use mathlib.Core.Path.{sym, ap, _∙_}
 use borrow.Author.Needs.{needs}
-use Rattle.node.specs.Rows.{unitsOf, rowOf}
-use Rattle.node.proofs.Fit.{fit-sum, fit-product, fit-row}
+use Rattle.node.specs.Rows.{unitsOf, rowOf, unfit}
+use Rattle.node.proofs.Fit.{fit-sum, fit-row}
 use Rattle.node.proofs.rows.units_of.Statement.{statement}
 use Rattle.node.proofs.rows.units_of.Tie as tie
 
@@ -18,16 +18,17 @@ enum-known-node c = search needs
 
 sum-row-requires : tie.Need-sum-row-requires
 sum-row-requires c κs =
-    fit-sum (c .before .node .given .1) (sym (c .before .before .before .before .unfit .ensures)
+    fit-sum _ (c .before .node .given .1) (sym (c .before .before .before .before .unfit .ensures)
     ∙ c .before .before .before .if1 .left)
 
 enum-known-node-2 : tie.Need-enum-known-node-2
 enum-known-node-2 c = search needs
 
 product-row-requires : tie.Need-product-row-requires
+unfolding unfit
 product-row-requires c κs =
-    fit-product (c .before .node2 .given .1) (sym (c .before .before .before .before .unfit .ensures)
-    ∙ c .before .before .before .if1 .left)
+    sym (ap (unfit _) (c .before .node2 .given .1)) ∙ sym (c .before .before .before .before .unfit .ensures)
+    ∙ c .before .before .before .if1 .left
 
 enum-known-node-3 : tie.Need-enum-known-node-3
 enum-known-node-3 c = search needs
