@@ -62,7 +62,7 @@ module _ (s : List ℕ) (q x : ℕ) where
         back,
       )
 
-  short-pair :
+  pub short-pair :
       (r l a f g : ℕ) → r < 32 → l < 256 → x ≡ 0x6000 + r * 256 + l → getD s (q + 1) 0 ≡ a → factorAt q l ≡ At f
       → factorAt q r ≡ At g
       → speltBy s q x ≡ Like (Product a f (At g))
