@@ -1,6 +1,6 @@
 -- Units whose head is right are a node's, or a wide leaf's but for the second.
 use Prim.Native.Nat.{ℕ, _+_, _-_, _*_, _≤_, _<_}
-use mathlib.Core.Path.{_≡_, refl, sym, ap, subst, _∙_}
+use mathlib.Core.Path.{_≡_, refl, sym, ap, _∙_}
 use mathlib.Core.Bool.{Bool, true, false}
 use mathlib.Core.List.{List, [], _∷_}
 use native.Mathlib.Omega.{arith}
@@ -10,7 +10,7 @@ use borrow.Author.Tests.{lt-ltb, le-ltb, eqb-true}
 use Rattle.node.specs.Choice.{pick, both, bothBelow}
 use Rattle.node.specs.Rows.{distance, unitsOf, unitsAt, listOf, rowOf, sumRow, longProduct, aloneRow, pairRow, productRow}
 use Rattle.node.specs.Rows.{leafRow, unfit, low, high, allOnes, countLimit, actionLimit}
-use Rattle.node.specs.Reading.{longRight, valueAt, longSpelt, speltBy, spelt, standAll, stand, headStands, headRight}
+use Rattle.node.specs.Reading.{longRight, valueAt, longSpelt, speltBy, spelt, standAll, headStands, headRight}
 use Rattle.node.specs.declared.Right.{Right}
 use Rattle.node.specs.declared.Right.the-variants.{At, Nothing}
 use Rattle.node.specs.declared.Node.{Node}
@@ -19,7 +19,7 @@ use Rattle.node.specs.declared.Units.the-variants.{Unfit, One, Two, Four
 use Rattle.node.specs.declared.Spelt.the-variants.{Like}
 use Rattle.node.proofs.Choices.{BothBelow, below, Both, both-true}
 use Rattle.node.proofs.Fit.{fit-sum, FitProduct, fit-product, FitRight, fit-right}
-use Rattle.node.proofs.Stands.{Holds, hold}
+use Rattle.node.proofs.Stands.{hold}
 use Rattle.node.proofs.Spells as Sp
 use Rattle.node.proofs.Lowest.{HeadRight, right-head}
 

@@ -1,15 +1,14 @@
 -- The units that are due: the first row that fits, row by row.
 use Prim.Native.Nat.{ℕ, _+_, _*_, _<_}
 use mathlib.Core.Path.{_≡_, refl}
-use mathlib.Core.Bool.{Bool, true, false}
-use mathlib.Core.List.{List, [], _∷_}
+use mathlib.Core.Bool.{false}
+use mathlib.Core.List.{[], _∷_}
 use native.Mathlib.Omega.{arith}
-use lib.Dec.{ltb, eqb}
+use lib.Dec.{ltb}
 use borrow.Author.Tests.{lt-ltb, lt-leb, ne-eqb}
 use Rattle.node.specs.Choice.{both, bothBelow}
 use Rattle.node.specs.Rows.{unitsOf, unitsAt, listOf, rowOf, sumRow, aloneRow, pairRow, productRow, longProduct, leafRow}
 use Rattle.node.specs.Rows.{unfit, unfitRight, unfitProduct, distance, low, high, allOnes, countLimit, actionLimit}
-use Rattle.node.specs.declared.Right.{Right}
 use Rattle.node.specs.declared.Right.the-variants.{At, Nothing}
 use Rattle.node.specs.declared.Node.the-variants.{Sum, Product, NullingLeaf, Evaluated}
 use Rattle.node.proofs.Fit.{product-fit, right-fit}

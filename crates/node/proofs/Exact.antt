@@ -4,8 +4,8 @@ use mathlib.Core.Path.{_≡_, refl, sym, ap, subst, _∙_}
 use mathlib.Core.Bool.{Bool, true, false}
 use mathlib.Core.List.{List, [], _∷_}
 use native.Mathlib.Omega.{arith}
-use lib.ListN.{length, getD, set, length-set}
-use lib.Dec.{ltb, leb}
+use lib.ListN.{length, getD, length-set}
+use lib.Dec.{ltb}
 use borrow.Author.Tests.{ltb-false, lt-ltb, le-ltb, ltb-true, le-leb}
 use Rattle.node.specs.Choice.{pick}
 use Rattle.node.specs.Rows.{unitsAt, unitsOf, listOf}

@@ -9,7 +9,7 @@ use lib.ListN.{length, getD, drop, length-drop}
 use lib.Seq.{getD-drop}
 use lib.Dec.{eqb}
 use Rattle.node.specs.Rows.{unitsAt}
-use Rattle.node.specs.Answers.{Answer, Values, answer, refused, valuesOf, done, node, position, nothing, end, nodes}
+use Rattle.node.specs.Answers.{Answer, answer, refused, valuesOf, done, node, position, nothing, end, nodes}
 use Rattle.node.specs.Writing.{usable, writeAt}
 use Rattle.node.specs.Reading.{filler, fillers, headFrom, stand, readUnits, readAt}
 use Rattle.node.specs.Walking.{goOn, walkOn, walkFrom, walkAt}

@@ -2,18 +2,18 @@
 use Prim.Native.Nat.{ℕ, _+_, _≤_, _<_, min}
 use mathlib.Core.Path.{_≡_, refl, ap, _∙_}
 use mathlib.Core.Bool.{Bool, true, false}
-use mathlib.Core.List.{List, [], _∷_, _++_}
+use mathlib.Core.List.{List, [], _∷_}
 use native.Mathlib.Omega.{arith}
 use lib.ListN.{length, getD}
 use lib.Dec.{ltb, leb, eqb}
-use borrow.Author.Tests.{lt-ltb, ne-eqb, le-leb, leb-true, eqb-true}
+use borrow.Author.Tests.{lt-ltb, ne-eqb, leb-true}
 use Rattle.node.specs.Choice.{pick, both}
 use Rattle.node.specs.Rows.{unitsAt}
-use Rattle.node.specs.Reading.{holds, standAll, headStands, headRight, notZero, faults, lowest}
+use Rattle.node.specs.Reading.{holds, headStands, headRight, notZero, faults, lowest}
 use Rattle.node.specs.declared.Node.{Node}
 use Rattle.node.specs.declared.Spelt.the-variants.{Like}
 use Rattle.node.proofs.Choices.{Both, both-true}
-use Rattle.node.proofs.Stands.{Holds, held}
+use Rattle.node.proofs.Stands.{held}
 
 -- No unit behind a fault at q is lower than it.
 head-lowest : (s : List ℕ) (q k : ℕ) (us : List ℕ) → q ≤ k → lowest (q ∷ notZero s k us) ≡ q

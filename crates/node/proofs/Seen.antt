@@ -1,12 +1,12 @@
 -- A fault is seen exactly where no node stands: so of a 12 there is a lowest one.
-use Prim.Native.Nat.{ℕ, _+_, _≤_, _<_}
-use mathlib.Core.Path.{_≡_, refl, sym, ap, subst, _∙_}
+use Prim.Native.Nat.{ℕ, _+_}
+use mathlib.Core.Path.{_≡_, refl, sym, subst, _∙_}
 use mathlib.Core.Bool.{Bool, true, false}
 use mathlib.Core.List.{List, [], _∷_, _++_}
 use native.Mathlib.Omega.{arith}
-use lib.ListN.{length, getD}
+use lib.ListN.{getD}
 use lib.Dec.{ltb, eqb}
-use borrow.Author.Tests.{lt-ltb, le-ltb, ltb-true, ltb-false, eqb-true, ne-eqb}
+use borrow.Author.Tests.{le-ltb, ltb-false, eqb-true, ne-eqb}
 use Rattle.node.specs.Choice.{pick, both}
 use Rattle.node.specs.Rows.{unitsAt}
 use Rattle.node.specs.Reading.{stand, standAll, spelt, headRight, notZero, faults}

@@ -1,12 +1,12 @@
 -- The reader's table undoes the writer's: the units of a node, where they stand, spell that node.
-use Prim.Native.Nat.{ℕ, _+_, _-_, _*_, _/_, _%_, _≤_, _<_}
+use Prim.Native.Nat.{ℕ, _+_, _-_, _*_, _/_, _%_, _<_}
 use mathlib.Core.Path.{_≡_, refl, sym, ap, _∙_}
 use mathlib.Core.Bool.{Bool, true, false}
 use mathlib.Core.List.{List, [], _∷_}
 use native.Mathlib.Omega.{arith}
 use lib.ListN.{getD}
-use lib.Dec.{ltb, leb, eqb}
-use borrow.Author.Tests.{lt-ltb, le-ltb, le-leb, leb-true, ltb-true}
+use lib.Dec.{ltb, eqb}
+use borrow.Author.Tests.{lt-ltb, le-ltb, le-leb, ltb-true}
 use Rattle.node.specs.Choice.{pick, both, bothBelow}
 use Rattle.node.specs.Rows.{distance, unitsOf, unitsAt, listOf, rowOf, sumRow, longProduct, aloneRow, pairRow, productRow}
 use Rattle.node.specs.Rows.{leafRow, unfit, low, high, allOnes, countLimit, actionLimit}
