@@ -27,7 +27,7 @@ __attribute__((noinline)) static size_t stack_of(void (*call)(void))
 
 /* What the calls are made with. */
 static uint8_t file[11 + 6 * RULES];
-static size_t file_len, set, held, taken, first, count, position, behind;
+static size_t file_len, set, held, taken, first, count, position, behind, place;
 static uint32_t items[BRINESADDLE_MAX_ITEM_WORDS], starts[BRINESADDLE_MAX_START_WORDS], queue[BRINESADDLE_MAX_QUEUE_WORDS];
 static uint64_t rows[BRINESADDLE_MAX_ROW_WORDS];
 static uint16_t tokens[TOKENS], store[UNITS];
@@ -56,9 +56,9 @@ static void expected(void) { answer = brinesaddle_expected(FILE_LENT, set, held,
 static void listing(void) { answer = brinesaddle_listing(FILE_LENT, set, held, WORDS, PLACE(text)); }
 static void latest_words(void) { answer = brinesaddle_latest_words(FILE_LENT, set, held, WORDS, PLACE(words)); }
 static void latest_records(void) { answer = brinesaddle_latest_records(FILE_LENT, set, held, WORDS, PLACE(records)); }
-static void node_write(void) { answer = brinesaddle_node_write(store, UNITS, position, node, &behind); }
-static void node_read(void) { answer = brinesaddle_node_read(store, UNITS, position, node, &behind); }
-static void node_walk(void) { answer = brinesaddle_node_walk(store, UNITS, 0, &count, &behind); }
+static void node_write(void) { answer = brinesaddle_node_write(store, UNITS, position, node, &behind, &place); }
+static void node_read(void) { answer = brinesaddle_node_read(store, UNITS, position, node, &behind, &place); }
+static void node_walk(void) { answer = brinesaddle_node_walk(store, UNITS, 0, &count, &behind, &place); }
 
 enum {
     CHECK, START, TOKEN, RUN, FINISHED, LATEST_SET, EXPECTED, LISTING, LATEST_WORDS, LATEST_RECORDS, NODE_WRITE, NODE_READ, NODE_WALK, CALLS
@@ -207,7 +207,7 @@ static void nodes(void)
     static const uint32_t fit[][5] = {
         {BRINESADDLE_SUM, 31, 255, 0, 0},         {BRINESADDLE_SUM, 1 << 20, 1 << 20, 0, 0},
         {BRINESADDLE_PRODUCT, 9, 290, 0, 0},      {BRINESADDLE_PRODUCT, 9, 200, 0, 0},
-        {BRINESADDLE_PRODUCT, 9, 200, 1, 290},    {BRINESADDLE_PRODUCT, 1 << 20, 1 << 20, 1, 1 << 20},
+        {BRINESADDLE_PRODUCT, 9, 200, 1, 290},    {BRINESADDLE_PRODUCT, 1 << 20, 20, 1, 30},
         {BRINESADDLE_NULLING_LEAF, 7, 0, 0, 0},   {BRINESADDLE_NULLING_LEAF, 1 << 20, 0, 0, 0},
         {BRINESADDLE_EVALUATED, 7, 0, 0, 0},      {BRINESADDLE_EVALUATED, 1 << 20, 0, 0, 0},
     };
@@ -227,6 +227,11 @@ static void nodes(void)
     measure(NODE_WALK, BRINESADDLE_NO_NODE);
     position = UNITS - 1;
     measure(NODE_READ, BRINESADDLE_NO_NODE);
+    store[300] = 0xA000, store[301] = 1, store[302] = 0x1000;
+    position = 300;
+    measure(NODE_READ, BRINESADDLE_NO_NODE);
+    measure(NODE_WALK, BRINESADDLE_NO_NODE);
+    position = UNITS - 1;
     node[0] = BRINESADDLE_EVALUATED, node[1] = 1 << 20;
     measure(NODE_WRITE, BRINESADDLE_NO_ROOM);
 }

@@ -1,5 +1,6 @@
 /* A host in C: reads tokens of document 01's grammar A, asks whether they are a sentence, and prints the latest set; tells of a refused
- * token what could have stood there; then writes a node, reads it back and walks over it. `tests/host` builds and runs it. */
+ * token what could have stood there; then writes a node, reads it back and walks over it, and shows where a store is bad. `tests/host` builds
+ * and runs it. */
 #include <stdio.h>
 
 #include "brinesaddle.h"
@@ -60,17 +61,23 @@ static void nodes(void)
 {
     uint16_t store[48];
     uint32_t product[5] = {BRINESADDLE_PRODUCT, 9, 20, 1, 35}, found[5] = {0};
-    size_t behind = 0, count = 0, end = 0;
+    size_t behind = 0, count = 0, end = 0, place = 0;
     for (size_t k = 0; k < 48; k++)
         store[k] = 0xFFFF;
-    uint32_t wrote = brinesaddle_node_write(store, 48, 40, product, &behind);
+    uint32_t wrote = brinesaddle_node_write(store, 48, 40, product, &behind, &place);
     printf("write %u, behind %zu, units %04X %04X\n", wrote, behind, store[40], store[41]);
-    uint32_t read = brinesaddle_node_read(store, 48, 0, found, &behind);
+    uint32_t read = brinesaddle_node_read(store, 48, 0, found, &behind, &place);
     printf("read %u, kind %u, action %u, left %u, right %u, behind %zu\n", read, found[0], found[1], found[2], found[4], behind);
-    uint32_t walked = brinesaddle_node_walk(store, 48, 0, &count, &end);
+    uint32_t walked = brinesaddle_node_walk(store, 48, 0, &count, &end, &place);
     printf("walk %u, nodes %zu, behind %zu\n", walked, count, end);
-    uint32_t at_end = brinesaddle_node_read(store, 48, behind, found, &behind);
+    uint32_t at_end = brinesaddle_node_read(store, 48, behind, found, &behind, &place);
     printf("read on %u, end %s\n", at_end, found[0] == BRINESADDLE_END ? "yes" : "no");
+    product[2] = 40;
+    wrote = brinesaddle_node_write(store, 48, 40, product, &behind, &place);
+    printf("its own factor: %u at %zu\n", wrote, place);
+    store[40] = 0xF000;
+    walked = brinesaddle_node_walk(store, 48, 0, &count, &end, &place);
+    printf("a bad unit: %u at %zu\n", walked, place);
 }
 
 int main(void)

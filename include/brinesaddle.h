@@ -10,7 +10,8 @@
  * Answers. Each call returns a number: 0 is done; the others are refusals, in this order of precedence. What a refused call leaves is said
  * at each call. In short: a run keeps the tokens before the refused one and tells how many they are; a walk tells the nodes before the
  * units that are none; finished and latest_set put 0 into their words; a call that fills a place tells in `count` how long it must be, or
- * 0 where it is refused for another reason; every other refused call leaves everything as it was.
+ * 0 where it is refused for another reason; every other refused call leaves everything as it was. And 10, 11 and 12 tell their place: 10 and
+ * 11 the position asked for, 12 the unit at which the fault was seen.
  */
 #ifndef BRINESADDLE_H
 #define BRINESADDLE_H
@@ -166,18 +167,20 @@ enum {
 
 /* Writes a node at position p of a store.
  * Answers 0, 10 (a value is too large, a factor does not lie before p, or the kind is none of the four) or 11. Done: `behind` is the
- * position behind the node, and no other unit is changed. Refused: store and `behind` as they were. */
-uint32_t brinesaddle_node_write(uint16_t *store, size_t store_len, size_t p, const uint32_t node[5], size_t *behind);
+ * position behind the node, no other unit is changed, and `place` is as it was. Refused: `place` is p; store and `behind` as they were. */
+uint32_t brinesaddle_node_write(uint16_t *store, size_t store_len, size_t p, const uint32_t node[5], size_t *behind, size_t *place);
 
 /* Reads the first node from p on, fillers 0xFFFF skipped.
  * Answers 0 or 12. Done: `node` is the node and `behind` the position behind it; at the end of the store `node` is BRINESADDLE_END and
- * four zeros, and `behind` as it was. 12: both as they were. */
-uint32_t brinesaddle_node_read(const uint16_t *store, size_t store_len, size_t p, uint32_t node[5], size_t *behind);
+ * four zeros, and `behind` as it was; `place` is as it was. 12: `place` is the unit of the store at which the fault was seen, the other two
+ * as they were. That is the head, behind the fillers, for a head that no form has, a distance or factor that is wrong, a node cut off by
+ * the end of the store and a longer form than was due; and the unit behind the head where that alone is wrong, as it must be zero. */
+uint32_t brinesaddle_node_read(const uint16_t *store, size_t store_len, size_t p, uint32_t node[5], size_t *behind, size_t *place);
 
 /* Reads on from p to the end or the first 12.
  * Answers 0 or 12. Either way `count` is the number of nodes read, and `behind` the position behind the last one, p if there is none: 12 is
- * the answer of a read from `behind`. */
-uint32_t brinesaddle_node_walk(const uint16_t *store, size_t store_len, size_t p, size_t *count, size_t *behind);
+ * the answer of a read from `behind`, and `place` what that read tells. Where the answer is 0, `place` is as it was. */
+uint32_t brinesaddle_node_walk(const uint16_t *store, size_t store_len, size_t p, size_t *count, size_t *behind, size_t *place);
 
 #ifdef __cplusplus
 }

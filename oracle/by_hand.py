@@ -3,6 +3,8 @@
 import library
 import model
 
+AS_IT_WAS = 0xBAD  # what library.py puts into a word that a call may leave
+
 failures, count = [], 0
 
 

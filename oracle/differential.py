@@ -305,29 +305,30 @@ def some_nodes(rng):
         position = rng.choice([rng.randrange(len(store) + 3), max(0, len(store) - rng.randint(0, 8)), 32760 + rng.randint(0, 9)])
         numbers = any_node(rng, position)
         units = store[:]
-        answer, behind = model.write_node(units, position, read_numbers(numbers))
-        same(f"write {numbers} at {position}", library.node_write(store, position, numbers), (answer, behind if answer == 0 else 0xBAD, units))
+        answer, told = model.write_node(units, position, read_numbers(numbers))
+        words = (told, 0xBAD) if answer == 0 else (0xBAD, told)
+        same(f"write {numbers} at {position}", library.node_write(store, position, numbers), (answer, *words, units))
         met[f"node write {answer}"] += 1
         store = units
         a_read(rng.choice([position, rng.randrange(len(store) + 3)]), store)
         a_walk(rng.choice([0, position, rng.randrange(len(store) + 3)]), store)
-    same("no kind of a node", library.node_write(store, 0, [rng.randint(4, U32 - 1), 0, 0, 0, 0]), (10, 0xBAD, store))
+    same("no kind of a node", library.node_write(store, position, [rng.randint(4, U32 - 1), 0, 0, 0, 0]), (10, 0xBAD, position, store))
 
 
 def a_read(position, store):
-    answer, node, behind = model.read_node(store, position)
+    answer, node, told = model.read_node(store, position)
     if node is not None:
-        wanted = (0, streams.node_numbers(node), behind)
+        wanted = (0, streams.node_numbers(node), told, 0xBAD)
     else:
-        wanted = (0, [4, 0, 0, 0, 0], 0xBAD) if answer == 0 else (12, [0xBAD] * 5, 0xBAD)
+        wanted = (0, [4, 0, 0, 0, 0], 0xBAD, 0xBAD) if answer == 0 else (12, [0xBAD] * 5, 0xBAD, told)
     same(f"read at {position}", library.node_read(store, position), wanted)
     met[f"node read {answer}" + (" end" if answer == 0 and node is None else "")] += 1
 
 
 def a_walk(position, store):
-    wanted = model.walk(store, position)
-    same(f"walk from {position}", library.node_walk(store, position), wanted)
-    met[f"node walk {wanted[0]}"] += 1
+    answer, count, behind, place = model.walk(store, position)
+    same(f"walk from {position}", library.node_walk(store, position), (answer, count, behind, 0xBAD if place is None else place))
+    met[f"node walk {answer}"] += 1
 
 
 # -------------------------------------------------------------------------------------------------------- The Rust

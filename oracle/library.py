@@ -41,9 +41,9 @@ for name, parameters in {
     "listing": FILE + STATE_BY_VALUE + WORDS + slice_of(u8) + OUT,
     "latest_words": FILE + STATE_BY_VALUE + WORDS + slice_of(u32) + OUT,
     "latest_records": FILE + STATE_BY_VALUE + WORDS + slice_of(Record) + OUT,
-    "node_write": slice_of(u16) + [size] + NODE + OUT,
-    "node_read": slice_of(u16) + [size] + NODE + OUT,
-    "node_walk": slice_of(u16) + [size] + OUT + OUT,
+    "node_write": slice_of(u16) + [size] + NODE + OUT + OUT,
+    "node_read": slice_of(u16) + [size] + NODE + OUT + OUT,
+    "node_walk": slice_of(u16) + [size] + OUT + OUT + OUT,
 }.items():
     function = getattr(library, "brinesaddle_" + name)
     function.argtypes, function.restype = parameters, u32
@@ -156,24 +156,26 @@ def latest_records(file, state, lent, place):
 
 
 def node_write(store, position, numbers):
-    """The answer, the position behind (or the word as it was, 0xBAD), and the units."""
+    """The answer, the position behind, the place of a refusal (of both the word as it was, 0xBAD, where it is not written), and the units."""
     units, length = array(u16, store)
-    behind = size(0xBAD)
-    answer = library.brinesaddle_node_write(units, length, position, array(u32, numbers)[0], ctypes.byref(behind))
-    return answer, behind.value, units[:length]
+    behind, place = size(0xBAD), size(0xBAD)
+    answer = library.brinesaddle_node_write(units, length, position, array(u32, numbers)[0], ctypes.byref(behind), ctypes.byref(place))
+    return answer, behind.value, place.value, units[:length]
 
 
 def node_read(store, position):
+    """The answer, the node's numbers, the position behind and the place of a refusal, each as it was where it is not written."""
     units, length = array(u16, store)
-    node, behind = array(u32, [0xBAD] * 5)[0], size(0xBAD)
-    answer = library.brinesaddle_node_read(units, length, position, node, ctypes.byref(behind))
+    node, behind, place = array(u32, [0xBAD] * 5)[0], size(0xBAD), size(0xBAD)
+    answer = library.brinesaddle_node_read(units, length, position, node, ctypes.byref(behind), ctypes.byref(place))
     assert units[:length] == store
-    return answer, node[:5], behind.value
+    return answer, node[:5], behind.value, place.value
 
 
 def node_walk(store, position):
+    """The answer, the number of nodes, the position behind and the place of a refusal, or the word as it was."""
     units, length = array(u16, store)
-    count, behind = size(0xBAD), size(0xBAD)
-    answer = library.brinesaddle_node_walk(units, length, position, ctypes.byref(count), ctypes.byref(behind))
+    count, behind, place = size(0xBAD), size(0xBAD), size(0xBAD)
+    answer = library.brinesaddle_node_walk(units, length, position, ctypes.byref(count), ctypes.byref(behind), ctypes.byref(place))
     assert units[:length] == store
-    return answer, count.value, behind.value
+    return answer, count.value, behind.value, place.value

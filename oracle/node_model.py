@@ -55,12 +55,12 @@ def units(p, node):
 
 
 def write(store, p, node):
-    """(number, the position behind or None); changes the store where the number is 0."""
+    """(number, the position behind, or the place of a refusal); changes the store where the number is 0."""
     here = units(p, node)
     if here is None:
-        return 10, None
+        return 10, p
     if p + len(here) > min(len(store), USABLE):
-        return 11, None
+        return 11, p
     store[p:p + len(here)] = here
     return 0, p + len(here)
 
@@ -95,8 +95,33 @@ def candidates(store, end, p):
         yield "Sum", rest << 16 | unit(1), value(2)
 
 
+def form(head):
+    """How many units the row of a head has; None where no row has it."""
+    if 0xA002 <= head < 0xC000 or head >= 0xF000:
+        return None
+    return {0x0000: 1, 0x2000: 1, 0x4000: 2, 0x6000: 2, 0x8000: 1, 0xA000: 4, 0xC000: 6, 0xE000: 4}[head & 0xE000]
+
+
+def faults(store, end, p):
+    """The unit of each fault that units which are no node have, kind by kind."""
+    head = store[p]
+    width = form(head)
+    if width is None:
+        yield p  # no form has this head
+        return
+    if p + width > end:
+        yield p  # cut off
+    node = list(candidates(store, end, p))[head == 0xA001]
+    if node[0] == "Product" and not all(0 <= factor < p for factor in node[2:] if factor is not None):
+        yield p  # a distance that is 0 or above the position, a factor that does not lie before it
+    elif len(units(p, node)) < width:
+        yield p  # a longer form where a shorter was due
+    if head in (0xA000, 0xA001) and p + 1 < end and store[p + 1] != 0:
+        yield p + 1  # not zero where zero is due
+
+
 def read(store, p):
-    """(0, node, the position behind), (0, None, None) at the end, or (12, None, None)."""
+    """(0, node, the position behind), (0, None, None) at the end, or (12, None, the unit of the lowest fault)."""
     end = min(len(store), USABLE)
     while p < end and store[p] == FILLER:
         p += 1
@@ -108,14 +133,14 @@ def read(store, p):
         here = units(p, node)
         if here is not None and p + len(here) <= end and store[p:p + len(here)] == here:
             return 0, node, p + len(here)
-    return 12, None, None
+    return 12, None, min(faults(store, end, p))
 
 
 def walk(store, p):
-    """(0 or 12, the number of nodes read, the position behind the last one)."""
+    """(0 or 12, the number of nodes read, the position behind the last one, the unit of the 12 or None)."""
     count = 0
     while True:
         number, node, behind = read(store, p)
         if node is None:
-            return number, count, p
+            return number, count, p, behind
         count, p = count + 1, behind

@@ -8,7 +8,7 @@ import sys
 
 import library
 import model
-from by_hand import Parse, expect, passed
+from by_hand import AS_IT_WAS, Parse, expect, passed
 
 A, B, TRIPLE = model.GRAMMAR_A, model.GRAMMAR_B, [0, 1, 2]
 SUM, PRODUCT, NULLING_LEAF = 0, 1, 2
@@ -54,8 +54,9 @@ def numbers_of_nodes():
 def written_and_read(position, node, units):
     behind = position + len(units)
     store = [0xABCD] * 50
-    expect(f"{node} at {position}", library.node_write(store, position, node), (0, behind, store[:position] + units + store[behind:]))
-    expect(f"{node} read back", library.node_read(store[:position] + units, position), (0, node, behind))
+    expect(f"{node} at {position}", library.node_write(store, position, node),
+           (0, behind, AS_IT_WAS, store[:position] + units + store[behind:]))
+    expect(f"{node} read back", library.node_read(store[:position] + units, position), (0, node, behind, AS_IT_WAS))
 
 
 def reset_clears_the_rows():
@@ -76,8 +77,7 @@ def set_number_is_no_token_count():
 
 def distance_above_the_position():
     for units in ([0x2100], [0x4001, 0], [0x6001, 0], [0x6100, 0]):
-        answer, _, _ = library.node_read(units, 0)
-        expect(f"{units} at 0", answer, 12)
+        expect(f"{units} at 0", library.node_read(units, 0), (12, [AS_IT_WAS] * 5, AS_IT_WAS, 0))
 
 
 def no_item_twice():

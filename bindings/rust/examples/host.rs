@@ -50,8 +50,14 @@ fn main() -> Result<(), Box<dyn Error>> {
     let Some((Node::Product { action, left, right: Some(right) }, behind)) = read_node(&store, 0)? else { Err("another node")? };
     println!("read 0, kind 1, action {action}, left {left}, right {right}, behind {behind}");
     let walked = walk_nodes(&store, 0);
-    println!("walk {}, nodes {}, behind {}", number(walked.answer), walked.nodes, walked.behind);
+    println!("walk {}, nodes {}, behind {}", walked.answer.map_or_else(|at| at.refusal.number(), |()| 0), walked.nodes, walked.behind);
     let end = read_node(&store, behind)?.is_none();
     println!("read on 0, end {}", if end { "yes" } else { "no" });
+    let own_factor = Node::Product { action: 9, left: 40, right: Some(35) };
+    let Err(unfit) = write_node(&mut store, 40, own_factor) else { Err("a node is its own factor")? };
+    println!("its own factor: {} at {}", unfit.refusal.number(), unfit.place);
+    store[40] = 0xF000;
+    let Err(fault) = walk_nodes(&store, 0).answer else { Err("no fault was seen")? };
+    println!("a bad unit: {} at {}", fault.refusal.number(), fault.place);
     Ok(())
 }

@@ -97,6 +97,26 @@ fn answer(number: u32) -> Result<(), Refusal> {
     }
 }
 
+/// A refusal that has a place in a store: of 10 and 11 the position asked for, of 12 the unit at which the fault was seen.
+#[derive(Clone, Copy, Debug, PartialEq, Eq)]
+pub struct RefusedAt {
+    pub refusal: Refusal,
+    pub place: usize,
+}
+
+/// The refusal's sentence and number, and the place.
+impl fmt::Display for RefusedAt {
+    fn fmt(&self, f: &mut fmt::Formatter<'_>) -> fmt::Result {
+        write!(f, "{}, at {}", self.refusal, self.place)
+    }
+}
+
+impl Error for RefusedAt {}
+
+fn answer_at(number: u32, place: usize) -> Result<(), RefusedAt> {
+    answer(number).map_err(|refusal| RefusedAt { refusal, place })
+}
+
 /// Why a call left the place that it was lent as it was.
 #[derive(Clone, Copy, Debug, PartialEq, Eq)]
 pub enum Unwritten {
@@ -358,31 +378,38 @@ impl Node {
     }
 }
 
-/// What a walk came to: the nodes read, the position behind the last, and 12 if that ended it. Nodes and position are told either way.
+/// What a walk came to: the nodes read, the position behind the last, and the 12 that ended it, if one did. Nodes and position are told either
+/// way.
 #[derive(Clone, Copy, Debug, PartialEq, Eq)]
 pub struct Walked {
     pub nodes: usize,
     pub behind: usize,
-    pub answer: Result<(), Refusal>,
+    pub answer: Result<(), RefusedAt>,
 }
 
 /// Writes a node at a position, and answers the position behind it. Refused 10 or 11, the store is as it was.
-pub fn write_node(store: &mut [u16], position: usize, node: Node) -> Result<usize, Refusal> {
-    let mut behind = position;
-    answer(unsafe { raw::brinesaddle_node_write(store.as_mut_ptr(), store.len(), position, &node.numbers(), &mut behind) })?;
+pub fn write_node(store: &mut [u16], position: usize, node: Node) -> Result<usize, RefusedAt> {
+    let (mut behind, mut place) = (position, position);
+    let number = unsafe {
+        raw::brinesaddle_node_write(store.as_mut_ptr(), store.len(), position, &node.numbers(), &mut behind, &mut place)
+    };
+    answer_at(number, place)?;
     Ok(behind)
 }
 
 /// The first node from a position on, with the position behind it; none at the end; refused 12 where the units are no node.
-pub fn read_node(store: &[u16], position: usize) -> Result<Option<(Node, usize)>, Refusal> {
-    let (mut numbers, mut behind) = ([END, 0, 0, 0, 0], position);
-    answer(unsafe { raw::brinesaddle_node_read(store.as_ptr(), store.len(), position, &mut numbers, &mut behind) })?;
+pub fn read_node(store: &[u16], position: usize) -> Result<Option<(Node, usize)>, RefusedAt> {
+    let (mut numbers, mut behind, mut place) = ([END, 0, 0, 0, 0], position, position);
+    let number =
+        unsafe { raw::brinesaddle_node_read(store.as_ptr(), store.len(), position, &mut numbers, &mut behind, &mut place) };
+    answer_at(number, place)?;
     Ok(Node::told(numbers).map(|node| (node, behind)))
 }
 
 /// Reads on from a position to the end or the first 12.
 pub fn walk_nodes(store: &[u16], position: usize) -> Walked {
-    let (mut nodes, mut behind) = (0, position);
-    let number = unsafe { raw::brinesaddle_node_walk(store.as_ptr(), store.len(), position, &mut nodes, &mut behind) };
-    Walked { nodes, behind, answer: answer(number) }
+    let (mut nodes, mut behind, mut place) = (0, position, position);
+    let number =
+        unsafe { raw::brinesaddle_node_walk(store.as_ptr(), store.len(), position, &mut nodes, &mut behind, &mut place) };
+    Walked { nodes, behind, answer: answer_at(number, place) }
 }

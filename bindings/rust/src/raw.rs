@@ -148,7 +148,21 @@ extern "C" {
         records_len: usize,
         count: &mut usize,
     ) -> u32;
-    pub fn brinesaddle_node_write(store: *mut u16, store_len: usize, p: usize, node: &[u32; 5], behind: &mut usize) -> u32;
-    pub fn brinesaddle_node_read(store: *const u16, store_len: usize, p: usize, node: &mut [u32; 5], behind: &mut usize) -> u32;
-    pub fn brinesaddle_node_walk(store: *const u16, store_len: usize, p: usize, count: &mut usize, behind: &mut usize) -> u32;
+    pub fn brinesaddle_node_write(store: *mut u16, store_len: usize, p: usize, node: &[u32; 5], behind: &mut usize, place: &mut usize) -> u32;
+    pub fn brinesaddle_node_read(
+        store: *const u16,
+        store_len: usize,
+        p: usize,
+        node: &mut [u32; 5],
+        behind: &mut usize,
+        place: &mut usize,
+    ) -> u32;
+    pub fn brinesaddle_node_walk(
+        store: *const u16,
+        store_len: usize,
+        p: usize,
+        count: &mut usize,
+        behind: &mut usize,
+        place: &mut usize,
+    ) -> u32;
 }

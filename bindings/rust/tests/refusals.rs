@@ -1,5 +1,5 @@
 //! Each refusal is an error that tells a person what is the matter, and its number: `cargo test`.
-use brinesaddle::{check, read_node, walk_nodes, write_node, Item, Node, Parse, Refusal, State, Unwritten, Words};
+use brinesaddle::{check, read_node, walk_nodes, write_node, Item, Node, Parse, Refusal, RefusedAt, State, Unwritten, Words};
 use std::error::Error;
 
 /// Document 01's grammar A: S ::= S P | num, P ::= plus S.
@@ -101,13 +101,16 @@ fn a_report_on_a_forged_state_is_refused() {
 fn of_a_node() {
     let mut store = [0xFFFF, 0, 0xF000, 0];
     let unfit = write_node(&mut store, 0, Node::Sum { count: 1 << 28, nonterminal: 0 }).unwrap_err();
-    assert_eq!(text(unfit), "a value is unfit for a node at its position (refusal 10)");
+    assert_eq!(unfit.to_string(), "a value is unfit for a node at its position (refusal 10), at 0");
     let own_factor = write_node(&mut store, 1, Node::Product { action: 0, left: 1, right: None }).unwrap_err();
-    assert_eq!(own_factor, unfit);
+    assert_eq!((own_factor.refusal, own_factor.place), (Refusal::Unfit, 1));
     let no_room = write_node(&mut store, 4, Node::Evaluated { symbol: 0 }).unwrap_err();
-    assert_eq!(text(no_room), "the node does not fit the store from its position (refusal 11)");
-    assert_eq!(text(read_node(&store, 2).unwrap_err()), "the units at the position are no node (refusal 12)");
+    assert_eq!(no_room.to_string(), "the node does not fit the store from its position (refusal 11), at 4");
+    let no_node = RefusedAt { refusal: Refusal::NoNode, place: 2 };
+    assert_eq!(read_node(&store, 2), Err(no_node));
+    assert_eq!(no_node.to_string(), "the units at the position are no node (refusal 12), at 2");
     assert_eq!(store, [0xFFFF, 0, 0xF000, 0]);
     let walked = walk_nodes(&store, 0);
-    assert_eq!((walked.nodes, walked.behind, walked.answer), (1, 2, Err(Refusal::NoNode)));
+    assert_eq!((walked.nodes, walked.behind, walked.answer), (1, 2, Err(no_node)));
+    assert_eq!(read_node(&[0xFFFF, 0xA000, 1, 0x1000, 0], 0), Err(RefusedAt { refusal: Refusal::NoNode, place: 2 }));
 }

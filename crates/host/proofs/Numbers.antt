@@ -10,22 +10,24 @@ use Rattle.node.specs.declared.Written.{Written}
 use Rattle.node.specs.Writing.{StoreOutcome, writeAt}
 use Rattle.host.specs.declared.nodes.Told.{Told}
 use Rattle.host.specs.declared.nodes.Told.the-variants as told
-use Rattle.host.specs.Nodes.{numberIn, positionOr, numbersOr, countOr, toldBy, writeIn, writeTold}
+use Rattle.host.specs.Nodes.{numberIn, placeOr, positionOr, numbersOr, countOr, toldBy, writeIn, writeTold}
 
--- What a host's words get of an answer: its number, the position behind, and a node's numbers or a count of nodes.
+-- What a host's words get of an answer: its number, the position behind, the place of a refusal, and a node's numbers or a count of nodes.
 pub record Heard (word : ℕ) (a b : said.Answer) : Type 0 where
   pub number : numberIn a ≡ numberIn b
-  pub position : positionOr word a ≡ positionOr word b
-  pub numbers : (words : List ℕ) → numbersOr words a ≡ numbersOr words b
-  pub count : (w : ℕ) → countOr w a ≡ countOr w b
+  pub position : positionOr word (said.valuesOf a) ≡ positionOr word (said.valuesOf b)
+  pub place : (w : ℕ) → placeOr w a ≡ placeOr w b
+  pub numbers : (words : List ℕ) → numbersOr words (said.valuesOf a) ≡ numbersOr words (said.valuesOf b)
+  pub count : (w : ℕ) → countOr w (said.valuesOf a) ≡ countOr w (said.valuesOf b)
 
 pub heard : (word : ℕ) {a b : said.Answer} → a ≡ b → Heard word a b
 heard word e =
     record {
       number = ap numberIn e;
-      position = ap (positionOr word) e;
-      numbers = λ words. ap (numbersOr words) e;
-      count = λ w. ap (countOr w) e;
+      position = ap (λ (x : said.Answer). positionOr word (said.valuesOf x)) e;
+      place = λ w. ap (placeOr w) e;
+      numbers = λ words. ap (λ (x : said.Answer). numbersOr words (said.valuesOf x)) e;
+      count = λ w. ap (λ (x : said.Answer). countOr w (said.valuesOf x)) e;
     }
 
 -- A read, a walk and a write whose case is known.
@@ -41,21 +43,23 @@ module _ (store numbers : List ℕ) (p : ℕ) {t : Told} (e : t ≡ toldBy numbe
   unfolding writeTold
   writes-node k = ap (writeTold store p) (sym k) ∙ ap (writeTold store p) e
 
-  writes-none : t ≡ told.Nothing → record { answer = said.answer said.valueUnfit said.nothing; store = store } ≡ writeIn store p numbers
+  writes-none : t ≡ told.Nothing → record { answer = said.refused said.valueUnfit p said.nothing; store = store } ≡ writeIn store p numbers
   unfolding writeTold
   writes-none k = ap (writeTold store p) (sym k) ∙ ap (writeTold store p) e
 
 -- What a host's words and its store get of a write.
 pub record Wrote (word : ℕ) (a : said.Answer) (store : List ℕ) (o : StoreOutcome) : Type 0 where
   pub is-number : numberIn a ≡ numberIn (o .answer)
-  pub is-position : positionOr word a ≡ positionOr word (o .answer)
+  pub is-position : positionOr word (said.valuesOf a) ≡ positionOr word (said.valuesOf (o .answer))
+  pub is-place : (w : ℕ) → placeOr w a ≡ placeOr w (o .answer)
   pub is-store : store ≡ o .store
 
 wrote : (word : ℕ) {a : said.Answer} {left : List ℕ} {o : StoreOutcome} → record { answer = a; store = left } ≡ o → Wrote word a left o
 wrote word e =
     record {
       is-number = ap (λ (o : StoreOutcome). numberIn (o .answer)) e;
-      is-position = ap (λ (o : StoreOutcome). positionOr word (o .answer)) e;
+      is-position = ap (λ (o : StoreOutcome). positionOr word (said.valuesOf (o .answer))) e;
+      is-place = λ w. ap (λ (o : StoreOutcome). placeOr w (o .answer)) e;
       is-store = ap (λ (o : StoreOutcome). o .store) e;
     }
 
@@ -65,5 +69,5 @@ module _ (word : ℕ) (store numbers : List ℕ) (p : ℕ) {t : Told} (e : t ≡
   wrote-node {left = left} k w is =
       wrote word (sym (ap (λ (x : Written). record { answer = said.written x; store = left }) is) ∙ w ∙ writes-node store numbers p e k)
 
-  pub wrote-none : t ≡ told.Nothing → Wrote word (said.answer said.valueUnfit said.nothing) store (writeIn store p numbers)
+  pub wrote-none : t ≡ told.Nothing → Wrote word (said.refused said.valueUnfit p said.nothing) store (writeIn store p numbers)
   wrote-none k = wrote word (writes-none store numbers p e k)

@@ -8,7 +8,7 @@ use Rattle.node.specs.declared.Right.{Right}
 use Rattle.node.specs.declared.Right.the-variants.{At, Nothing}
 use Rattle.node.specs.declared.Node.{Node}
 use Rattle.node.specs.declared.Node.the-variants.{Sum, Product, NullingLeaf, Evaluated}
-use Rattle.node.specs.Answers.{Answer, answer, valueUnfit, nothing, position, node, end, nodes}
+use Rattle.node.specs.Answers.{Answer, Values, answer, refused, valueUnfit, nothing, position, node, end, nodes}
 use Rattle.node.specs.Writing.{StoreOutcome, writeAt}
 use Rattle.host.specs.declared.nodes.Told.{Told}
 use Rattle.host.specs.declared.nodes.Told.the-variants as told
@@ -50,10 +50,10 @@ toldBy numbers =
     (pick (eqb (getD numbers 0 0) nullingLeaf) (told.Node (NullingLeaf (getD numbers 1 0)))
     (pick (eqb (getD numbers 0 0) evaluated) (told.Node (Evaluated (getD numbers 1 0))) told.Nothing)))
 
--- Writing what five numbers tell. What is no node is unfit: 10.
+-- Writing what five numbers tell. What is no node is unfit: 10, with the position asked for.
 unfoldable pub writeTold : List ℕ → ℕ → Told → StoreOutcome
 writeTold store p (told.Node n) = writeAt store p n
-writeTold store p told.Nothing = record { answer = answer valueUnfit nothing; store = store }
+writeTold store p told.Nothing = record { answer = refused valueUnfit p nothing; store = store }
 
 abbrev pub writeIn : List ℕ → ℕ → List ℕ → StoreOutcome
 writeIn store p numbers = writeTold store p (toldBy numbers)
@@ -61,27 +61,33 @@ writeIn store p numbers = writeTold store p (toldBy numbers)
 -- The number of an answer.
 unfoldable pub numberIn : Answer → ℕ
 numberIn (answer number values) = number
+numberIn (refused number place values) = number
 
--- The position behind a node where the answer has one; else the word stays.
-unfoldable pub positionOr : ℕ → Answer → ℕ
-positionOr word (answer number (position q)) = q
-positionOr word (answer number (node n q)) = q
-positionOr word (answer number (nodes count q)) = q
-positionOr word (answer number nothing) = word
-positionOr word (answer number end) = word
+-- The place of a refusal; else the word stays.
+unfoldable pub placeOr : ℕ → Answer → ℕ
+placeOr word (answer number values) = word
+placeOr word (refused number place values) = place
 
--- The node's numbers where the answer has one; at the end the kind that stands for it; else the words stay.
-unfoldable pub numbersOr : List ℕ → Answer → List ℕ
-numbersOr words (answer number (node n q)) = numbersOf n
-numbersOr words (answer number end) = theEnd ∷ 0 ∷ 0 ∷ 0 ∷ 0 ∷ []
-numbersOr words (answer number nothing) = words
-numbersOr words (answer number (position q)) = words
-numbersOr words (answer number (nodes count q)) = words
+-- The position behind a node where the values have one; else the word stays.
+unfoldable pub positionOr : ℕ → Values → ℕ
+positionOr word (position q) = q
+positionOr word (node n q) = q
+positionOr word (nodes count q) = q
+positionOr word nothing = word
+positionOr word end = word
+
+-- The node's numbers where the values have one; at the end the kind that stands for it; else the words stay.
+unfoldable pub numbersOr : List ℕ → Values → List ℕ
+numbersOr words (node n q) = numbersOf n
+numbersOr words end = theEnd ∷ 0 ∷ 0 ∷ 0 ∷ 0 ∷ []
+numbersOr words nothing = words
+numbersOr words (position q) = words
+numbersOr words (nodes count q) = words
 
 -- The number of nodes that a walk read.
-unfoldable pub countOr : ℕ → Answer → ℕ
-countOr word (answer number (nodes count q)) = count
-countOr word (answer number nothing) = word
-countOr word (answer number (position q)) = word
-countOr word (answer number (node n q)) = word
-countOr word (answer number end) = word
+unfoldable pub countOr : ℕ → Values → ℕ
+countOr word (nodes count q) = count
+countOr word nothing = word
+countOr word (position q) = word
+countOr word (node n q) = word
+countOr word end = word

@@ -8,11 +8,12 @@ ghost use Rattle.demands.specs.Sentences.{TokenTells, RunTells, FinishedTells};
 ghost use Rattle.parse.specs.Words.{wordsOf};
 ghost use Rattle.reports.specs.Lists.{Lists, expectedTokens, latestText, latestWords, latestRecords};
 ghost use Rattle.reports.specs.Sentences.{ExpectedTells};
+ghost use Rattle.node.specs.Answers.{valuesOf};
 ghost use Rattle.node.specs.Reading.{readAt};
 ghost use Rattle.node.specs.Walking.{walkAt};
 ghost use Rattle.host.specs.Answers.{stateIn, outcomeIn, endedIn};
 ghost use Rattle.host.specs.Reports.{FinishesIn, ReportsIn, saysIn};
-ghost use Rattle.host.specs.Nodes.{writeIn, numberIn, positionOr, numbersOr, countOr};
+ghost use Rattle.host.specs.Nodes.{writeIn, numberIn, placeOr, positionOr, numbersOr, countOr};
 
 mod nodes;
 mod parse_words;
@@ -307,13 +308,17 @@ pub extern "C" fn brinesaddle_node_write(
     p: usize,
     node: &[u32; 5],
     behind: &mut usize,
+    place: &mut usize,
 ) -> u32
     ensures number { λ r. ⌜ r ≡ numberIn (writeIn (now (store .entry)) p (now (node .entry)) .answer) ⌝ }
     ensures behind { λ _. ⌜ now (behind .exit) ≡ positionOr (now (behind .entry))
+        (valuesOf (writeIn (now (store .entry)) p (now (node .entry)) .answer)) ⌝ }
+    ensures place { λ _. ⌜ now (place .exit) ≡ placeOr (now (place .entry))
         (writeIn (now (store .entry)) p (now (node .entry)) .answer) ⌝ }
     ensures store { λ _. ⌜ now (store .exit) ≡ writeIn (now (store .entry)) p (now (node .entry)) .store ⌝ }
 {
     let Told::Node(n) = node_of(node) else {
+        *place = p;
         return 10;
     };
     match node::write(store, p, n) {
@@ -321,8 +326,14 @@ pub extern "C" fn brinesaddle_node_write(
             *behind = q;
             0
         }
-        Written::Unfit => 10,
-        Written::NoRoom => 11,
+        Written::Unfit(asked) => {
+            *place = asked;
+            10
+        }
+        Written::NoRoom(asked) => {
+            *place = asked;
+            11
+        }
     }
 }
 
@@ -333,10 +344,12 @@ pub extern "C" fn brinesaddle_node_read(
     p: usize,
     node: &mut [u32; 5],
     behind: &mut usize,
+    place: &mut usize,
 ) -> u32
     ensures number { λ r. ⌜ r ≡ numberIn (readAt (now (store .entry)) p) ⌝ }
-    ensures node { λ _. ⌜ now (node .exit) ≡ numbersOr (now (node .entry)) (readAt (now (store .entry)) p) ⌝ }
-    ensures behind { λ _. ⌜ now (behind .exit) ≡ positionOr (now (behind .entry)) (readAt (now (store .entry)) p) ⌝ }
+    ensures node { λ _. ⌜ now (node .exit) ≡ numbersOr (now (node .entry)) (valuesOf (readAt (now (store .entry)) p)) ⌝ }
+    ensures behind { λ _. ⌜ now (behind .exit) ≡ positionOr (now (behind .entry)) (valuesOf (readAt (now (store .entry)) p)) ⌝ }
+    ensures place { λ _. ⌜ now (place .exit) ≡ placeOr (now (place .entry)) (readAt (now (store .entry)) p) ⌝ }
 {
     match node::read(store, p) {
         Found::Whole(n, q) => {
@@ -348,7 +361,10 @@ pub extern "C" fn brinesaddle_node_read(
             *node = [4, 0, 0, 0, 0];
             0
         }
-        Found::NoNode => 12,
+        Found::NoNode(unit) => {
+            *place = unit;
+            12
+        }
     }
 }
 
@@ -359,10 +375,12 @@ pub extern "C" fn brinesaddle_node_walk(
     p: usize,
     count: &mut usize,
     behind: &mut usize,
+    place: &mut usize,
 ) -> u32
     ensures number { λ r. ⌜ r ≡ numberIn (walkAt (now (store .entry)) p) ⌝ }
-    ensures count { λ _. ⌜ now (count .exit) ≡ countOr (now (count .entry)) (walkAt (now (store .entry)) p) ⌝ }
-    ensures behind { λ _. ⌜ now (behind .exit) ≡ positionOr (now (behind .entry)) (walkAt (now (store .entry)) p) ⌝ }
+    ensures count { λ _. ⌜ now (count .exit) ≡ countOr (now (count .entry)) (valuesOf (walkAt (now (store .entry)) p)) ⌝ }
+    ensures behind { λ _. ⌜ now (behind .exit) ≡ positionOr (now (behind .entry)) (valuesOf (walkAt (now (store .entry)) p)) ⌝ }
+    ensures place { λ _. ⌜ now (place .exit) ≡ placeOr (now (place .entry)) (walkAt (now (store .entry)) p) ⌝ }
 {
     match node::walk(store, p) {
         Walked::ToEnd(nodes, q) => {
@@ -370,9 +388,10 @@ pub extern "C" fn brinesaddle_node_walk(
             *behind = q;
             0
         }
-        Walked::ToFault(nodes, q) => {
+        Walked::ToFault(nodes, q, unit) => {
             *count = nodes;
             *behind = q;
+            *place = unit;
             12
         }
     }

@@ -9,7 +9,7 @@ use lib.ListN.{length, getD, drop, length-drop}
 use lib.Seq.{getD-drop}
 use lib.Dec.{eqb}
 use Rattle.node.specs.Rows.{unitsAt}
-use Rattle.node.specs.Answers.{Answer, answer, done, node, position, nothing, end, nodes}
+use Rattle.node.specs.Answers.{Answer, answer, refused, valuesOf, done, node, position, nothing, end, nodes}
 use Rattle.node.specs.Writing.{usable, writeAt}
 use Rattle.node.specs.Reading.{filler, fillers, headFrom, stand, readUnits, readAt}
 use Rattle.node.specs.Walking.{goOn, walkOn, walkFrom, walkAt}
@@ -170,9 +170,9 @@ record After (t : List ℕ) (p c k q b : ℕ) : Type 0 where
   rises : p ≤ q
   walks : walkFrom (usable t) p c ≡ walkFrom (usable t) b (k + 1)
 
-module _ (s t : List ℕ) (q : ℕ) (n : Node) (b m k : ℕ) (w : writeAt s q n ≡ record { answer = answer done (position b); store = t }) where
-  after-here : (p c number : ℕ) → answer number (nodes c p) ≡ answer m (nodes k q) → After t p c k q b
-  after-here p c number e =
+module _ (s t : List ℕ) (q : ℕ) (n : Node) (b k : ℕ) (w : writeAt s q n ≡ record { answer = answer done (position b); store = t }) where
+  after-here : (p c : ℕ) → nodes c p ≡ nodes k q → After t p c k q b
+  after-here p c e =
       let at : p ≡ q = cc in
       let counted : c ≡ k = cc in
       record {
@@ -182,8 +182,8 @@ module _ (s t : List ℕ) (q : ℕ) (n : Node) (b m k : ℕ) (w : writeAt s q n 
       }
 
   after-step :
-      (p c : ℕ) (f : ℕ → Answer) (r : Answer) → readUnits (usable s) p ≡ r → goOn r f c p ≡ answer m (nodes k q)
-      → ((x : ℕ) → f x ≡ answer m (nodes k q) → After t x (c + 1) k q b) → After t p c k q b
+      (p c : ℕ) (f : ℕ → Answer) (r : Answer) → readUnits (usable s) p ≡ r → valuesOf (goOn r f c p) ≡ nodes k q
+      → ((x : ℕ) → valuesOf (f x) ≡ nodes k q → After t x (c + 1) k q b) → After t p c k q b
   after-step p c f (answer number (node l x)) e walked rest =
       let a : After t x (c + 1) k q b = rest x walked in
       let o : Onward (usable s) p x = read-onward (usable s) p l x e in
@@ -192,17 +192,19 @@ module _ (s t : List ℕ) (q : ℕ) (n : Node) (b m k : ℕ) (w : writeAt s q n 
         rises = omega (arith, o .onward, a .rises);
         walks = walk-node (usable t) p l x c (read-keeps s p l x q n b t is (a .rises) w) ∙ a .walks;
       }
-  after-step p c f (answer number nothing) e walked rest = after-here p c number walked
-  after-step p c f (answer number (position x)) e walked rest = after-here p c number walked
-  after-step p c f (answer number end) e walked rest = after-here p c number walked
-  after-step p c f (answer number (nodes j x)) e walked rest = after-here p c number walked
+  after-step p c f (answer number nothing) e walked rest = after-here p c walked
+  after-step p c f (answer number (position x)) e walked rest = after-here p c walked
+  after-step p c f (answer number end) e walked rest = after-here p c walked
+  after-step p c f (answer number (nodes j x)) e walked rest = after-here p c walked
+  after-step p c f (refused number place values) e walked rest = after-here p c walked
 
-  after-write : (reads p c : ℕ) → walkOn reads (usable s) p c ≡ answer m (nodes k q) → After t p c k q b
+  after-write : (reads p c : ℕ) → valuesOf (walkOn reads (usable s) p c) ≡ nodes k q → After t p c k q b
   unfolding walkOn
-  after-write zero p c e = after-here p c done e
+  after-write zero p c e = after-here p c e
   after-write (suc reads) p c e =
       after-step p c (λ x. walkOn reads (usable s) x (c + 1)) (readUnits (usable s) p) refl e (λ x h. after-write reads x (c + 1) h)
 
-  -- After a write where a walk ended, the walk from before reads on: it counts one more, and goes on behind the node that was written.
-  pub walk-then-write : (p : ℕ) → walkAt s p ≡ answer m (nodes k q) → walkAt t p ≡ walkFrom (usable t) b (k + 1)
+  -- After a write where a walk ended, at the end or at a fault, the walk from before reads on: it counts one more, and goes on behind the
+  -- node that was written.
+  pub walk-then-write : (p : ℕ) → valuesOf (walkAt s p) ≡ nodes k q → walkAt t p ≡ walkFrom (usable t) b (k + 1)
   walk-then-write p e = after-write (suc (length (usable s))) p 0 e .walks

@@ -1,26 +1,26 @@
--- A longer form where a shorter was due is 12.
+-- A longer form where a shorter was due is 12, seen at its head.
 use Prim.Native.Nat.{ℕ, _+_, _*_, _<_}
-use mathlib.Core.Path.{_≡_, refl, sym, subst, _∙_}
+use mathlib.Core.Path.{_≡_, refl, sym, ap, subst, _∙_}
 use mathlib.Core.Bool.{Bool, true, false}
 use mathlib.Core.List.{List, [], _∷_}
 use native.Mathlib.Omega.{arith}
 use lib.ListN.{length, getD}
-use borrow.Author.Tests.{lt-ltb, lt-leb, ne-eqb}
-use Rattle.node.specs.Choice.{both, bothBelow}
-use Rattle.node.specs.Rows.{unitsOf, unitsAt, listOf, rowOf, sumRow, aloneRow, pairRow, productRow, longProduct, leafRow}
-use Rattle.node.specs.Rows.{unfit, unfitRight, unfitProduct, distance, low, high, allOnes, countLimit, actionLimit}
-use Rattle.node.specs.Answers.{answer, noNode, nothing}
-use Rattle.node.specs.Reading.{filler, headFrom, standAll, stand, spelt, readUnits}
+use borrow.Author.Tests.{ne-eqb}
+use Rattle.node.specs.Choice.{bothBelow}
+use Rattle.node.specs.Rows.{unitsAt, listOf, longProduct, distance, low, high, allOnes}
+use Rattle.node.specs.Answers.{refused, noNode, nothing}
+use Rattle.node.specs.Reading.{filler, headFrom, stand, spelt, headRight, readUnits}
 use Rattle.node.specs.declared.Right.the-variants.{At, Nothing}
 use Rattle.node.specs.declared.Node.{Node}
 use Rattle.node.specs.declared.Node.the-variants.{Sum, Product, NullingLeaf, Evaluated}
 use Rattle.node.specs.declared.Spelt.the-variants.{Like}
 use Rattle.node.proofs.Choices.{BothBelow, below}
-use Rattle.node.proofs.Fit.{product-fit, right-fit}
+use Rattle.node.proofs.Due.{due-sum, due-short, due-middle, due-pair, due-evaluated, due-nulling}
+use Rattle.node.proofs.Lowest.{other-head}
 use Rattle.node.proofs.Fillers.{head-here}
 use Rattle.node.proofs.Stands as S
 use Rattle.node.proofs.Spells as Sp
-use Rattle.node.proofs.Exact.{reads-exactly}
+use Rattle.node.proofs.Exact.{read-head-fault}
 
 -- Units of a row that comes behind one that fits, in the table's order: the longest Sum; the Product of two units and the longest
 -- Product, without and with a right factor; the leaves of four units.
@@ -37,70 +37,20 @@ pub data Longer (p : ℕ) : Node → List ℕ → Type 0 where
   evaluated : {symbol : ℕ} → symbol < 4096 → Longer p (Evaluated symbol) (0xA000 ∷ 0 ∷ low symbol ∷ high symbol ∷ [])
   nulling : {symbol : ℕ} → symbol < 4096 → Longer p (NullingLeaf symbol) (0xA001 ∷ 0 ∷ low symbol ∷ high symbol ∷ [])
 
--- The row that was due.
-due-sum : (p c n : ℕ) → c < 32 → n < 256 → unitsAt p (Sum c n) ≡ (c * 256 + n) ∷ []
-unfolding unitsOf unfit rowOf sumRow bothBelow
-due-sum p c n hc hn = simp (lt-leb countLimit c (omega arith), lt-ltb c 32 hc, lt-ltb n 256 hn)
-
-fit-alone : (p a l : ℕ) → l < p → a < 65536 → unfitProduct p a l Nothing ≡ false
-unfolding unfitRight
-fit-alone p a l before ha = product-fit (record { action-small = omega arith; left-before = before; right-fit = refl })
-
-due-short :
-    (p a l : ℕ) → l < p → distance p l < 32 → a < 256 → unitsAt p (Product a l Nothing) ≡ (0x2000 + distance p l * 256 + a) ∷ []
-unfolding unitsOf unfit rowOf productRow aloneRow bothBelow
-due-short p a l before hl ha = simp (fit-alone p a l before (omega arith), lt-ltb (distance p l) 32 hl, lt-ltb a 256 ha)
-
-due-middle :
-    (p a l : ℕ) → l < p → bothBelow (distance p l) 32 a 256 ≡ false → distance p l < 8192 → a < 65536
-    → unitsAt p (Product a l Nothing) ≡ (0x4000 + distance p l) ∷ a ∷ []
-unfolding unitsOf unfit rowOf productRow aloneRow
-due-middle p a l before no-short hl ha =
-    rw (fit-alone p a l before ha, no-short) (unfold bothBelow in simp (lt-ltb (distance p l) 8192 hl, lt-ltb a 65536 ha))
-
-due-pair :
-    (p a l r : ℕ) → l < p → r < p → distance p r < 32 → distance p l < 256 → a < 65536 → (r ≡ allOnes → ⊥)
-    → unitsAt p (Product a l (At r)) ≡ (0x6000 + distance p r * 256 + distance p l) ∷ a ∷ []
-unfolding unitsOf unfit rowOf productRow pairRow bothBelow
-due-pair p a l r left-before right-before hr hl ha present =
-    let fit : unfitProduct p a l (At r) ≡ false =
-    product-fit (record {
-      action-small = omega arith;
-      left-before = left-before;
-      right-fit = right-fit right-before (ne-eqb r allOnes present);
-    }) in
-    simp (
-      fit,
-      lt-ltb a 65536 ha,
-      lt-ltb (distance p r) 32 hr,
-      lt-ltb (distance p l) 256 hl,
-    )
-
-due-evaluated : (p n : ℕ) → n < 4096 → unitsAt p (Evaluated n) ≡ (0x8000 + n) ∷ []
-unfolding unitsOf unfit rowOf leafRow
-due-evaluated p n h = simp (lt-ltb n 4096 h)
-
-due-nulling : (p n : ℕ) → n < 4096 → unitsAt p (NullingLeaf n) ≡ (0x9000 + n) ∷ []
-unfolding unitsOf unfit rowOf leafRow
-due-nulling p n h = simp (lt-ltb n 4096 h)
-
--- Units that spell a node and begin otherwise than its own are 12.
+-- Units that spell a node and begin otherwise than its own are 12, seen at the head.
 not-own :
     (s : List ℕ) (p x : ℕ) (n : Node) (u : ℕ) (us : List ℕ) → p < length s → getD s p 0 ≡ x → (x ≡ filler → ⊥) → spelt s p ≡ Like n
-    → unitsAt p n ≡ u ∷ us → (x ≡ u → ⊥) → readUnits s p ≡ answer noNode nothing
-unfolding stand
+    → unitsAt p n ≡ u ∷ us → (x ≡ u → ⊥) → readUnits s p ≡ refused noNode p nothing
 not-own s p x n u us before is no-filler like own other =
     let at : headFrom s p ≡ p = head-here s p before (λ e. no-filler (sym is ∙ e)) in
-    reads-exactly s p .fault (omega (arith, at)) (λ m st.
-    let here : stand s p (unitsAt p m) ≡ true = subst (λ h. stand s h (unitsAt h m) ≡ true) at st in
-    let both : Like n ≡ Like m = sym like ∙ Sp.units-spell s p m here in
-    let same : n ≡ m = cc in
-    let own-stands : standAll s p (u ∷ us) ≡ true =
-    subst (λ l. stand s p l ≡ true) own (subst (λ k. stand s p (unitsAt p k) ≡ true) (sym same) here) in
-    other (sym is ∙ S.first-stands s p u us own-stands .first .there))
+    read-head-fault s p n (omega (arith, at))
+    (subst (λ h. spelt s h ≡ Like n) (sym at) like)
+    (subst (λ h. headRight s h (unitsAt h n) ≡ false) (sym at)
+    (ap (headRight s p) own ∙ other-head s p u us (λ e. other (sym is ∙ e))))
+    ∙ ap (λ h. refused noNode h nothing) at
 
 pub longer-is-12 :
-    (s : List ℕ) (p : ℕ) {n : Node} {us : List ℕ} → Longer p n us → stand s p us ≡ true → readUnits s p ≡ answer noNode nothing
+    (s : List ℕ) (p : ℕ) {n : Node} {us : List ℕ} → Longer p n us → stand s p us ≡ true → readUnits s p ≡ refused noNode p nothing
 unfolding stand longProduct
 longer-is-12 s p (sum {count = c} {nonterminal = n} hc hn) st =
     let f : S.Four s p (0xE000 + high c) (low c) (high n * 65536 + low n) = S.four-stand s p _ _ _ _ _ st in
@@ -121,7 +71,7 @@ longer-is-12 s p (alone {action = a} {left = l} before hl ha) st = on (bothBelow
     begins : getD s p 0 ≡ 0xC000 + high a
     begins = S.first-stands s p _ _ st .first .there
 
-    on : (t : Bool) → bothBelow (distance p l) 32 a 256 ≡ t → readUnits s p ≡ answer noNode nothing
+    on : (t : Bool) → bothBelow (distance p l) 32 a 256 ≡ t → readUnits s p ≡ refused noNode p nothing
     on true e =
         let b : BothBelow (distance p l) 32 a 256 = below (sym e) refl in
         not-own s p (0xC000 + high a) (Product a l Nothing) _ _ (S.first-stands s p _ _ st .first .within) begins (λ e. omega (

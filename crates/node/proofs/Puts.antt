@@ -1,15 +1,18 @@
 -- A store after units were put into it.
 use Prim.Native.Nat.{ℕ, zero, suc, _+_, _≤_, _<_, min}
 use mathlib.Core.Path.{_≡_, refl, sym, ap, _∙_}
-use mathlib.Core.Bool.{true}
+use mathlib.Core.Bool.{Bool, true, false}
 use mathlib.Core.List.{List, [], _∷_}
 use native.Mathlib.Nat.{add-zero}
 use native.Mathlib.Omega.{arith}
-use lib.ListN.{length, getD, set, length-set}
+use lib.ListN.{length, getD, set, length-set, List·getD-eq-default}
+use lib.Dec.{ltb}
+use borrow.Author.Tests.{ltb-true, ltb-false}
 use lib.Seq.{getD-set-same, getD-set-other, getD-take, set-getD}
 use Rattle.node.specs.Writing.{usable, usableUnits, put}
 use Rattle.node.specs.Reading.{standAll}
 use Rattle.node.proofs.Runs.{length-put, length-usable}
+use Rattle.node.proofs.Almost.{Narrow}
 use Rattle.node.proofs.Stands.{First, first-stands, all-stand}
 
 -- Below the position no unit changes, nor behind the units put.
@@ -44,6 +47,16 @@ put-there s p (u ∷ us) fits (suc k) h =
 -- A unit of the store is a unit of its usable part.
 pub usable-unit : (s : List ℕ) (i : ℕ) → i < usableUnits → getD (usable s) i 0 ≡ getD s i 0
 usable-unit s i h = getD-take usableUnits s i 0 h
+
+-- What fits every unit of the store fits every unit of its usable part.
+pub usable-narrow : (s : List ℕ) → Narrow s → Narrow (usable s)
+usable-narrow s narrow = record { fits = λ i. on i (ltb i usableUnits) refl }
+  where
+    on : (i : ℕ) (t : Bool) → ltb i usableUnits ≡ t → getD (usable s) i 0 < 65536
+    on i true e = omega (arith, usable-unit s i (ltb-true i usableUnits e), narrow .fits i)
+    on i false e =
+        let past : length (usable s) ≤ i = omega (arith, length-usable s, ltb-false i usableUnits e) in
+        omega (arith, List·getD-eq-default (usable s) 0 past)
 
 -- So the units put stand there.
 pub put-stands :

@@ -10,7 +10,7 @@ use lib.Dec.{leb}
 use borrow.Author.Tests.{leb-true}
 use Rattle.node.specs.Choice.{pick}
 use Rattle.node.specs.Rows.{unitsOf, unitsAt, listOf, unfit, rowOf, countLimit}
-use Rattle.node.specs.Answers.{Answer, answer, done, valueUnfit, outOfRoom, node, position, nothing}
+use Rattle.node.specs.Answers.{Answer, answer, refused, done, valueUnfit, outOfRoom, node, position, nothing}
 use Rattle.node.specs.Writing.{StoreOutcome, usable, usableUnits, put, place, writeUnits, writeAt}
 use Rattle.node.specs.Reading.{filler, headFrom, standAll, stand, speltBy, longSpelt, valueAt, readUnits, readAt}
 use Rattle.node.specs.declared.Node.{Node}
@@ -70,14 +70,14 @@ pub did-write :
     → writeUnits s p us ≡ record { answer = answer done (position b); store = t } → Wrote s p us b t
 unfolding writeUnits place
 did-write s p [] b t e =
-    let z : _≡_ {A = Answer} (answer valueUnfit nothing) (answer done (position b)) = ap (λ o. o .answer) e in
+    let z : _≡_ {A = Answer} (refused valueUnfit p nothing) (answer done (position b)) = ap (λ o. o .answer) e in
     let y : _≡_ {A = ℕ} 0 1 = cc in absurd (omega arith)
 did-write s p (u ∷ us) b t e = on (leb (p + suc (length us)) (length (usable s))) refl e
   where
     on : (c : Bool) → leb (p + suc (length us)) (length (usable s)) ≡ c
         → _≡_ {A = StoreOutcome}
         (pick c (record { answer = answer done (position (p + suc (length us))); store = put s p (u ∷ us) })
-        (record { answer = answer outOfRoom nothing; store = s }))
+        (record { answer = refused outOfRoom p nothing; store = s }))
         (record { answer = answer done (position b); store = t })
         → Wrote s p (u ∷ us) b t
     on true c e =
@@ -91,7 +91,7 @@ did-write s p (u ∷ us) b t e = on (leb (p + suc (length us)) (length (usable s
           left = sym y;
         }
     on false c e =
-        let z : _≡_ {A = Answer} (answer outOfRoom nothing) (answer done (position b)) = ap (λ o. o .answer) e in
+        let z : _≡_ {A = Answer} (refused outOfRoom p nothing) (answer done (position b)) = ap (λ o. o .answer) e in
         let y : _≡_ {A = ℕ} 0 1 = cc in absurd (omega arith)
 
 -- Units of which there is one at least stand as units and as a node.

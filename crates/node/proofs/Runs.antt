@@ -11,7 +11,7 @@ use lib.ListN.{length, set, take, length-set, length-take}
 use lib.Seq.{take-all}
 use Rattle.node.specs.Choice.{both}
 use Rattle.node.specs.Rows.{listOf}
-use Rattle.node.specs.Answers.{answer, done, valueUnfit, outOfRoom, nothing, position}
+use Rattle.node.specs.Answers.{answer, refused, done, valueUnfit, outOfRoom, nothing, position}
 use Rattle.node.specs.Writing.{StoreOutcome, usable, usableUnits, put, place, writeUnits}
 use Rattle.node.specs.Reading.{holds, standAll, stand}
 use Rattle.node.specs.declared.Units.{Units}
@@ -73,7 +73,7 @@ length-put s p (u ∷ us) = length-put (set s p u) (p + 1) us ∙ length-set s p
 -- A node with no units is unfit; one with units is placed.
 pub write-none :
     (s :
-    List ℕ) (p : ℕ) (us : List ℕ) → length us ≡ 0 → writeUnits s p us ≡ record { answer = answer valueUnfit nothing; store = s }
+    List ℕ) (p : ℕ) (us : List ℕ) → length us ≡ 0 → writeUnits s p us ≡ record { answer = refused valueUnfit p nothing; store = s }
 unfolding writeUnits
 write-none s p [] e = refl
 write-none s p (u ∷ us) e = absurd (omega (arith, e))
@@ -107,7 +107,7 @@ place-done s p us fits = rw (le-leb (p + length us) (length (usable s)) (omega (
 
 pub place-full :
     (s : List ℕ) (p : ℕ) (us : List ℕ) → min usableUnits (length s) < p + length us
-    → place s p us ≡ record { answer = answer outOfRoom nothing; store = s }
+    → place s p us ≡ record { answer = refused outOfRoom p nothing; store = s }
 unfolding place
 place-full s p us full = rw (lt-leb (p + length us) (length (usable s)) (omega (arith, length-usable s)))
 
@@ -120,7 +120,7 @@ wrote s p us w left some is fits put-is =
 
 pub not-wrote :
     (s : List ℕ) (p : ℕ) (us : List ℕ) (w : ℕ) → (w ≡ 0 → ⊥) → w ≡ length us → min usableUnits (length s) < p + w
-    → _≡_ {A = StoreOutcome} (record { answer = answer outOfRoom nothing; store = s }) (writeUnits s p us)
+    → _≡_ {A = StoreOutcome} (record { answer = refused outOfRoom p nothing; store = s }) (writeUnits s p us)
 not-wrote s p us w some is full =
     sym (write-some s p us (λ z. some (is ∙ z)) ∙ place-full s p us (omega (arith, full, is)))
 

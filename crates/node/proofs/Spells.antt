@@ -1,12 +1,12 @@
 -- The reader's table undoes the writer's: the units of a node, where they stand, spell that node.
-use Prim.Native.Nat.{ℕ, _+_, _-_, _*_, _/_, _%_, _≤_, _<_}
+use Prim.Native.Nat.{ℕ, _+_, _-_, _*_, _/_, _%_, _<_}
 use mathlib.Core.Path.{_≡_, refl, sym, ap, _∙_}
 use mathlib.Core.Bool.{Bool, true, false}
 use mathlib.Core.List.{List, [], _∷_}
 use native.Mathlib.Omega.{arith}
 use lib.ListN.{getD}
-use lib.Dec.{ltb, leb, eqb}
-use borrow.Author.Tests.{lt-ltb, le-ltb, le-leb, leb-true, ltb-true}
+use lib.Dec.{ltb, eqb}
+use borrow.Author.Tests.{lt-ltb, le-ltb, le-leb, ltb-true}
 use Rattle.node.specs.Choice.{pick, both, bothBelow}
 use Rattle.node.specs.Rows.{distance, unitsOf, unitsAt, listOf, rowOf, sumRow, longProduct, aloneRow, pairRow, productRow}
 use Rattle.node.specs.Rows.{leafRow, unfit, low, high, allOnes, countLimit, actionLimit}
@@ -62,7 +62,7 @@ module _ (s : List ℕ) (q x : ℕ) where
         back,
       )
 
-  short-pair :
+  pub short-pair :
       (r l a f g : ℕ) → r < 32 → l < 256 → x ≡ 0x6000 + r * 256 + l → getD s (q + 1) 0 ≡ a → factorAt q l ≡ At f
       → factorAt q r ≡ At g
       → speltBy s q x ≡ Like (Product a f (At g))

@@ -4,7 +4,7 @@ use mathlib.Core.Path.{_≡_, refl, ap, _∙_}
 use mathlib.Core.List.{List}
 use native.Mathlib.Omega.{arith}
 use lib.ListN.{length}
-use Rattle.node.specs.Answers.{Answer, answer, done, noNode, node, end, nothing, position, nodes}
+use Rattle.node.specs.Answers.{Answer, answer, refused, done, noNode, node, end, nothing, position, nodes}
 use Rattle.node.specs.Reading.{readUnits}
 use Rattle.node.specs.Walking.{goOn, walkOn, walkFrom}
 use Rattle.node.specs.declared.Node.{Node}
@@ -19,6 +19,7 @@ same-onward s p count (answer number nothing) f g e same = refl
 same-onward s p count (answer number (position q)) f g e same = refl
 same-onward s p count (answer number end) f g e same = refl
 same-onward s p count (answer number (nodes k q)) f g e same = refl
+same-onward s p count (refused number place values) f g e same = refl
 
 -- More reads than there are units from p on change nothing.
 pub enough :
@@ -43,12 +44,13 @@ walk-node s p n q count e =
     ∙ enough (length s) (suc (length s)) s q (count + 1) (omega (arith, o .onward)) (omega (arith, o .onward))
     (omega (arith, o .onward, o .inside)) (omega arith)
 
--- At the end the walk stops with 0, at what is no node with 12.
+-- At the end the walk stops with 0, at what is no node with 12 and its unit.
 pub walk-end : (s : List ℕ) (p count : ℕ) → readUnits s p ≡ answer done end → walkFrom s p count ≡ answer done (nodes count p)
 unfolding walkOn
 walk-end s p count e = ap (λ r. goOn r (λ b. walkOn (length s) s b (count + 1)) count p) e
 
 pub walk-fault :
-    (s : List ℕ) (p count : ℕ) → readUnits s p ≡ answer noNode nothing → walkFrom s p count ≡ answer noNode (nodes count p)
+    (s : List ℕ) (p count unit : ℕ) → readUnits s p ≡ refused noNode unit nothing
+    → walkFrom s p count ≡ refused noNode unit (nodes count p)
 unfolding walkOn
-walk-fault s p count e = ap (λ r. goOn r (λ b. walkOn (length s) s b (count + 1)) count p) e
+walk-fault s p count unit e = ap (λ r. goOn r (λ b. walkOn (length s) s b (count + 1)) count p) e

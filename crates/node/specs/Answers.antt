@@ -1,4 +1,4 @@
--- Answers: document 01's number, and the values that come with it, for each case of the enums that the calls return.
+-- Answers: document 01's number, the values that come with it, and the place of a refusal, for each case of the enums that the calls return.
 use Prim.Native.Nat.{ℕ}
 use Rattle.node.specs.declared.Node.{Node}
 use Rattle.node.specs.declared.Written.{Written}
@@ -29,19 +29,25 @@ pub data Values : Type 0 where
   end : Values
   nodes : ℕ → ℕ → Values
 
+-- A refusal has a place: with 10 and 11 the position asked for, with 12 the unit at which the fault was seen.
 pub data Answer : Type 0 where
   answer : ℕ → Values → Answer
+  refused : ℕ → ℕ → Values → Answer
+
+abbrev pub valuesOf : Answer → Values
+valuesOf (answer number values) = values
+valuesOf (refused number place values) = values
 
 abbrev pub written : Written → Answer
 written (Behind q) = answer done (position q)
-written Unfit = answer valueUnfit nothing
-written NoRoom = answer outOfRoom nothing
+written (Unfit p) = refused valueUnfit p nothing
+written (NoRoom p) = refused outOfRoom p nothing
 
 abbrev pub found : Found → Answer
 found (Whole n q) = answer done (node n q)
 found End = answer done end
-found NoNode = answer noNode nothing
+found (NoNode unit) = refused noNode unit nothing
 
 abbrev pub walked : Walked → Answer
 walked (ToEnd count q) = answer done (nodes count q)
-walked (ToFault count q) = answer noNode (nodes count q)
+walked (ToFault count q unit) = refused noNode unit (nodes count q)

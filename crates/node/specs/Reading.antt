@@ -1,13 +1,13 @@
 -- Reading one node: fillers are skipped, then the node stands there whose units, written at that very position, are the units there.
-use Prim.Native.Nat.{ℕ, suc, _+_, _-_, _*_, _/_, _%_, _≤_, _<_}
+use Prim.Native.Nat.{ℕ, suc, _+_, _-_, _*_, _/_, _%_, _≤_, _<_, min}
 use mathlib.Core.Path.{_≡_}
 use mathlib.Core.Bool.{Bool, true, false}
-use mathlib.Core.List.{List, [], _∷_}
-use lib.ListN.{length, getD, drop}
+use mathlib.Core.List.{List, [], _∷_, _++_}
+use lib.ListN.{length, getD, drop, set}
 use lib.Dec.{ltb, leb, eqb}
 use Rattle.node.specs.Choice.{pick, both}
 use Rattle.node.specs.Rows.{unitsAt, allOnes}
-use Rattle.node.specs.Answers.{Answer, answer, done, noNode, node, end, nothing}
+use Rattle.node.specs.Answers.{Answer, answer, refused, done, noNode, node, end, nothing}
 use Rattle.node.specs.Writing.{usable}
 use Rattle.node.specs.declared.Right.{Right}
 use Rattle.node.specs.declared.Right.the-variants.{At, Nothing}
@@ -95,12 +95,37 @@ speltBy s q head = pick (ltb head 0x8000) (nearSpelt s q head) (pick (ltb head 0
 abbrev pub spelt : List ℕ → ℕ → Spelt
 spelt s q = speltBy s q (getD s q 0)
 
--- 12 where the units that the spelt node has at q are not the units there: a cut off node, a longer form where a shorter was due, an
--- unfit value, a unit that is not zero where zero is due.
+-- The head of a node's own units stands at q. An unfit node has no units; a node in a longer form than was due has another head.
+unfoldable pub headStands : List ℕ → ℕ → List ℕ → Bool
+headStands s q [] = false
+headStands s q (u ∷ us) = holds s q u
+
+-- Form, distance and length are right at q: the node's own head stands there, and the store has room for all its units.
+unfoldable pub headRight : List ℕ → ℕ → List ℕ → Bool
+headRight s q us = both (headStands s q us) (leb (q + length us) (length s))
+
+-- The units from q on that are not zero where zero is due.
+unfoldable pub notZero : List ℕ → ℕ → List ℕ → List ℕ
+notZero s q [] = []
+notZero s q (u ∷ us) = pick (both (eqb u 0) (ltb 0 (getD s q 0))) (q ∷ notZero s (q + 1) us) (notZero s (q + 1) us)
+
+-- The units at which a fault is seen: the head for a wrong form, distance or length; each unit that is not zero where zero is due.
+unfoldable pub faults : List ℕ → ℕ → Spelt → List ℕ
+faults s q (Like n) = pick (headRight s q (unitsAt q n)) [] (q ∷ []) ++ notZero s q (unitsAt q n)
+faults s q Unknown = q ∷ []
+
+-- For several faults the lowest unit counts.
+unfoldable pub lowest : List ℕ → ℕ
+lowest [] = 0
+lowest (u ∷ []) = u
+lowest (u ∷ v ∷ us) = min u (lowest (v ∷ us))
+
+-- 12 where the units that the spelt node has at q are not the units there.
 unfoldable pub takeNode : List ℕ → ℕ → Spelt → Answer
 takeNode s q (Like n) =
-    pick (stand s q (unitsAt q n)) (answer done (node n (q + length (unitsAt q n)))) (answer noNode nothing)
-takeNode s q Unknown = answer noNode nothing
+    pick (stand s q (unitsAt q n)) (answer done (node n (q + length (unitsAt q n))))
+    (refused noNode (lowest (faults s q (Like n))) nothing)
+takeNode s q Unknown = refused noNode (lowest (faults s q Unknown)) nothing
 
 unfoldable pub readHere : List ℕ → ℕ → Answer
 readHere s q = takeNode s q (spelt s q)
@@ -112,12 +137,24 @@ readUnits s p = pick (ltb (headFrom s p) (length s)) (readHere s (headFrom s p))
 abbrev pub readAt : List ℕ → ℕ → Answer
 readAt store p = readUnits (usable store) p
 
+-- No node's units stand at q.
+abbrev pub NoNodeAt : List ℕ → ℕ → Type 0
+NoNodeAt s q = (n : Node) → stand s q (unitsAt q n) ≡ true → ⊥
+
+-- The store with a zero in the unit behind q.
+abbrev pub zeroBehind : List ℕ → ℕ → List ℕ
+zeroBehind s q = set s (q + 1) 0
+
 -- The reader takes exactly what the writer writes: behind the fillers stands a node where that node's units, written at that very
--- position, are the units there. Where no node's are, the answer is 12, and where no unit is left, the end.
+-- position, are the units there. Where no node's are, the answer is 12: with the unit behind the head where a zero there would make the
+-- units a node, and with the head everywhere else. Where no unit is left, the end.
 pub record Exactly (s : List ℕ) (p : ℕ) (r : Answer) : Type 0 where
   pub taken : (n : Node) → stand s (headFrom s p) (unitsAt (headFrom s p) n) ≡ true
       → r ≡ answer done (node n (headFrom s p + length (unitsAt (headFrom s p) n)))
   pub only : (n : Node) (q : ℕ) → r ≡ answer done (node n q) → stand s (headFrom s p) (unitsAt (headFrom s p) n) ≡ true
-  pub fault : headFrom s p < length s → ((n : Node) → stand s (headFrom s p) (unitsAt (headFrom s p) n) ≡ true → ⊥)
-      → r ≡ answer noNode nothing
+  pub fault : headFrom s p < length s → NoNodeAt s (headFrom s p) → NoNodeAt (zeroBehind s (headFrom s p)) (headFrom s p)
+      → r ≡ refused noNode (headFrom s p) nothing
+  pub mended : NoNodeAt s (headFrom s p)
+      → (n : Node) → stand (zeroBehind s (headFrom s p)) (headFrom s p) (unitsAt (headFrom s p) n) ≡ true
+      → r ≡ refused noNode (headFrom s p + 1) nothing
   pub ended : length s ≤ headFrom s p → r ≡ answer done end

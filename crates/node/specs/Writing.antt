@@ -1,11 +1,11 @@
--- Writing one node: the position behind it, 10 before 11, and no other unit changed.
+-- Writing one node: the position behind it, 10 before 11, both with the position asked for, and no other unit changed.
 use Prim.Native.Nat.{ℕ, _+_}
 use mathlib.Core.List.{List, [], _∷_}
 use lib.ListN.{length, set, take}
 use lib.Dec.{leb}
 use Rattle.node.specs.Choice.{pick}
 use Rattle.node.specs.Rows.{unitsAt}
-use Rattle.node.specs.Answers.{Answer, answer, done, valueUnfit, outOfRoom, position, nothing}
+use Rattle.node.specs.Answers.{Answer, answer, refused, done, valueUnfit, outOfRoom, position, nothing}
 use Rattle.node.specs.declared.Node.{Node}
 
 -- A store is u16 units, the first 32,768 usable.
@@ -30,11 +30,11 @@ unfoldable pub place : List ℕ → ℕ → List ℕ → StoreOutcome
 place store p us =
     pick (leb (p + length us) (length (usable store)))
     (record { answer = answer done (position (p + length us)); store = put store p us })
-    (record { answer = answer outOfRoom nothing; store = store })
+    (record { answer = refused outOfRoom p nothing; store = store })
 
 -- 10 where the node is unfit and so has no units.
 unfoldable pub writeUnits : List ℕ → ℕ → List ℕ → StoreOutcome
-writeUnits store p [] = record { answer = answer valueUnfit nothing; store = store }
+writeUnits store p [] = record { answer = refused valueUnfit p nothing; store = store }
 writeUnits store p (u ∷ us) = place store p (u ∷ us)
 
 abbrev pub writeAt : List ℕ → ℕ → Node → StoreOutcome

@@ -50,24 +50,24 @@ pub enum Spelt {
     Unknown,
 }
 
-// What a write answers: the position behind the node, 10, or 11.
+// What a write answers: the position behind the node; or 10 or 11, with the position asked for.
 pub enum Written {
     Behind(usize),
-    Unfit,
-    NoRoom,
+    Unfit(usize),
+    NoRoom(usize),
 }
 
-// What a read answers: a node and the position behind it, the end, or 12.
+// What a read answers: a node and the position behind it; the end; or 12, with the unit at which the fault was seen.
 pub enum Found {
     Whole(Node, usize),
     End,
-    NoNode,
+    NoNode(usize),
 }
 
-// What a walk answers: how many nodes it read and the position behind the last, to the end or to a 12.
+// What a walk answers: how many nodes it read and the position behind the last, to the end or to a 12, with the unit of its fault.
 pub enum Walked {
     ToEnd(usize, usize),
-    ToFault(usize, usize),
+    ToFault(usize, usize, usize),
 }
 
 // Writes a node at p, in the first row of the table that fits.

@@ -93,12 +93,12 @@ pub fn place_units(store: &mut [u16], p: usize, units: Units) -> Written
 {
     let count = width(units);
     if count == 0 {
-        return Written::Unfit;
+        return Written::Unfit(p);
     }
     if room(store.len(), p, count) {
         put_units(store, p, units);
         let behind = p + count;
         return Written::Behind(behind);
     }
-    Written::NoRoom
+    Written::NoRoom(p)
 }

@@ -84,20 +84,49 @@ fn stand(s: &[u16], q: usize, units: Units) -> bool
     }
 }
 
-// The node that stands at q: the one whose units, written there, are the units there.
+// Whether the head of units stands at q.
+fn head_stands(s: &[u16], q: usize, units: Units) -> bool
+    ensures { λ r. ⌜ r ≡ R.headStands (now (s .entry)) q (listOf units) ⌝ }
+{
+    match units {
+        Units::Unfit => false,
+        Units::One(head) => holds(s, q, head),
+        Units::Two(head, _) => holds(s, q, head),
+        Units::Four(head, _, _, _) => holds(s, q, head),
+        Units::Six(head, _, _, _, _, _) => holds(s, q, head),
+    }
+}
+
+// Whether the head of units stands at q and all of them have room in the store.
+fn head_right(s: &[u16], q: usize, units: Units) -> bool
+    requires { ⌜ q < usableUnits ⌝ }
+    ensures { λ r. ⌜ r ≡ R.headRight (now (s .entry)) q (listOf units) ⌝ }
+{
+    if head_stands(s, q, units) {
+        return q + width(units) <= s.len();
+    }
+    false
+}
+
+// The node that stands at q: the one whose units, written there, are the units there. Otherwise the unit at which a fault is seen: the head,
+// unless it is right. Then the units are those of a leaf but for the second, which must be zero.
 fn read_here(s: &[u16], q: usize) -> Found
     requires { ⌜ q < usableUnits ⌝ }
     ensures { λ r. ⌜ found r ≡ R.readHere (now (s .entry)) q ⌝ }
 {
+    let second = q + 1;
     let Spelt::Like(node) = spelt(s, q) else {
-        return Found::NoNode;
+        return Found::NoNode(q);
     };
     let units = units_of(q, node);
     if stand(s, q, units) {
         let behind = q + width(units);
         return Found::Whole(node, behind);
     }
-    Found::NoNode // cut off, unfit, or in another form than its own
+    if head_right(s, q, units) {
+        return Found::NoNode(second);
+    }
+    Found::NoNode(q) // cut off, unfit, or in another form than its own
 }
 
 // The first node from p on.
@@ -126,7 +155,7 @@ pub fn walk_units(s: &[u16], p: usize) -> Walked
                 count += 1;
             }
             Found::End => return Walked::ToEnd(count, at),
-            Found::NoNode => return Walked::ToFault(count, at),
+            Found::NoNode(unit) => return Walked::ToFault(count, at, unit),
         }
     }
 }

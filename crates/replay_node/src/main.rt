@@ -7,8 +7,9 @@
 //   4 low high                                     walk from there
 //   5 a                                            the seven units from a on, all ones past the end
 // A node's kind is 0 Sum (count, nonterminal), 1 Product (action, left, whether a right factor is present, and it), 2 NullingLeaf (symbol),
-// 3 Evaluated (symbol). Answers: a write tells its number and the halves of the position behind; a read its number, the node, where 4 is
-// the end and 5 nothing, and the halves; a walk its number, the count and the halves.
+// 3 Evaluated (symbol). Answers: a write tells its number and the halves of the position behind, or of the place where it is refused; a read
+// its number, the node, where 4 is the end and 5 nothing, and the halves of the position behind, or of the place; a walk its number, the count
+// and the halves of the position behind, and those of the place.
 mod words;
 
 use libc::STDIN_FILENO;
@@ -94,8 +95,8 @@ fn node_of(kind: u32, first: u32, second: u32, right: Right) -> Node {
 fn tell_written(answer: Written) {
     match answer {
         Written::Behind(q) => tell(0, low(q), high(q), 0, 0, 0, 0, 0),
-        Written::Unfit => tell(10, 0, 0, 0, 0, 0, 0, 0),
-        Written::NoRoom => tell(11, 0, 0, 0, 0, 0, 0, 0),
+        Written::Unfit(p) => tell(10, low(p), high(p), 0, 0, 0, 0, 0),
+        Written::NoRoom(p) => tell(11, low(p), high(p), 0, 0, 0, 0, 0),
     }
 }
 
@@ -123,14 +124,23 @@ fn tell_found(answer: Found) {
     match answer {
         Found::Whole(node, q) => tell_node(node, q),
         Found::End => tell(0, 4, 0, 0, 0, 0, 0, 0),
-        Found::NoNode => tell(12, 5, 0, 0, 0, 0, 0, 0),
+        Found::NoNode(unit) => tell(12, 5, 0, 0, 0, 0, low(unit), high(unit)),
     }
 }
 
 fn tell_walked(answer: Walked) {
     match answer {
         Walked::ToEnd(count, q) => tell(0, low(count), low(q), high(q), 0, 0, 0, 0),
-        Walked::ToFault(count, q) => tell(12, low(count), low(q), high(q), 0, 0, 0, 0),
+        Walked::ToFault(count, q, unit) => tell(
+            12,
+            low(count),
+            low(q),
+            high(q),
+            low(unit),
+            high(unit),
+            0,
+            0,
+        ),
     }
 }
 

@@ -7,6 +7,8 @@ use Rattle.node.specs.Answers.{found}
 use Rattle.node.specs.Writing.{usable}
 use Rattle.node.specs.Reading.{readAt, readUnits, Exactly}
 use Rattle.node.proofs.Runs.{usable-part}
+use Rattle.node.proofs.Almost.{Narrow}
+use Rattle.node.proofs.Puts.{usable-narrow}
 use Rattle.node.proofs.Exact.{reads-exactly}
 use Rattle.node.proofs.read.Statement.{statement}
 use Rattle.node.proofs.read.Tie as tie
@@ -35,7 +37,8 @@ returns c =
     let a = c .before .before .before .before .args in
     let is : found (c .read-units .result) ≡ readAt (a .store .now) (a .p) =
     c .read-units .ensures ∙ ap (λ s. readUnits s (a .p)) (usable-part _ _ (c .before .before .usable .ensures)) in
-    (is, subst (Exactly (usable (a .store .now)) (a .p)) (sym is) (reads-exactly (usable (a .store .now)) (a .p)))
+    let narrow : Narrow (a .store .now) = record { fits = λ i. omega (arith, c .before .before .before .shared-slice-known .given i) } in
+    (is, subst (Exactly (usable (a .store .now)) (a .p)) (sym is) (reads-exactly (usable (a .store .now)) (a .p) (usable-narrow _ narrow)))
 
 pub read-spec : {M : Type 1} → statement M
 read-spec =

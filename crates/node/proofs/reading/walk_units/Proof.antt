@@ -70,14 +70,14 @@ returns c =
     sym (walk-end _ (looped .at) (looped .count) is)
     ∙ looped .inv .left
 
-enum-told-2 : tie.Need-enum-told-2 Inv-loop μ-loop
-enum-told-2 c = search needs
+enum-known-unit : tie.Need-enum-known-unit Inv-loop μ-loop
+enum-known-unit c = search needs
 
 returns-2 : tie.Need-returns-2 Inv-loop μ-loop
 returns-2 c =
-    let looped = c .before .before .before .loop in
-    let is = sym (c .before .before .read-units .ensures) ∙ ap found (c .enum-told2 .given .1) in
-    sym (walk-fault _ (looped .at) (looped .count) is)
+    let looped = c .before .before .before .before .loop in
+    let is = sym (c .before .before .before .read-units .ensures) ∙ ap found (c .before .unit .given .1) in
+    sym (walk-fault _ (looped .at) (looped .count) _ is)
     ∙ looped .inv .left
 
 pub walk-units-spec : {M : Type 1} → statement M
@@ -94,5 +94,5 @@ walk-units-spec =
     loop-again
     enum-told
     returns
-    enum-told-2
+    enum-known-unit
     returns-2)
