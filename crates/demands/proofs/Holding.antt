@@ -15,7 +15,7 @@ use Rattle.parse.specs.Words.{Words}
 use Rattle.parse.specs.WellFormed.{WellFormed}
 use Rattle.parse.proofs.Capacities.{SameSizes}
 use Rattle.earley.proofs.Charts.{Holds, begin}
-use Rattle.earley.proofs.Positions.{plain}
+use Rattle.earley.specs.Positions.{plain}
 use Rattle.earley.proofs.Plain.{plain-token, plain-viable}
 use Rattle.demands.specs.Steps.{Outcome, noToken, notPredicted, completed, started, stepped}
 use Rattle.demands.specs.Sentences.{AcceptedOrNoRoom}

@@ -8,7 +8,7 @@ use native.Mathlib.Omega.{arith}
 use lib.ListN.{length}
 use Rattle.grammar.specs.Rules.{Grammar, ruleAt}
 use Rattle.grammar.specs.Accepted.{Accepted}
-use Rattle.earley.proofs.Positions.{Positions}
+use Rattle.earley.specs.Positions.{Positions}
 use Rattle.earley.proofs.Predictions.{Pred, Item, says}
 use Rattle.earley.proofs.Wrapper.{which}
 use Rattle.earley.proofs.Viable.{Goes, Chosen, pred-viable, viable-pred, item-sentence, item-first}

@@ -8,7 +8,7 @@ use native.Mathlib.Omega.{arith}
 use lib.ListN.{length}
 use Rattle.grammar.specs.Rules.{Grammar, wrapper}
 use Rattle.grammar.specs.Prediction.{Reaches, here as itself}
-use Rattle.earley.proofs.Positions.{Positions}
+use Rattle.earley.specs.Positions.{Positions}
 use Rattle.earley.proofs.Spans.{span-forward, span-inside}
 use Rattle.earley.proofs.Predictions.{Pred, Item, reaches-pred, reaches-first}
 

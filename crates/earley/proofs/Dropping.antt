@@ -5,7 +5,7 @@ use Prim.Native.Nat.{ℕ, _≤_, _<_}
 use native.Mathlib.Decide.{decLe}
 use native.Mathlib.Omega.{arith}
 use Rattle.grammar.specs.Rules.{Grammar}
-use Rattle.earley.proofs.Positions.{Positions}
+use Rattle.earley.specs.Positions.{Positions}
 use Rattle.earley.proofs.Charts.{Chart, Live, Holds, live-below}
 
 -- The item of set `s` whose origin had the number `o`.

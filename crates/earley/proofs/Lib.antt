@@ -1,5 +1,4 @@
 -- From derivations to the sets of a parse, in the order of the argument: over positions that may carry several kinds, and at the end over tokens.
-pub mod Positions
 pub mod Spelling
 pub mod Spans
 pub mod Predictions

@@ -7,7 +7,7 @@ use lib.ListN.{length}
 use Rattle.grammar.specs.Rules.{Grammar}
 use Rattle.grammar.specs.Sentences.{Sentence, Begins}
 use Rattle.grammar.specs.Accepted.{Accepted}
-use Rattle.earley.proofs.Positions.{plain}
+use Rattle.earley.specs.Positions.{plain}
 use Rattle.earley.proofs.Spelling.{plain-spelt, plain-on}
 use Rattle.earley.proofs.Viable.{Goes, Chosen}
 use Rattle.earley.proofs.Charts.{Chart, Holds}

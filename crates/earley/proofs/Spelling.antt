@@ -6,7 +6,7 @@ use Prim.Native.Nat.{ℕ, suc}
 use native.Mathlib.Omega.{arith}
 use lib.ListN.{length, getD, length-append, List·getD-append}
 use lib.Seq.{getD-append-seam}
-use Rattle.earley.proofs.Positions.{Positions, Spelt, none, next, plain}
+use Rattle.earley.specs.Positions.{Positions, Spelt, none, next, plain}
 
 -- Two words that are spelt one behind the other.
 pub spelt-join : {a : Positions} {i k j : ℕ} {u v : List ℕ} → Spelt a i u k → Spelt a k v j → Spelt a i (u ++ v) j

@@ -6,7 +6,7 @@ use native.Mathlib.Omega.{arith}
 use lib.ListN.{length, getD, length-append}
 use lib.Seq.{getD-append-seam}
 use Rattle.grammar.specs.Rules.{Grammar, Says, none}
-use Rattle.earley.proofs.Positions.{Positions}
+use Rattle.earley.specs.Positions.{Positions}
 use Rattle.earley.proofs.Spans.{Span, span-grows}
 use Rattle.earley.proofs.Predictions.{Pred, Item, item, item-two, item-spans, pred-shrinks, item-shrinks}
 use Rattle.earley.proofs.Charts.{Chart, Live, Found, Holds, live-set, set-inside}

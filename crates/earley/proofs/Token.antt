@@ -8,7 +8,7 @@ use native.Mathlib.Omega.{arith}
 use lib.ListN.{length, length-append}
 use Rattle.grammar.specs.Rules.{Grammar, ruleAt}
 use Rattle.grammar.specs.Prediction.{here as itself}
-use Rattle.earley.proofs.Positions.{Positions}
+use Rattle.earley.specs.Positions.{Positions}
 use Rattle.earley.proofs.Spans.{Span}
 use Rattle.earley.proofs.Predictions.{Pred, Item, says, item, item-predicts, item-grows, pred-grows, reaches-pred, reaches-first}
 use Rattle.earley.proofs.Places.{upTo, upTo-old, upTo-new, next-cases}
