@@ -165,3 +165,8 @@ module _ {g : Grammar} {a : Positions} {c c′ : Chart} {ks : List ℕ} {kept : 
     item-there = λ {s} {r} {q} l i. item-complete s r q l i;
     row-there = λ {s} {x} l d. row-complete s x l d;
   }
+
+  -- The sets that stay stand where they stood.
+  pub token-old : {s : ℕ} → s ≤ kept → token .pos s ≡ h .pos s
+  unfolding token
+  token-old l = old-stands l

@@ -111,7 +111,7 @@ module _ {g : Grammar} {a : Positions} {c : Chart} {ks : List ℕ} (hs : Handles
     product-once : (p : Product) → IsSummand p → Before top p → Once (under p)
     product-once (alone r p) (Summand.unary {y = y} says dy ry rx) before =
         let lo = before-one before in
-        once-map (one r) (λ u v e. ap left e) (below k y p dy (omega arith) .once)
+        once-map (one r) (λ u v i j e. ap left e) (below k y p dy (omega arith) .once)
     product-once (paired r p q) (Summand.closed {z = z} {s = s} says dz rz i) before =
         let lo = before-left before in
         let hi = before-right before in

@@ -54,13 +54,13 @@ ordered-append (more {x = x} {l = l} first rest) o across =
     more (λ y h. ⊎-elim (first y) (across x y (here refl)) (member-either l h)) (ordered-append rest o (λ x y a b. across x y (there a) b))
 
 -- What is made of each, where making keeps the order.
-pub ordered-map : {A B : Type 0} {R : A → A → Type 0} {S : B → B → Type 0} (f : A → B) {l : List A} → ((x y : A) → R x y → S (f x) (f y))
-    → Ordered R l → Ordered S (map f l)
+pub ordered-map : {A B : Type 0} {R : A → A → Type 0} {S : B → B → Type 0} (f : A → B) {l : List A}
+    → ((x y : A) → Member x l → Member y l → R x y → S (f x) (f y)) → Ordered R l → Ordered S (map f l)
 ordered-map f keeps none = none
 ordered-map {S = S} f keeps (more {x = x} {l = l} first rest) =
     more
-    (λ b h. let o = member-map f l h in subst (S (f x)) (o .2) (keeps x (o .0) (first (o .0) (o .1))))
-    (ordered-map f keeps rest)
+    (λ b h. let o = member-map f l h in subst (S (f x)) (o .2) (keeps x (o .0) (here refl) (there (o .1)) (first (o .0) (o .1))))
+    (ordered-map f (λ x y m n. keeps x y (there m) (there n)) rest)
 
 -- Joined lists are in order where each is, and each of an earlier one stands so to each of a later.
 pub ordered-joined : {A B : Type 0} {R : A → A → Type 0} {S : B → B → Type 0} (f : A → List B) {l : List A} → Ordered R l
@@ -79,15 +79,15 @@ pub ordered-pairs : {A B C : Type 0} {R : A → A → Type 0} {S : B → B → T
     → ((x u : A) (y v : B) → R x u → T (f x y) (f u v)) → ((x : A) (y v : B) → S y v → T (f x y) (f x v)) → Ordered R l → Ordered S m
     → Ordered T (pairs f l m)
 ordered-pairs {T = T} f {m = m} firsts seconds o p =
-    ordered-joined (λ x. map (f x) m) o (λ x h. ordered-map (f x) (seconds x) p)
+    ordered-joined (λ x. map (f x) m) o (λ x h. ordered-map (f x) (λ y v i j. seconds x y v) p)
     (λ x u b d h k r i j.
     let b-made = member-map (f x) m i in
     let d-made = member-map (f u) m j in
     subst (λ c. T c d) (b-made .2) (subst (T (f x (b-made .0))) (d-made .2) (firsts x u (b-made .0) (d-made .0) r)))
 
 -- Nothing is twice in what a map that keeps all apart makes,
-pub once-map : {A B : Type 0} (f : A → B) {l : List A} → ((x y : A) → f x ≡ f y → x ≡ y) → Once l → Once (map f l)
-once-map f same o = ordered-map f (λ x y differ e. differ (same x y e)) o
+pub once-map : {A B : Type 0} (f : A → B) {l : List A} → ((x y : A) → Member x l → Member y l → f x ≡ f y → x ≡ y) → Once l → Once (map f l)
+once-map f same o = ordered-map f (λ x y m n differ e. differ (same x y m n e)) o
 
 -- in pairs that tell what they are made of,
 pub once-pairs : {A B C : Type 0} (f : A → B → C) {l : List A} {m : List B} → ((x u : A) (y v : B) → f x y ≡ f u v → x ≡ u)

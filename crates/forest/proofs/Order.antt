@@ -57,7 +57,7 @@ earlier-summand (first {i = n} e) (first {i = m} l) = Sooner.now {i = n} {j = m}
 
 -- In order: products, sums, nodes.
 product-order : (under : ℕ → List Marked) (i : ℕ) (p : Product) → ((h : ℕ) → Ordered Earlier (under h)) → Ordered Earlier (markedProduct under i p)
-product-order under i (alone r a) o = ordered-map (markedOne i r) (λ d e s. Sooner.then s) (o a)
+product-order under i (alone r a) o = ordered-map (markedOne i r) (λ d e m n s. Sooner.then s) (o a)
 product-order under i (paired r a b) o =
     ordered-pairs (markedTwo i r)
     (λ d e u v s. Sooner.then (sooner-left (u .choices) (v .choices) s))

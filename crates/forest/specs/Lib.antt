@@ -4,3 +4,4 @@ pub mod Lists
 pub mod Forests
 pub mod Order
 pub mod Every
+pub mod Stores
