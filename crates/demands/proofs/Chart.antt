@@ -1,5 +1,6 @@
 -- The words of a parse as a chart: sets of items and rows of symbols.
 use mathlib.Core.Path.{_≡_}
+use mathlib.Core.List.{[], _∷_}
 use Prim.Native.Nat.{ℕ, _≤_, _<_}
 use Rattle.laws.specs.Bits.{Holds, rowOf}
 use Rattle.bits.specs.Width.{rowWords}
@@ -36,6 +37,6 @@ pub record New (s : State) (pass : Pass) (o r : ℕ) : Type 0 where
 -- items with a second symbol that it stored are those that completed pairs call for.
 pub record Completed (g : Grammar) (s : State) (v : Words) (t : ℕ) : Type 1 where
   pub done : ℕ → ℕ → Type 0
-  pub pass : steps.Pass g (chartOf s v) t done
+  pub pass : steps.Pass g (chartOf s v) (t ∷ []) done
   pub stored : (o r : ℕ) → Stored g (chartOf s v) done o r → New s (completed g s v t) o r
   pub called : (o r : ℕ) → New s (completed g s v t) o r → (ruleAtG g r .second ≡ none → ⊥) → Stored g (chartOf s v) done o r

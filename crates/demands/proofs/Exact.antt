@@ -1,7 +1,7 @@
 -- THE PASS IS EXACT: a completion pass that is not refused completes what the rules of completion give, and nothing else.
 use mathlib.Core.Path.{_≡_, refl, sym, ap, _∙_, subst}
 use mathlib.Core.Bool.{true, false}
-use mathlib.Core.List.{List}
+use mathlib.Core.List.{List, [], _∷_, List·Memᴰ·head as here, List·Memᴰ·eq-of-singleton as only}
 use Prim.Native.Nat.{ℕ, zero, suc, _+_, _*_, _≤_, _<_}
 use native.Mathlib.Omega.{arith}
 use lib.ListN.{length}
@@ -45,7 +45,7 @@ pub data With (done : ℕ → ℕ → Type 0) (k x : ℕ) : ℕ → ℕ → Type
 module _ (g : Grammar) (st : State) (v : Words) (t : ℕ) (charted : Charted (g .rules) (v .starts) (beginning st v)) where
   -- What the rules of completion give,
   abbrev Gives : ℕ → ℕ → Type 0
-  Gives = steps.Done g (chartOf st v) t
+  Gives = steps.Done g (chartOf st v) (t ∷ [])
 
   -- is closed under what the code does.
   gives-closed : Closed (g .rules) st v Gives
@@ -109,14 +109,14 @@ module _ (g : Grammar) (st : State) (v : Words) (t : ℕ) (charted : Charted (g 
     pair-so-far : SoFar after
     pair-so-far = record { done = With done k x; right = right; scanned = scanned; kept = pair-step .kept; follows = pair-follows }
 
-  -- The first pair: the latest set and the token.
-  first-so-far : Pending (g .rules) (v .starts) (beginning st v) → IsSet (v .starts) (st .set)
+  -- The first pair: the latest set and the token, which is predicted there.
+  first-so-far : Pending (g .rules) (v .starts) (beginning st v) → IsSet (v .starts) (st .set) → Holds (rowOf rowWords (v .rows) (st .set)) t
       → SoFar (complete (g .rules) (v .starts) (v .rows) (st .set) t (beginning st v))
-  first-so-far pending set =
+  first-so-far pending set there =
       pair-so-far (λ l y. ⊥) (st .set) t set right this (beginning st v) (begins-kept pending) (λ on l y never. absurd never)
     where
       right : (l y : ℕ) → With (λ l y. ⊥) (st .set) t l y → Gives l y
-      right l y this = steps.Done.scanned
+      right l y this = steps.Done.scanned (here refl) there
       right l y (before never) = absurd never
 
   -- One sum: its pair comes to those that were completed.
@@ -198,11 +198,11 @@ module _ (g : Grammar) (st : State) (v : Words) (t : ℕ) (charted : Charted (g 
     following : {k x : ℕ} → so-far .done k x → Holds (rowOf rowWords (v .rows) k) x → Follows (g .rules) st v (so-far .done) s k x
     following {k} {x} d row = so-far .follows on k x d (true-holds (rowOf rowWords (v .rows) k) x row)
 
-    exact-pass : steps.Pass g (chartOf st v) t (so-far .done)
+    exact-pass : steps.Pass g (chartOf st v) (t ∷ []) (so-far .done)
     exact-pass =
         record {
           sound = λ {k} {x} d. so-far .right k x d;
-          scanned = so-far .scanned;
+          scanned = λ kind there. subst (so-far .done (st .set)) (sym (only kind)) (so-far .scanned);
           unary = λ {r} {x} {y} {k} says d row-y row-x.
               subst (so-far .done k) (says .left)
               (met-empty (kept-sound (g .rules) st v (so-far .kept)) none-left
@@ -235,11 +235,12 @@ module _ (g : Grammar) (st : State) (v : Words) (t : ℕ) (charted : Charted (g 
           left = holds-true (rowOf rowWords (v .rows) o) (ruleAtG g r .left) (calls .left);
         }
 
--- The pass of a token on a well-formed state of an accepted grammar, unless it is refused.
+-- The pass of a predicted token on a well-formed state of an accepted grammar, unless it is refused.
 pub completed-exactly : (g : Grammar) → Accepted g → (s : State) (v : Words) → WellFormed (g .symbols) (g .rules) s v
-    → length (v .items) ≤ itemWords * maxItems → Rowed (v .starts) (v .rows) → (t : ℕ) → completed g s v t .at .stopped ≡ 0 → Completed g s v t
+    → length (v .items) ≤ itemWords * maxItems → Rowed (v .starts) (v .rows) → (t : ℕ) → Holds (rowOf rowWords (v .rows) (s .set)) t
+    → completed g s v t .at .stopped ≡ 0 → Completed g s v t
 unfolding completeAllSums
-completed-exactly g accepted s v well few-items rowed t on =
+completed-exactly g accepted s v well few-items rowed t there on =
     record {
       done = so-far .done;
       pass = exact-pass g s v t (pending .charted) (completed g s v t) so-far on none-left;
@@ -260,7 +261,7 @@ completed-exactly g accepted s v well few-items rowed t on =
     so-far =
         sums-so-far g s v t (pending .charted) (length (v .starts) * length (g .rules))
         (complete (g .rules) (v .starts) (v .rows) (s .set) t (beginning s v))
-        (first-so-far g s v t (pending .charted) pending set)
+        (first-so-far g s v t (pending .charted) pending set there)
 
     none-left : completed g s v t .at .queued ≡ 0
     none-left =

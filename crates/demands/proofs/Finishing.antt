@@ -16,7 +16,8 @@ use Rattle.grammar.specs.Accepted.{Accepted}
 use Rattle.parse.specs.declared.State.{State}
 use Rattle.parse.specs.Words.{Words, startOf}
 use Rattle.parse.specs.WellFormed.{WellFormed, InSet, Fits, placing, secondOf}
-use Rattle.earley.proofs.Answers.{Wrapped, wrapped-sentence, end-greatest}
+use Rattle.earley.proofs.Answers.{Wrapped, end-greatest}
+use Rattle.earley.proofs.Plain.{plain-sentence}
 use Rattle.demands.specs.Steps.{lastWraps}
 use Rattle.demands.proofs.Chart.{Has, chartOf}
 use Rattle.demands.proofs.Holding.{Holding}
@@ -88,4 +89,4 @@ module _ {g : Grammar} {a : List ℕ} {s : State} {v : Words} (accepted : Accept
   -- FINISHED EXACTLY ON SENTENCES.
   pub finished-sentence : (lastWraps s v ≡ true) ↔ Sentence g a
   finished-sentence =
-      ((λ says. wrapped-sentence accepted (h .holds) .0 (wraps says)), (λ sentence. wrapped (wrapped-sentence accepted (h .holds) .1 sentence)))
+      ((λ says. plain-sentence a accepted (h .holds) .0 (wraps says)), (λ sentence. wrapped (plain-sentence a accepted (h .holds) .1 sentence)))

@@ -15,8 +15,8 @@ use Rattle.parse.specs.Words.{Words}
 use Rattle.parse.specs.WellFormed.{WellFormed}
 use Rattle.parse.proofs.Capacities.{SameSizes}
 use Rattle.earley.proofs.Charts.{Holds, begin}
-use Rattle.earley.proofs.Token.{token}
-use Rattle.earley.proofs.Answers.{row-viable}
+use Rattle.earley.specs.Positions.{plain}
+use Rattle.earley.proofs.Plain.{plain-token, plain-viable}
 use Rattle.demands.specs.Steps.{Outcome, noToken, notPredicted, completed, started, stepped}
 use Rattle.demands.specs.Sentences.{AcceptedOrNoRoom}
 use Rattle.demands.proofs.Chart.{chartOf, Completed}
@@ -31,7 +31,7 @@ use Rattle.demands.proofs.NextSet.{following-sizes, following-well, fol
 pub record Holding (g : Grammar) (a : List ℕ) (s : State) (v : Words) : Type 0 where
   pub cut : Cut v
   pub well : WellFormed (g .symbols) (g .rules) s v
-  pub holds : Holds g a (chartOf s v)
+  pub holds : Holds g (plain a) (chartOf s v)
 
 -- Why the token `t` is refused behind `a`, by number.
 pub data Refused (g : Grammar) (a : List ℕ) (t : ℕ) : ℕ → Type 0 where
@@ -71,12 +71,12 @@ module _ {g : Grammar} {table : List (List ℕ)} (accepted : Accepted g) (predic
   module _ {a : List ℕ} {s : State} {v : Words} (h : Holding g a s v) (t : ℕ) where
     -- The latest row has the tokens that some sentence goes on with.
     viable : t < g .tokens → Predicted s v t ↔ Begins g (a ++ t ∷ [])
-    viable small = row-viable accepted (h .holds) small
+    viable small = plain-viable a accepted (h .holds) small
 
     goes : t < g .tokens → Predicted s v t → completed g s v t .at .stopped ≡ 0 → keptOf g s v t + 1 < length (v .rows) / rowWords
         → Accepts g a v t (following g table s v t)
     goes small there going room =
-        let exact : Completed g s v t = completed-exactly g accepted s v (h .well) (h .cut .few-items) (h .cut .rowed) t going in
+        let exact : Completed g s v t = completed-exactly g accepted s v (h .well) (h .cut .few-items) (h .cut .rowed) t there going in
         record {
           zero = refl;
           small = small;
@@ -85,7 +85,7 @@ module _ {g : Grammar} {table : List (List ℕ)} (accepted : Accepted g) (predic
           holding = record {
             cut = cut-same (following-sizes accepted predicts (h .well) (h .cut) t room) (h .cut);
             well = following-well accepted predicts (h .well) (h .cut) t room;
-            holds = token (h .holds) small (exact .pass) (following-next accepted predicts (h .well) (h .cut) t room exact);
+            holds = plain-token a (h .holds) small (exact .pass) (following-next accepted predicts (h .well) (h .cut) t room exact);
           };
         }
 

@@ -1,6 +1,6 @@
 -- A chart of sets, as a parse holds it, and what it must have to do with the ideal chart.
 use mathlib.Core.Path.{_≡_, refl, sym, subst}
-use mathlib.Core.List.{List, []}
+use mathlib.Core.List.{[]}
 use mathlib.Core.Logic.{_↔_}
 use Prim.Native.Nat.{ℕ, _≤_, _<_}
 use native.Mathlib.Decide.{decLe}
@@ -8,6 +8,7 @@ use native.Mathlib.Omega.{arith}
 use lib.ListN.{length}
 use Rattle.grammar.specs.Rules.{Grammar, wrapper}
 use Rattle.grammar.specs.Prediction.{Reaches, here as itself}
+use Rattle.earley.specs.Positions.{Positions}
 use Rattle.earley.proofs.Spans.{span-forward, span-inside}
 use Rattle.earley.proofs.Predictions.{Pred, Item, reaches-pred, reaches-first}
 
@@ -30,9 +31,9 @@ pub record Found (c : Chart) (pos : ℕ → ℕ) (s r q : ℕ) : Type 0 where
   pub item : c .item s origin r
   pub stands : pos origin ≡ q
 
--- The invariant of a parse that has accepted `a`. Sets stand at rising positions, the latest at the end.
+-- The invariant of a parse that has accepted the positions `a`. Sets stand at rising places, the latest at the end.
 -- Nothing in a set is wrong, and nothing is missing in a set that is live.
-pub record Holds (g : Grammar) (a : List ℕ) (c : Chart) : Type 0 where
+pub record Holds (g : Grammar) (a : Positions) (c : Chart) : Type 0 where
   pub pos : ℕ → ℕ
   pub rising : (s u : ℕ) → s < u → u ≤ c .last → pos s < pos u
   pub ends : pos (c .last) ≡ length a
@@ -50,11 +51,11 @@ live-below older (Live.origin l i) =
     let m = older _ _ _ k i in
     omega arith
 
-pub live-set : {g : Grammar} {a : List ℕ} {c : Chart} {s : ℕ} → Holds g a c → Live c s → s ≤ c .last
+pub live-set : {g : Grammar} {a : Positions} {c : Chart} {s : ℕ} → Holds g a c → Live c s → s ≤ c .last
 live-set h l = live-below (λ s o r m i. h .older m i) l
 
--- No set stands behind the last token.
-pub set-inside : {g : Grammar} {a : List ℕ} {c : Chart} {s : ℕ} (h : Holds g a c) → s ≤ c .last → h .pos s ≤ length a
+-- No set stands behind the last position.
+pub set-inside : {g : Grammar} {a : Positions} {c : Chart} {s : ℕ} (h : Holds g a c) → s ≤ c .last → h .pos s ≤ length a
 set-inside {c} {s} h l = elim (decLe (c .last) s) [
   | yes k ↦ (let e : s ≡ c .last = omega arith in let p = h .ends in rw e (omega arith))
   | no k ↦ (let p = h .ends in let q = h .rising s (c .last) (omega arith) (omega arith) in omega arith)
@@ -66,7 +67,7 @@ pub record Fresh (g : Grammar) (c : Chart) : Type 0 where
   pub items : {o r : ℕ} → c .item 0 o r → ⊥
   pub row : {x : ℕ} → c .row 0 x ↔ Reaches g (wrapper g) x
 
--- Before the first token exactly what W reaches is predicted.
+-- Before the first position exactly what W reaches is predicted.
 pred-nil : {g : Grammar} {x q : ℕ} → Pred g [] x q → Reaches g (wrapper g) x
 pred-nil Pred.wrapped = itself
 pred-nil (Pred.first h d) = reaches-first (pred-nil d) h
@@ -75,7 +76,7 @@ pred-nil (Pred.second h n d s) =
     let m = span-inside s in
     absurd (omega arith)
 
--- THE INVARIANT BEGINS: a fresh parse holds for no tokens.
+-- THE INVARIANT BEGINS: a fresh parse holds for no positions.
 pub begin : {g : Grammar} {c : Chart} → Fresh g c → Holds g [] c
 begin {g} {c} f = record {
   pos = λ _. 0;

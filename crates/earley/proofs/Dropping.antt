@@ -1,11 +1,11 @@
 -- Dropping sets that are not live, and numbering the others anew, keeps the invariant.
 use mathlib.Core.Path.{_≡_, refl, sym, _∙_, ap, subst}
-use mathlib.Core.List.{List}
 use mathlib.Core.Logic.{_↔_}
 use Prim.Native.Nat.{ℕ, _≤_, _<_}
 use native.Mathlib.Decide.{decLe}
 use native.Mathlib.Omega.{arith}
 use Rattle.grammar.specs.Rules.{Grammar}
+use Rattle.earley.specs.Positions.{Positions}
 use Rattle.earley.proofs.Charts.{Chart, Live, Holds, live-below}
 
 -- The item of set `s` whose origin had the number `o`.
@@ -38,7 +38,7 @@ module _ {c c′ : Chart} {was : ℕ → ℕ} (d : Dropped c c′ was) where
   was-live (Live.origin l i) = Live.origin (was-live l) (d .item-true (live-below (λ _ _ _ m j. d .older m j) l) i)
 
   -- THE INVARIANT OUTLIVES PRUNING.
-  pub dropped : {g : Grammar} {a : List ℕ} → Holds g a c → Holds g a c′
+  pub dropped : {g : Grammar} {a : Positions} → Holds g a c → Holds g a c′
   dropped h = record {
     pos = λ s. h .pos (was s);
     rising = λ s u l m. h .rising (was s) (was u) (d .rising s u l m) (was-set u m);
@@ -60,7 +60,7 @@ pub record Same (c c′ : Chart) : Type 0 where
   pub rows : {s x : ℕ} → s ≤ c .last → c′ .row s x ↔ c .row s x
 
 -- What holds of a chart holds of every chart with the same sets.
-pub same : {g : Grammar} {a : List ℕ} {c c′ : Chart} → Same c c′ → Holds g a c → Holds g a c′
+pub same : {g : Grammar} {a : Positions} {c c′ : Chart} → Same c c′ → Holds g a c → Holds g a c′
 same {g} {a} {c} {c′} e h = dropped (record {
   last = e .last;
   rising = λ _ _ l _. l;

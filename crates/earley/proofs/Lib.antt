@@ -1,4 +1,5 @@
--- From derivations to the sets of a parse, in the order of the argument.
+-- From derivations to the sets of a parse, in the order of the argument: over positions that may carry several kinds, and at the end over tokens.
+pub mod Spelling
 pub mod Spans
 pub mod Predictions
 pub mod Wrapper
@@ -10,3 +11,4 @@ pub mod Places
 pub mod Token
 pub mod Dropping
 pub mod Answers
+pub mod Plain

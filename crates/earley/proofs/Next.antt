@@ -1,4 +1,4 @@
--- The chart after a token, said of any pass of the steps: steps 2 to 6 as relations between two charts.
+-- The chart after a position, said of any pass of the steps: steps 2 to 6 as relations between two charts.
 use mathlib.Core.Path.{_≡_}
 use mathlib.Core.Logic.{_≢_, _↔_, _⊎_, ⊎-elim}
 use Prim.Native.Nat.{ℕ, suc, _≤_, _<_}
@@ -34,7 +34,7 @@ pub record Pruned (g : Grammar) (c : Chart) (done : ℕ → ℕ → Type 0) (kep
   pub origins : {o r : ℕ} → Stored g c done o r → o < kept
   pub row : {x : ℕ} → c′ .row kept x → ⊥
 
--- The chart after a token: the sets 0..kept stay, and one new set comes behind them, what is stored and the row that it leads to.
+-- The chart after a position: the sets 0..kept stay, and one new set comes behind them, what is stored and the row that it leads to.
 pub record Next (g : Grammar) (c : Chart) (done : ℕ → ℕ → Type 0) (kept : ℕ) (c′ : Chart) : Type 0 where
   pub last : c′ .last ≡ suc kept
   pub items : {s o r : ℕ} → s ≤ kept → c′ .item s o r ↔ c .item s o r

@@ -1,4 +1,4 @@
--- A token keeps the invariant: the new set has exactly the ideal items and predictions, and what pruning drops is not live.
+-- A position keeps the invariant: the new set has exactly the ideal items and predictions, and what pruning drops is not live.
 use mathlib.Core.Path.{_≡_, refl, sym, _∙_, ap, subst, subst₂}
 use mathlib.Core.List.{List, [], _∷_, _++_}
 use mathlib.Core.Logic.{_⊎_, inl, inr, ⊎-elim}
@@ -8,15 +8,16 @@ use native.Mathlib.Omega.{arith}
 use lib.ListN.{length, length-append}
 use Rattle.grammar.specs.Rules.{Grammar, ruleAt}
 use Rattle.grammar.specs.Prediction.{here as itself}
+use Rattle.earley.specs.Positions.{Positions}
 use Rattle.earley.proofs.Spans.{Span}
 use Rattle.earley.proofs.Predictions.{Pred, Item, says, item, item-predicts, item-grows, pred-grows, reaches-pred, reaches-first}
 use Rattle.earley.proofs.Places.{upTo, upTo-old, upTo-new, next-cases}
 use Rattle.earley.proofs.Charts.{Chart, Live, Found, Holds, live-set, set-inside}
 use Rattle.earley.proofs.Next.{Stored, Led, Next, kept-within, kept-row-true, kept-row-there, new-origins}
-use Rattle.earley.proofs.Steps.{Pass, DoneAt, pass-all, done-live, done-span, row-at, item-at, span-done}
+use Rattle.earley.proofs.Steps.{Kinds, Pass, DoneAt, pass-all, done-live, done-span, row-at, item-at, span-done}
 
--- What is predicted at a place behind the first token is reached from an item that stands there.
-pred-led : {g : Grammar} {a : List ℕ} {c : Chart} {s m x p : ℕ} {pos : ℕ → ℕ}
+-- What is predicted at a place behind the first position is reached from an item that stands there.
+pred-led : {g : Grammar} {a : Positions} {c : Chart} {s m x p : ℕ} {pos : ℕ → ℕ}
     → ((r q : ℕ) → Item g a r q m → Found c pos s r q) → 0 < m → Pred g a x p → p ≡ m → Led g c s x
 pred-led f l Pred.wrapped e = absurd (omega arith)
 pred-led f l (Pred.first h d) e =
@@ -32,12 +33,12 @@ pub record Stays (c : Chart) (kept s : ℕ) : Type 0 where
   pub within : s ≤ kept
   pub whole : (s < kept) ⊎ (kept ≡ c .last)
 
--- Where the sets stand after the token.
-abbrev later : {g : Grammar} {a : List ℕ} {c : Chart} → Holds g a c → ℕ → ℕ → ℕ
+-- Where the sets stand after the position.
+abbrev later : {g : Grammar} {a : Positions} {c : Chart} → Holds g a c → ℕ → ℕ → ℕ
 later {a = a} h kept = upTo kept (h .pos) (suc (length a))
 
-module _ {g : Grammar} {a : List ℕ} {c c′ : Chart} {t kept : ℕ} {done : ℕ → ℕ → Type 0}
-    (h : Holds g a c) (small : t < g .tokens) (pass : Pass g c t done) (next : Next g c done kept c′) where
+module _ {g : Grammar} {a : Positions} {c c′ : Chart} {ks : List ℕ} {kept : ℕ} {done : ℕ → ℕ → Type 0}
+    (h : Holds g a c) (small : Kinds g ks) (pass : Pass g c ks done) (next : Next g c done kept c′) where
   -- The origin of a stored item stays.
   stored-stays : {o r : ℕ} → Stored g c done o r → Stays c kept o
   stored-stays {o} s =
@@ -63,36 +64,36 @@ module _ {g : Grammar} {a : List ℕ} {c c′ : Chart} {t kept : ℕ} {done : �
       (live-cases l)
 
   -- What is stored is an ideal item.
-  stored-item : {o r : ℕ} → Stored g c done o r → Item g (a ++ t ∷ []) r (h .pos o) (suc (length a))
+  stored-item : {o r : ℕ} → Stored g c done o r → Item g (a ++ ks ∷ []) r (h .pos o) (suc (length a))
   stored-item s = record {
     there = s .there;
     two = s .two;
-    predicted = pred-grows (t ∷ []) (h .row-true (live-set h (stored-stays s .live)) (s .left));
+    predicted = pred-grows (ks ∷ []) (h .row-true (live-set h (stored-stays s .live)) (s .left));
     spans = done-span h small (pass .sound (s .completed));
   }
 
-  -- Every ideal item that ends behind the token is stored.
-  item-stored : (r q : ℕ) → Item g (a ++ t ∷ []) r q (suc (length a)) → Found c′ (later h kept) (suc kept) r q
+  -- Every ideal item that ends behind the position is stored.
+  item-stored : (r q : ℕ) → Item g (a ++ ks ∷ []) r q (suc (length a)) → Found c′ (later h kept) (suc kept) r q
   item-stored r q i =
-      let f : Pred g (a ++ t ∷ []) (ruleAt g r .first) q = Pred.first (says (i .there)) (i .predicted) in
-      let d : DoneAt g c t (h .pos) q (ruleAt g r .first) = span-done h (i .spans) refl f in
+      let f : Pred g (a ++ ks ∷ []) (ruleAt g r .first) q = Pred.first (says (i .there)) (i .predicted) in
+      let d : DoneAt g c ks (h .pos) q (ruleAt g r .first) = span-done h (i .spans) refl f in
       let s : Stored g c done (d .set) r = record {
         there = i .there;
         two = i .two;
         completed = pass-all pass (d .done);
-        first = row-at h (t ∷ []) (d .live) (d .stands) f;
-        left = row-at h (t ∷ []) (d .live) (d .stands) (i .predicted);
+        first = row-at h (ks ∷ []) (d .live) (d .stands) f;
+        left = row-at h (ks ∷ []) (d .live) (d .stands) (i .predicted);
       } in
       record { origin = d .set; item = next .new-items .1 s; stands = upTo-old (h .pos) (suc (length a)) (stored-stays s .within) ∙ d .stands }
 
-  -- Sets that stay stand where they stood, the new one behind the token.
+  -- Sets that stay stand where they stood, the new one behind the position.
   old-stands : {s : ℕ} → s ≤ kept → later h kept s ≡ h .pos s
   old-stands l = upTo-old (h .pos) (suc (length a)) l
 
   new-stands : later h kept (suc kept) ≡ suc (length a)
   new-stands = upTo-new (h .pos) (suc (length a)) (omega arith)
 
-  -- The positions rise.
+  -- The places rise.
   rises : (s u : ℕ) → s < u → u ≤ suc kept → later h kept s < later h kept u
   rises s u l m = next-cases kept u m
       (λ k. let w = kept-within next in
@@ -116,51 +117,56 @@ module _ {g : Grammar} {a : List ℕ} {c c′ : Chart} {t kept : ℕ} {done : �
       (λ e. let b = stored-stays (is-stored e i) .within in omega arith)
 
   -- No item is wrong.
-  item-right : (s o r : ℕ) → s ≤ suc kept → c′ .item s o r → Item g (a ++ t ∷ []) r (later h kept o) (later h kept s)
+  item-right : (s o r : ℕ) → s ≤ suc kept → c′ .item s o r → Item g (a ++ ks ∷ []) r (later h kept o) (later h kept s)
   item-right s o r m i = next-cases kept s m
       (λ l. let w = kept-within next in
       let j = next .items l .0 i in
       let b = h .older (omega arith) j in
-      subst₂ (Item g (a ++ t ∷ []) r) (sym (old-stands (omega arith))) (sym (old-stands l)) (item-grows (t ∷ []) (h .item-true (omega arith) j)))
+      subst₂ (Item g (a ++ ks ∷ []) r) (sym (old-stands (omega arith))) (sym (old-stands l)) (item-grows (ks ∷ []) (h .item-true (omega arith) j)))
       (λ e. let d = is-stored e i in
-      subst₂ (Item g (a ++ t ∷ []) r) (sym (old-stands (stored-stays d .within))) (sym new-stands ∙ ap (later h kept) (sym e)) (stored-item d))
+      subst₂ (Item g (a ++ ks ∷ []) r) (sym (old-stands (stored-stays d .within))) (sym new-stands ∙ ap (later h kept) (sym e)) (stored-item d))
 
   -- No row has a wrong symbol.
-  row-right : (s x : ℕ) → s ≤ suc kept → c′ .row s x → Pred g (a ++ t ∷ []) x (later h kept s)
+  row-right : (s x : ℕ) → s ≤ suc kept → c′ .row s x → Pred g (a ++ ks ∷ []) x (later h kept s)
   row-right s x m i = next-cases kept s m
       (λ l. let w = kept-within next in
-      subst (Pred g (a ++ t ∷ []) x) (sym (old-stands l)) (pred-grows (t ∷ []) (h .row-true (omega arith) (kept-row-true next l i))))
+      subst (Pred g (a ++ ks ∷ []) x) (sym (old-stands l)) (pred-grows (ks ∷ []) (h .row-true (omega arith) (kept-row-true next l i))))
       (λ e. let d = next .new-row .0 (subst (λ n. c′ .row n x) e i) in
       let j = item-right (suc kept) (d .origin) (d .rule) (omega arith) (d .item) in
       rw e (reaches-pred (d .reaches) (item-predicts j)))
 
   -- No item is missing in a live set.
-  item-complete : (s r q : ℕ) → Live c′ s → Item g (a ++ t ∷ []) r q (later h kept s) → Found c′ (later h kept) s r q
+  item-complete : (s r q : ℕ) → Live c′ s → Item g (a ++ ks ∷ []) r q (later h kept s) → Found c′ (later h kept) s r q
   item-complete s r q l i = ⊎-elim
-      (λ e. rw e (item-stored r q (subst (Item g (a ++ t ∷ []) r q) new-stands (rw e at i))))
+      (λ e. rw e (item-stored r q (subst (Item g (a ++ ks ∷ []) r q) new-stands (rw e at i))))
       (λ y.
-      let f = item-at h (t ∷ []) (y .live) (sym (old-stands (y .within))) i in
+      let f = item-at h (ks ∷ []) (y .live) (sym (old-stands (y .within))) i in
       let b = h .older (live-set h (y .live)) (f .item) in
       let w = y .within in
       record { origin = f .origin; item = next .items (y .within) .1 (f .item); stands = old-stands (omega arith) ∙ f .stands })
       (live-cases l)
 
   -- No symbol is missing in a live set's row.
-  row-complete : (s x : ℕ) → Live c′ s → Pred g (a ++ t ∷ []) x (later h kept s) → c′ .row s x
+  row-complete : (s x : ℕ) → Live c′ s → Pred g (a ++ ks ∷ []) x (later h kept s) → c′ .row s x
   row-complete s x l d = ⊎-elim
       (λ e. rw e (next .new-row .1 (pred-led item-stored (omega arith) d (ap (later h kept) e ∙ new-stands))))
-      (λ y. kept-row-there next (y .within) (y .whole) (row-at h (t ∷ []) (y .live) (sym (old-stands (y .within))) d))
+      (λ y. kept-row-there next (y .within) (y .whole) (row-at h (ks ∷ []) (y .live) (sym (old-stands (y .within))) d))
       (live-cases l)
 
-  -- THE INVARIANT GOES ON: the chart after a token holds for the tokens and it.
-  pub token : Holds g (a ++ t ∷ []) c′
+  -- THE INVARIANT GOES ON: the chart after a position holds for the positions and it.
+  pub token : Holds g (a ++ ks ∷ []) c′
   token = record {
     pos = later h kept;
     rising = λ s u l m. rises s u l (let e = next .last in omega arith);
-    ends = ap (later h kept) (next .last) ∙ new-stands ∙ (let e = length-append a (t ∷ []) in omega arith);
+    ends = ap (later h kept) (next .last) ∙ new-stands ∙ (let e = length-append a (ks ∷ []) in omega arith);
     older = λ {s} {o} {r} m i. item-older s o r (let e = next .last in omega arith) i;
     item-true = λ {s} {o} {r} m i. item-right s o r (let e = next .last in omega arith) i;
     row-true = λ {s} {x} m i. row-right s x (let e = next .last in omega arith) i;
     item-there = λ {s} {r} {q} l i. item-complete s r q l i;
     row-there = λ {s} {x} l d. row-complete s x l d;
   }
+
+  -- The sets that stay stand where they stood.
+  pub token-old : {s : ℕ} → s ≤ kept → token .pos s ≡ h .pos s
+  unfolding token
+  token-old l = old-stands l

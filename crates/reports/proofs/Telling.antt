@@ -30,7 +30,7 @@ use Rattle.laws.proofs.Tests.{either-way}
 use Rattle.laws.proofs.Decides.{true-false}
 use Rattle.demands.proofs.Agree.{checked-grammar, call-number, not-formed}
 use Rattle.demands.proofs.Lasting.{Lasts, lasts, lasts-holding, no-fault}
-use Rattle.earley.proofs.Answers.{row-viable}
+use Rattle.earley.proofs.Plain.{plain-viable}
 use Rattle.recognizer.specs.Answers.{refusalNumber}
 use Rattle.recognizer.specs.declared.Refusal.{Refusal}
 use Rattle.reports.specs.declared.Filled.{Filled}
@@ -118,7 +118,7 @@ module _ {file : List ℕ} {s : State} {w : Words} where
       row = rowOf rowWords (within w .rows) (s .set)
 
       viable : t < g .tokens → Holds row t ↔ Begins g (ts ++ (t ∷ []))
-      viable small = row-viable (formed .checked .accepted) (lasts-holding (lasts h) (formed .checked) .holds) small
+      viable small = plain-viable ts (formed .checked .accepted) (lasts-holding (lasts h) (formed .checked) .holds) small
 
   -- WHAT COULD STAND NEXT, EXACTLY.
   pub expected-tells : {place : List ℕ} {n c : ℕ} {out : List ℕ} → Lists file s w expectedTokens place n c out → ExpectedTells file s w n (take c out)
