@@ -15,7 +15,7 @@ use Rattle.laws.specs.Counts.{count}
 use Rattle.laws.proofs.Decides.{true-false}
 use Rattle.grammar.specs.Rules.{Rule, Grammar, none, ruleAt}
 use Rattle.grammar.specs.Sentences.{Derives}
-use Rattle.grammar.specs.Accepted.{Accepted, Nonterminal}
+use Rattle.grammar.specs.Accepted.{Accepted, Nonterminal, Reachable}
 use Rattle.grammar.specs.Prediction.{Reaches, here as itself, by-first}
 use Rattle.grammar.proofs.Facts.{rule-says}
 use Rattle.node.specs.Choice.{bothBelow}
@@ -96,6 +96,7 @@ accepted = record {
         string = 0 ∷ [];
         derives = subst (λ n. Derives g n (0 ∷ [])) e (Derives.unary (rule-says g 1 (omega arith)) (Derives.token {t = 0} (omega arith)));
       };
+  reachable = λ a nt. let e : 1 ≡ a = omega (arith, nt .no-token, nt .no-wrapper) in subst (Reachable g) e Reachable.from-start;
 }
 
 -- Before the token: one set, no items, and what W reaches.
