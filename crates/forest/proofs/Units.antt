@@ -96,13 +96,13 @@ products-row {s} {p} (x ∷ ps) (more {q = q} st is rest) =
 
 -- A Sum with its Products, or a leaf, stands from h up to b.
 pub data Standing (s : List ℕ) (h b : ℕ) : Node → Type 0 where
-  sums : {x : ℕ} (ps : List Product) → Row s h (Sum x (length ps) ∷ map spell ps) b → Standing s h b (sum ps)
+  sums : {x : ℕ} (ps : List Product) → Row s h (Sum (length ps) x ∷ map spell ps) b → Standing s h b (sum ps)
   leaf : {t : ℕ} → Row s h (Evaluated t ∷ []) b → Standing s h b (token t)
 
 pub standing-read : {s : List ℕ} {h b : ℕ} {n : Node} → Standing s h b n → nodeAt s h ≡ n
 unfolding nodeAt
 standing-read {s} {h} (Standing.sums {x = x} ps (more st is rest)) =
-    standing-is (usable s) h (Sum x (length ps)) (λ w. asNode w (λ n. productsAt n (usable s) (h + length (unitsAt h w)))) other st
+    standing-is (usable s) h (Sum (length ps) x) (λ w. asNode w (λ n. productsAt n (usable s) (h + length (unitsAt h w)))) other st
     ∙ ap (λ k. sum (productsAt (length ps) (usable s) k)) (sym is)
     ∙ ap sum (products-row ps rest)
 standing-read {s} {h} (Standing.leaf {t = t} (more st is rest)) =
@@ -130,7 +130,7 @@ pub written-onward : {s t : List ℕ} {used c : ℕ} {ms : List Written} → Wri
 written-onward w = record { more = used-more w; stays = λ st le. stands-stay w st le }
 
 -- A Sum written with its Products stands where the units were used up to, and ends where they are used up to now; so does a leaf.
-pub sum-stands : {s t : List ℕ} {used b x : ℕ} (ps : List Product) → WrittenFrom s used (Sum x (length ps) ∷ map spell ps) t b
+pub sum-stands : {s t : List ℕ} {used b x : ℕ} (ps : List Product) → WrittenFrom s used (Sum (length ps) x ∷ map spell ps) t b
     → Standing t used b (sum ps)
 sum-stands ps w = Standing.sums ps (written-row w)
 

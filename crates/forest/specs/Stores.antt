@@ -23,7 +23,7 @@ standing s q Unknown found none = none
 abbrev pub withProduct : Written → List Product → List Product
 withProduct (Factors r a (At b)) l = paired r a b ∷ l
 withProduct (Factors r a Nothing) l = alone r a ∷ l
-withProduct (Sum x n) l = []
+withProduct (Sum n x) l = []
 withProduct (NullingLeaf x) l = []
 withProduct (Evaluated x) l = []
 
@@ -36,7 +36,7 @@ productsAt (suc n) s p =
 
 -- A Sum with its Products, an Evaluated as a leaf, and no other node.
 abbrev pub asNode : Written → (ℕ → List Product) → Node
-asNode (Sum x n) behind = sum (behind n)
+asNode (Sum n x) behind = sum (behind n)
 asNode (Evaluated t) behind = token t
 asNode (NullingLeaf x) behind = other
 asNode (Factors r a b) behind = other
