@@ -5,12 +5,8 @@ use Prim.Native.Nat.{ℕ, zero, suc, _+_, _*_, _/_, _%_}
 use native.Mathlib.Nat.{suc-mul, zero-mul, div-add-mod, mul-comm}
 use native.Mathlib.Omega.{arith}
 use lib.ListN.{length, length-append, length-map}
+use Rattle.forest.specs.Lists.{At, first, later}
 use Rattle.forest.specs.Forests.{pairs}
-
--- `x` is the k-th member, k from 0.
-pub data At {A : Type 0} : List A → ℕ → A → Type 0 where
-  first : {x : A} {l : List A} → At (x ∷ l) zero x
-  later : {x y : A} {l : List A} {k : ℕ} → At l k x → At (y ∷ l) (suc k) x
 
 -- Of two lists, one behind the other, the first's are passed over.
 pub at-left : {A : Type 0} {l : List A} {k : ℕ} {x : A} (m : List A) → At l k x → At (l ++ m) k x

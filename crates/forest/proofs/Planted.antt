@@ -8,12 +8,12 @@ use native.Mathlib.Omega.{arith}
 use Rattle.grammar.specs.Rules.{Grammar}
 use Rattle.earley.specs.Positions.{Positions}
 use Rattle.earley.proofs.Charts.{Chart}
-use Rattle.forest.specs.Forests.{Product, Node, token, sum}
+use Rattle.forest.specs.Forests.{Product, Node, token, sum, FactorOf, Under}
 use Rattle.forest.proofs.Forests.{ExactAt, Handles, Summand, Before, SumOf}
 use Rattle.forest.proofs.Tied.{Turn, Tied}
 use Rattle.forest.proofs.Entries.{Entry, Pair, Items, productOf, Order, terms, Calling, Charted, Rising, Linked}
 use Rattle.forest.proofs.Sums.{handles, sums}
-use Rattle.forest.proofs.Rooted.{Store, Onward, FactorOf, Under, Rooted, rooted-stays, exact-at-stays}
+use Rattle.forest.proofs.Rooted.{Store, Onward, Rooted, rooted-stays, exact-at-stays}
 
 -- The node of a turn: a leaf for a token, a Sum of its products for a nonterminal.
 pub record NodeOf (g : Grammar) (is : Items) (t : Turn Entry Pair) (n : Node) : Type 0 where
@@ -119,10 +119,10 @@ module _ (g : Grammar) (c : Chart) (is : Items) (o : Order) {past : List (Turn E
     same-products = sym (its .stands) ∙ store .reads (stand t m .stands) ∙ stand t m .is-node .sums big
 
     under-low : (q : ℕ) → Under q (sum (its .products)) → q < t .handle
-    under-low q (Under.under {p = p} n f) = factor-low (its .before p n) f
+    under-low q (Under.of-product {p = p} n f) = factor-low (its .before p n) f
 
     under-rooted : (q : ℕ) → Under q (sum (its .products)) → Rooted store used q
-    under-rooted q (Under.under {p = p} n f) =
+    under-rooted q (Under.of-product {p = p} n f) =
         factor-is {hs = hs} (its .all p .0 n) f (λ k x l. below k x q l (factor-low (its .before p n) f))
         (λ s o r h. subst (Rooted store used) (h .handle) (old s (h .place) (h .inside)))
 

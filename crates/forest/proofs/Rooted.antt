@@ -6,7 +6,7 @@ use native.Mathlib.Omega.{arith}
 use Rattle.grammar.specs.Rules.{Grammar}
 use Rattle.earley.specs.Positions.{Positions}
 use Rattle.forest.specs.Trees.{Tree, one, two}
-use Rattle.forest.specs.Forests.{Product, alone, paired, Node, token, sum, other, pairs, ofProduct, ofNode, listed}
+use Rattle.forest.specs.Forests.{Product, alone, paired, Node, token, sum, other, FactorOf, Under, pairs, ofProduct, ofNode, listed}
 use Rattle.forest.proofs.Forests.{Exact, ExactAt}
 
 -- A store as the forest sees it: the node that stands at a handle, with the position behind it, is the one that is read there.
@@ -20,15 +20,6 @@ pub record Store : Type 1 where
 pub record Onward (s : Store) (used : ℕ) (t : Store) (now : ℕ) : Type 0 where
   pub more : used ≤ now
   pub stays : {h b : ℕ} {n : Node} → s .Stands h b n → b ≤ used → t .Stands h b n
-
--- A factor of a product, and of a node: of one of the products of a Sum.
-pub data FactorOf (q : ℕ) : Product → Type 0 where
-  only : {r : ℕ} → FactorOf q (alone r q)
-  left : {r b : ℕ} → FactorOf q (paired r q b)
-  right : {r a : ℕ} → FactorOf q (paired r a q)
-
-pub data Under (q : ℕ) : Node → Type 0 where
-  under : {ps : List Product} {p : Product} → Member p ps → FactorOf q p → Under q (sum ps)
 
 -- A node stands at the handle, before `used`; its factors lie before it, and so do they stand, and theirs.
 pub data Rooted (s : Store) (used : ℕ) : ℕ → Type 0 where
@@ -56,7 +47,7 @@ product-same u v (paired r a b) same =
 
 node-same : (u v : ℕ → List Tree) (n : Node) → ((q : ℕ) → Under q n → u q ≡ v q) → ofNode u n ≡ ofNode v n
 node-same u v (token t) same = refl
-node-same u v (sum ps) same = joined-same (ofProduct u) (ofProduct v) ps (λ p m. product-same u v p (λ q f. same q (Under.under m f)))
+node-same u v (sum ps) same = joined-same (ofProduct u) (ofProduct v) ps (λ p m. product-same u v p (λ q f. same q (Under.of-product m f)))
 node-same u v other same = refl
 
 -- THE TREES STAY.

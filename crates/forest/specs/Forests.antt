@@ -1,5 +1,5 @@
 -- The trees that a forest lists under a handle.
-use mathlib.Core.List.{List, [], _∷_, map, flatMap}
+use mathlib.Core.List.{List, [], _∷_, map, flatMap, List·Memᴰ as Member}
 use Prim.Native.Nat.{ℕ, zero, suc}
 use Rattle.forest.specs.Trees.{Tree, leaf, one, two}
 
@@ -13,6 +13,15 @@ pub data Node : Type 0 where
   token : ℕ → Node
   sum : List Product → Node
   other : Node
+
+-- A factor of a product, and of a node: of one of the products of a Sum.
+pub data FactorOf (q : ℕ) : Product → Type 0 where
+  only : {r : ℕ} → FactorOf q (alone r q)
+  left : {r b : ℕ} → FactorOf q (paired r q b)
+  right : {r a : ℕ} → FactorOf q (paired r a q)
+
+pub data Under (q : ℕ) : Node → Type 0 where
+  of-product : {ps : List Product} {p : Product} → Member p ps → FactorOf q p → Under q (sum ps)
 
 -- Each of the first list with each of the second, the first deciding before the second.
 abbrev pub pairs : {A B C : Type 0} → (A → B → C) → List A → List B → List C
