@@ -6,8 +6,9 @@ use native.Mathlib.Omega.{arith}
 use lib.Dec.{ltb}
 use borrow.Author.Tests.{ltb-true, ltb-false}
 use Rattle.laws.proofs.Tests.{either-way}
+use Rattle.binary_heap.specs.Entry.{Entry}
 use Rattle.binary_heap.specs.Heap.{top}
-use Rattle.binary_heap.specs.Words.{pushAnswer, popAnswer}
+use Rattle.binary_heap.specs.Queue.{pushAnswer, popAnswer}
 use Rattle.binary_heap.specs.declared.Pushed.the-variants.{Full, Count}
 use Rattle.binary_heap.specs.declared.Popped.the-variants as pops
 
@@ -36,24 +37,24 @@ count-tells capacity n m count =
     absurd (omega arith))
 
 -- Empty: there is no entry.
-pub pop-empty-tells : (q : List ℕ) (n : ℕ) → popAnswer q n ≡ pops.Empty → n ≡ 0
+pub pop-empty-tells : (q : List Entry) (n : ℕ) → popAnswer q n ≡ pops.Empty → n ≡ 0
 unfolding popAnswer
 pop-empty-tells q n empty =
     either-way (ltb 0 n)
     (λ e.
-    let answer : pops.Entry (top q) (n - 1) ≡ pops.Empty = rw (popAnswer, e) at empty in
+    let answer : pops.Entry (top q .place) (n - 1) ≡ pops.Empty = rw (popAnswer, e) at empty in
     let never : _≡_ {A = ℕ} 0 1 = cc in
     absurd (omega arith))
     (λ e. omega (arith, ltb-false 0 n e))
 
 -- An entry: it is the one at the root.
-pub pop-entry-tells : (q : List ℕ) (n entry left : ℕ) → popAnswer q n ≡ pops.Entry entry left
-    → (0 < n) × (entry ≡ top q) × (left ≡ n - 1)
+pub pop-entry-tells : (q : List Entry) (n entry left : ℕ) → popAnswer q n ≡ pops.Entry entry left
+    → (0 < n) × (entry ≡ top q .place) × (left ≡ n - 1)
 unfolding popAnswer
 pop-entry-tells q n entry left there =
     either-way (ltb 0 n)
     (λ e.
-    let answer : pops.Entry (top q) (n - 1) ≡ pops.Entry entry left = rw (popAnswer, e) at there in
+    let answer : pops.Entry (top q .place) (n - 1) ≡ pops.Entry entry left = rw (popAnswer, e) at there in
     (ltb-true 0 n e, cc, cc))
     (λ e.
     let answer : pops.Empty ≡ pops.Entry entry left = rw (popAnswer, e) at there in

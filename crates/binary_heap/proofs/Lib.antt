@@ -7,6 +7,8 @@ pub mod WordLaws
 pub mod Answers
 pub mod Kept
 pub mod Words
+pub mod Each
+pub mod Held
 pub mod Entries
 pub mod Hole
 pub mod Alike

@@ -1,4 +1,5 @@
 -- What the buyer must believe of the queue.
+pub mod Entry
 pub mod Sift
 pub mod Heap
-pub mod Words
+pub mod Queue

@@ -8,8 +8,10 @@ use native.Mathlib.Omega.{arith}
 use lib.ListN.{length, getD, length-take, List·getD-eq-default}
 use Rattle.laws.specs.Bits.{wordBits}
 use Rattle.bits.specs.Width.{rowWords}
-use Rattle.item.specs.Item.{itemWords, itemAt, keyAt}
+use Rattle.item.specs.Item.{itemWords, itemAt}
+use Rattle.binary_heap.specs.Entry.{entryKey}
 use Rattle.binary_heap.proofs.Top.{empty-heap}
+use Rattle.binary_heap.proofs.Held.{held-none}
 use Rattle.grammar.specs.Rules.{Rule, Grammar, noRule, ruleCount}
 use Rattle.grammar.specs.Accepted.{Accepted, maxRules}
 use Rattle.parse.specs.declared.State.{State}
@@ -127,12 +129,12 @@ module _ {n : ℕ} {rs : List Rule} {st : State} {v : Words} (well : WellFormed 
         };
         earlier = λ k p from up-to.
             well .fit k p (inside-set k p (record { from = from; up-to = up-to })) (record { from = from; up-to = up-to }) .earlier;
-        heap = empty-heap (keyAt (v .items));
+        heap = empty-heap (entryKey (v .items));
       }
 
-  -- Its queue words are 0.
+  -- Its queue has no entry.
   pub begins-spare : SpareQueue (beginning st v)
-  begins-spare = record { spare = λ i behind. well .spare-queue i }
+  begins-spare = record { spare = λ i behind. held-none (v .queue) (well .spare-queue) i }
 
 -- The words within the capacities are few, and have a start for each row and one behind.
 pub within-few-items : (w : Words) → length (within w .items) ≤ itemWords * maxItems

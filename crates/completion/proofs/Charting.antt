@@ -5,10 +5,12 @@ use mathlib.Core.List.{List}
 use Prim.Native.Nat.{ℕ, _+_, _*_, _≤_, _<_}
 use native.Mathlib.Decide.{decLt}
 use native.Mathlib.Omega.{arith}
-use lib.ListN.{length, getD}
+use lib.ListN.{length}
 use Rattle.laws.proofs.Turns.{until-keeps}
-use Rattle.laws.proofs.Counts.{Every}
-use Rattle.item.specs.Item.{Item, itemAt, keyAt}
+use Rattle.binary_heap.proofs.Each.{Every}
+use Rattle.item.specs.Item.{Item, itemAt}
+use Rattle.binary_heap.specs.Entry.{entryKey}
+use Rattle.binary_heap.specs.Sift.{entryAt}
 use Rattle.item.proofs.Words.{stored-item}
 use Rattle.binary_heap.proofs.PopLaws.{popped-every}
 use Rattle.grammar.specs.Rules.{Rule}
@@ -29,11 +31,11 @@ use Rattle.completion.proofs.Through.{Inside, medial-keeps, medial-item
 pub next-sound : (s : Pass) → PassFits s → 0 < s .at .queued → PassFits (nextSummand s)
 next-sound s sound some = next-is PassFits s some done
   where
-    places : Every (λ v. v < s .at .items) (entriesOf (poppedPass s))
+    places : Every (λ v. v .place < s .at .items) (entriesOf (poppedPass s))
     places =
-        subst (Every (λ v. v < s .at .items)) (sym (popped-entries s (sound .queued-fit) some))
-        (popped-every (keyAt (s .items)) (entriesOf s) (some-entries s (sound .queued-fit) some) (λ v. v < s .at .items)
-        (every-entry s (sound .queued-fit) (λ v. v < s .at .items) (sound .entries)))
+        subst (Every (λ v. v .place < s .at .items)) (sym (popped-entries s (sound .queued-fit) some))
+        (popped-every (entryKey (s .items)) (entriesOf s) (some-entries s (sound .queued-fit) some) (λ v. v .place < s .at .items)
+        (every-entry s (sound .queued-fit) (λ v. v .place < s .at .items) (sound .entries)))
 
     fits : poppedPass s .at .queued ≤ length (poppedPass s .queue)
     fits = omega (arith, popped-words s (sound .queued-fit) some, sound .queued-fit)
@@ -44,7 +46,7 @@ next-sound s sound some = next-is PassFits s some done
           few-items = sound .few-items;
           items-fit = sound .items-fit;
           queued-fit = fits;
-          entries = each-entry (poppedPass s) fits (λ v. v < s .at .items) places;
+          entries = each-entry (poppedPass s) fits (λ v. v .place < s .at .items) places;
         }
 
 -- An item of a rule and a set.
@@ -184,8 +186,8 @@ module _ (rs : List Rule) (starts : List ℕ) (s : Pass) where
   -- The greatest entry is a place of an item, with a set for its origin and a rule.
   pub greatest-charts : (t : Pass) → 0 < t .at .queued → Steady rs starts s t → Charts rs starts (greatest t)
   greatest-charts t some steady =
-      let there : getD (t .queue) 0 0 < t .at .items = steady .sound .entries 0 some in
-      record { is-rule = steady .charted .rules (getD (t .queue) 0 0) there; is-set = steady .charted .origins (getD (t .queue) 0 0) there }
+      let there : entryAt (t .queue) 0 .place < t .at .items = steady .sound .entries 0 some in
+      record { is-rule = steady .charted .rules (entryAt (t .queue) 0 .place) there; is-set = steady .charted .origins (entryAt (t .queue) 0 .place) there }
 
   module _ (rows : List ℕ) where
     -- A sum keeps all of it, and so do all sums.

@@ -7,7 +7,8 @@ use native.Mathlib.Decide.{decLt}
 use native.Mathlib.Omega.{arith}
 use lib.ListN.{length, getD}
 use Rattle.laws.proofs.Turns.{until-keeps}
-use Rattle.laws.proofs.Counts.{Every}
+use Rattle.binary_heap.specs.Sift.{entryAt}
+use Rattle.binary_heap.proofs.Each.{Every}
 use Rattle.item.specs.Item.{Item, itemAt, originAt, ruleAt, keyOf}
 use Rattle.grammar.specs.Rules.{Rule, none, noRule}
 use Rattle.parse.specs.WellFormed.{leftOf, ruleOf}
@@ -201,13 +202,13 @@ module _ (rs : List Rule) (starts rows : List ℕ) (s : Pass) (k x : ℕ) (set :
 abbrev pub firstOf : List Rule → Item → ℕ
 firstOf rs i = ruleOf rs i .first
 
--- The items from place `old` on are distinct, of origins up to `e`, and of pairs that are done with: every entry is below them.
+-- The items from place `old` on differ in origin or rule, and are of origins up to `e`, and of pairs that are done with: every entry is below them.
 pub record Fresh (rs : List Rule) (e old : ℕ) (t : Pass) : Type 0 where
   pub has : old ≤ t .at .items
-  pub entry-origins : Every (λ v. originAt (t .items) v ≤ e) (entriesOf t)
+  pub entry-origins : Every (λ v. originAt (t .items) (v .place) ≤ e) (entriesOf t)
   pub origins : (p : ℕ) → old ≤ p → p < t .at .items → originAt (t .items) p ≤ e
   pub behind : (p : ℕ) → old ≤ p → p < t .at .items → AllLower rs (originAt (t .items) p) (firstOf rs (itemAt (t .items) p)) t
-  pub distinct : (p q : ℕ) → old ≤ p → p < q → q < t .at .items → itemAt (t .items) p ≡ itemAt (t .items) q → ⊥
+  pub distinct : (p q : ℕ) → old ≤ p → p < q → q < t .at .items → originAt (t .items) p ≡ originAt (t .items) q → ruleAt (t .items) p ≡ ruleAt (t .items) q → ⊥
 
 -- Pair `k`, `x` was not completed yet, and what is below it is below the pairs of the items from `old` on, up to those of `s`.
 record Unmet (rs : List Rule) (e old k x : ℕ) (s : Pass) : Type 0 where
@@ -216,7 +217,7 @@ record Unmet (rs : List Rule) (e old k x : ℕ) (s : Pass) : Type 0 where
   pub other : (p : ℕ) → old ≤ p → p < s .at .items → originAt (s .items) p ≡ k → firstOf rs (itemAt (s .items) p) ≡ x → ⊥
   pub under :
       (p : ℕ) → old ≤ p → p < s .at .items → (i : Item) → Lower rs k x i → Lower rs (originAt (s .items) p) (firstOf rs (itemAt (s .items) p)) i
-  pub distinct : (p q : ℕ) → old ≤ p → p < q → q < s .at .items → itemAt (s .items) p ≡ itemAt (s .items) q → ⊥
+  pub distinct : (p q : ℕ) → old ≤ p → p < q → q < s .at .items → originAt (s .items) p ≡ originAt (s .items) q → ruleAt (s .items) p ≡ ruleAt (s .items) q → ⊥
 
 module _ {rs : List Rule} {starts rows : List ℕ} (grounds : Grounds rs starts rows) (s : Pass) (pending : Pending rs starts s) (e old k x : ℕ)
     (set : IsSet starts k) (latest : k ≤ e) (unmet : Unmet rs e old k x s) where
@@ -242,28 +243,35 @@ module _ {rs : List Rule} {starts rows : List ℕ} (grounds : Grounds rs starts 
                   | yes b ↦
                       subst (λ (i : Item). AllLower rs (i .origin) (firstOf rs i) t) (sym (item p b))
                       (record {
-                        all = record { each = λ i h′. unmet .under p h b (itemAt (t .items) (getD (entriesOf t) i 0)) (after .ordered .each .each i h′) };
+                        all = record { each = λ i h′. unmet .under p h b (itemAt (t .items) (entryAt (entriesOf t) i .place)) (after .ordered .each .each i h′) };
                       })
                   | no b ↦
                       subst (λ (o : ℕ). AllLower rs o (firstOf rs (itemAt (t .items) p)) t) (sym (of .origins p (omega arith) there))
                       (subst (λ (y : ℕ). AllLower rs k y t) (sym (of .firsts p (omega arith) there)) (heaped-all after))
                 ];
-            distinct = λ p q h less there same-items.
+            distinct = λ p q h less there same-origin same-rule.
                 elim (decLt q (s .at .items)) [
-                  | yes b ↦ unmet .distinct p q h less b (sym (item p (omega arith)) ∙ same-items ∙ item q b)
+                  | yes b ↦
+                      unmet .distinct p q h less b (sym (origin p (omega arith)) ∙ same-origin ∙ origin q b) (sym (rule p (omega arith)) ∙ same-rule ∙ rule q b)
                   | no b ↦
                       elim (decLt p (s .at .items)) [
                         | yes a ↦
                             unmet .other p h a
-                            (ap (λ (i : Item). i .origin) (sym (item p a) ∙ same-items) ∙ of .origins q (omega arith) there)
-                            (ap (firstOf rs) (sym (item p a) ∙ same-items) ∙ of .firsts q (omega arith) there)
-                        | no a ↦ of .distinct p q (omega arith) less there (ap (λ (i : Item). i .rule) same-items)
+                            (sym (origin p a) ∙ same-origin ∙ of .origins q (omega arith) there)
+                            (ap (λ (r : ℕ). getD rs r noRule .first) (sym (rule p a) ∙ same-rule) ∙ of .firsts q (omega arith) there)
+                        | no a ↦ of .distinct p q (omega arith) less there same-rule
                       ]
                 ];
           }
         where
           item : (p : ℕ) → p < s .at .items → itemAt (t .items) p ≡ itemAt (s .items) p
           item p h = after .steady .onward .same-items p h
+
+          origin : (p : ℕ) → p < s .at .items → originAt (t .items) p ≡ originAt (s .items) p
+          origin p h = ap (λ (i : Item). i .origin) (item p h)
+
+          rule : (p : ℕ) → p < s .at .items → ruleAt (t .items) p ≡ ruleAt (s .items) p
+          rule p h = ap (λ (i : Item). i .rule) (item p h)
 
 module _ {rs : List Rule} {starts rows : List ℕ} (grounds : Grounds rs starts rows) (e : ℕ) where
   -- The first completion of a pass stores fresh items.
@@ -297,7 +305,7 @@ module _ {rs : List Rule} {starts rows : List ℕ} (grounds : Grounds rs starts 
         let pair : (p : ℕ) → old ≤ p → p < s .at .items → Lower rs (originAt (s .items) p) (firstOf rs (itemAt (s .items) p)) (greatest s) =
         λ p h there. greatest-lower grounds s pending some (originAt (s .items) p) (firstOf rs (itemAt (s .items) p)) (fresh .behind p h there) in
         fresh-complete grounds s pending e old (greatest s .origin) (leftOf rs (greatest s)) (charts .is-set)
-        (each-entry s (pending .sound .queued-fit) (λ v. originAt (s .items) v ≤ e) (fresh .entry-origins) 0 some)
+        (each-entry s (pending .sound .queued-fit) (λ v. originAt (s .items) (v .place) ≤ e) (fresh .entry-origins) 0 some)
         (record {
           has = fresh .has;
           origins = fresh .origins;

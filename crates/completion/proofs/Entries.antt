@@ -4,39 +4,41 @@ use mathlib.Core.List.{List, _∷_, _++_}
 use Prim.Native.Nat.{ℕ, _+_, _-_, _/_, _≤_, _<_}
 use native.Mathlib.Decide.{decLt, ℕ-discrete}
 use native.Mathlib.Omega.{arith}
-use lib.ListN.{length, getD, take, drop, length-append, length-drop}
+use lib.ListN.{length, take, drop, length-append, length-drop}
 use lib.Seq.{length-take-le, getD-take, take-at, getD-append-add, getD-drop}
 use borrow.Author.Tests.{lt-ltb}
-use Rattle.laws.proofs.Counts.{Every}
-use Rattle.item.specs.Item.{itemWords, keyAt, stored}
+use Rattle.binary_heap.proofs.Each.{Every}
+use Rattle.item.specs.Item.{itemWords, stored}
+use Rattle.binary_heap.specs.Entry.{Entry, noEntry, entryKey}
+use Rattle.binary_heap.specs.Sift.{entryAt}
 use Rattle.binary_heap.specs.Heap.{pushed, popped}
-use Rattle.binary_heap.specs.Words.{popWords}
+use Rattle.binary_heap.specs.Queue.{popQueue}
 use Rattle.binary_heap.proofs.PushLaws.{pushed-length}
 use Rattle.binary_heap.proofs.PopLaws.{popped-length}
-use Rattle.completion.specs.Pass.{Pass, passOf, refused, andThen, store, enqueue, itemsFull, queueFull}
+use Rattle.completion.specs.Pass.{Pass, passWith, refused, andThen, store, enqueue, itemsFull, queueFull}
 use Rattle.completion.specs.Sums.{nextSummand}
 use Rattle.completion.proofs.Pushes.{store-done, store-refused, enqueue-done, enqueue-refused, goes-on, stays}
 use Rattle.completion.proofs.Soundness.{push-into}
 
 -- The entries of the queue.
-abbrev pub entriesOf : Pass → List ℕ
+abbrev pub entriesOf : Pass → List Entry
 entriesOf s = take (s .at .queued) (s .queue)
 
 -- A pass after an item was stored, after a place was queued, and after the greatest entry was popped.
 abbrev pub storedPass : ℕ → ℕ → Pass → Pass
 storedPass origin rule s =
-    passOf (record { stopped = 0; items = s .at .items + 1; queued = s .at .queued })
+    passWith (record { stopped = 0; items = s .at .items + 1; queued = s .at .queued })
     (stored (s .items) (s .at .items) (record { origin = origin; rule = rule })) (s .queue)
 
 abbrev pub queuedPass : ℕ → Pass → Pass
 queuedPass place s =
-    passOf (record { stopped = 0; items = s .at .items; queued = s .at .queued + 1 }) (s .items)
-    (pushed (keyAt (s .items)) (entriesOf s) place ++ drop (s .at .queued + 1) (s .queue))
+    passWith (record { stopped = 0; items = s .at .items; queued = s .at .queued + 1 }) (s .items)
+    (pushed (entryKey (s .items)) (entriesOf s) (record { place = place }) ++ drop (s .at .queued + 1) (s .queue))
 
 abbrev pub poppedPass : Pass → Pass
 poppedPass s =
-    passOf (record { stopped = s .at .stopped; items = s .at .items; queued = s .at .queued - 1 }) (s .items)
-    (popped (keyAt (s .items)) (entriesOf s) ++ (0 ∷ drop (s .at .queued) (s .queue)))
+    passWith (record { stopped = s .at .stopped; items = s .at .items; queued = s .at .queued - 1 }) (s .items)
+    (popped (entryKey (s .items)) (entriesOf s) ++ (noEntry ∷ drop (s .at .queued) (s .queue)))
 
 module _ (P : Pass → Type 0) (s : Pass) where
   -- Storing an item ends in one of two ways.
@@ -54,8 +56,8 @@ module _ (P : Pass → Type 0) (s : Pass) where
       elim (decLt (s .at .queued) (length (s .queue))) [
         | yes free ↦
             subst P (sym (enqueue-done s place free))
-            (subst (λ (w : List ℕ). P (passOf (record { stopped = 0; items = s .at .items; queued = s .at .queued + 1 }) (s .items) w))
-            (sym (push-into (keyAt (s .items)) (s .queue) (s .at .queued) place free)) (done free))
+            (subst (λ (w : List Entry). P (passWith (record { stopped = 0; items = s .at .items; queued = s .at .queued + 1 }) (s .items) w))
+            (sym (push-into (entryKey (s .items)) (s .queue) (s .at .queued) (record { place = place }) free)) (done free))
         | no none ↦ subst P (sym (enqueue-refused s place (omega arith))) full
       ]
 
@@ -69,22 +71,22 @@ module _ (P : Pass → Type 0) (s : Pass) where
 
   -- Popping the greatest of some entries.
   pub next-is : 0 < s .at .queued → P (poppedPass s) → P (nextSummand s)
-  unfolding nextSummand popWords
-  next-is some p = rw (nextSummand, popWords, lt-ltb 0 (s .at .queued) some) p
+  unfolding nextSummand popQueue
+  next-is some p = rw (nextSummand, popQueue, lt-ltb 0 (s .at .queued) some) p
 
 module _ (s : Pass) (fit : s .at .queued ≤ length (s .queue)) where
   -- There are as many entries as are counted.
   pub entries-length : length (entriesOf s) ≡ s .at .queued
   entries-length = length-take-le (s .at .queued) (s .queue) fit
 
-  pub entry-at : (i : ℕ) → i < s .at .queued → getD (entriesOf s) i 0 ≡ getD (s .queue) i 0
-  entry-at i there = getD-take (s .at .queued) (s .queue) i 0 there
+  pub entry-at : (i : ℕ) → i < s .at .queued → entryAt (entriesOf s) i ≡ entryAt (s .queue) i
+  entry-at i there = getD-take (s .at .queued) (s .queue) i noEntry there
 
   -- What each entry has, by its place in the queue.
-  pub each-entry : (P : ℕ → Type 0) → Every P (entriesOf s) → (i : ℕ) → i < s .at .queued → P (getD (s .queue) i 0)
+  pub each-entry : (P : Entry → Type 0) → Every P (entriesOf s) → (i : ℕ) → i < s .at .queued → P (entryAt (s .queue) i)
   each-entry P all i there = subst P (entry-at i there) (all .each i (omega (arith, entries-length)))
 
-  pub every-entry : (P : ℕ → Type 0) → ((i : ℕ) → i < s .at .queued → P (getD (s .queue) i 0)) → Every P (entriesOf s)
+  pub every-entry : (P : Entry → Type 0) → ((i : ℕ) → i < s .at .queued → P (entryAt (s .queue) i)) → Every P (entriesOf s)
   every-entry P all = record {
     each = λ i there.
         let counted : i < s .at .queued = omega (arith, entries-length) in
@@ -92,72 +94,72 @@ module _ (s : Pass) (fit : s .at .queued ≤ length (s .queue)) where
   }
 
   module _ (place : ℕ) where
-    queue-pushed-length : length (pushed (keyAt (s .items)) (entriesOf s) place) ≡ s .at .queued + 1
-    queue-pushed-length = omega (arith, pushed-length (keyAt (s .items)) (entriesOf s) place, entries-length)
+    queue-pushed-length : length (pushed (entryKey (s .items)) (entriesOf s) (record { place = place })) ≡ s .at .queued + 1
+    queue-pushed-length = omega (arith, pushed-length (entryKey (s .items)) (entriesOf s) (record { place = place }), entries-length)
 
     -- A push into the queue is a push into the list of entries,
-    pub queued-entries : entriesOf (queuedPass place s) ≡ pushed (keyAt (s .items)) (entriesOf s) place
+    pub queued-entries : entriesOf (queuedPass place s) ≡ pushed (entryKey (s .items)) (entriesOf s) (record { place = place })
     queued-entries =
-        take-at (pushed (keyAt (s .items)) (entriesOf s) place) (drop (s .at .queued + 1) (s .queue)) (s .at .queued + 1) queue-pushed-length
+        take-at (pushed (entryKey (s .items)) (entriesOf s) (record { place = place })) (drop (s .at .queued + 1) (s .queue)) (s .at .queued + 1) queue-pushed-length
 
-    -- and leaves the number of words, and those behind the entries.
+    -- and leaves the room, and what is behind the entries.
     pub queued-length : s .at .queued < length (s .queue) → length (queuedPass place s .queue) ≡ length (s .queue)
     queued-length free =
         omega (
           arith,
-          length-append (pushed (keyAt (s .items)) (entriesOf s) place) (drop (s .at .queued + 1) (s .queue)),
+          length-append (pushed (entryKey (s .items)) (entriesOf s) (record { place = place })) (drop (s .at .queued + 1) (s .queue)),
           queue-pushed-length,
           length-drop (s .at .queued + 1) (s .queue),
         )
 
-    pub queued-behind : (i : ℕ) → s .at .queued + 1 ≤ i → getD (queuedPass place s .queue) i 0 ≡ getD (s .queue) i 0
+    pub queued-behind : (i : ℕ) → s .at .queued + 1 ≤ i → entryAt (queuedPass place s .queue) i ≡ entryAt (s .queue) i
     queued-behind i behind =
-        let p : List ℕ = pushed (keyAt (s .items)) (entriesOf s) place in
-        let rest : List ℕ = drop (s .at .queued + 1) (s .queue) in
+        let p : List Entry = pushed (entryKey (s .items)) (entriesOf s) (record { place = place }) in
+        let rest : List Entry = drop (s .at .queued + 1) (s .queue) in
         let there : length p + (i - (s .at .queued + 1)) ≡ i = omega (arith, queue-pushed-length) in
         let from : s .at .queued + 1 + (i - (s .at .queued + 1)) ≡ i = omega arith in
-        ap (λ (n : ℕ). getD (p ++ rest) n 0) (sym there)
-        ∙ getD-append-add p rest (i - (s .at .queued + 1)) 0
-        ∙ getD-drop (s .at .queued + 1) (s .queue) (i - (s .at .queued + 1)) 0
-        ∙ ap (λ (n : ℕ). getD (s .queue) n 0) from
+        ap (entryAt (p ++ rest)) (sym there)
+        ∙ getD-append-add p rest (i - (s .at .queued + 1)) noEntry
+        ∙ getD-drop (s .at .queued + 1) (s .queue) (i - (s .at .queued + 1)) noEntry
+        ∙ ap (entryAt (s .queue)) from
 
   module _ (some : 0 < s .at .queued) where
     pub some-entries : 0 < length (entriesOf s)
     some-entries = omega (arith, entries-length)
 
-    queue-popped-length : length (popped (keyAt (s .items)) (entriesOf s)) ≡ s .at .queued - 1
-    queue-popped-length = omega (arith, popped-length (keyAt (s .items)) (entriesOf s) some-entries, entries-length)
+    queue-popped-length : length (popped (entryKey (s .items)) (entriesOf s)) ≡ s .at .queued - 1
+    queue-popped-length = omega (arith, popped-length (entryKey (s .items)) (entriesOf s) some-entries, entries-length)
 
     -- A pop from the queue is a pop from the list of entries,
-    pub popped-entries : entriesOf (poppedPass s) ≡ popped (keyAt (s .items)) (entriesOf s)
+    pub popped-entries : entriesOf (poppedPass s) ≡ popped (entryKey (s .items)) (entriesOf s)
     popped-entries =
-        take-at (popped (keyAt (s .items)) (entriesOf s)) (0 ∷ drop (s .at .queued) (s .queue)) (s .at .queued - 1) queue-popped-length
+        take-at (popped (entryKey (s .items)) (entriesOf s)) (noEntry ∷ drop (s .at .queued) (s .queue)) (s .at .queued - 1) queue-popped-length
 
-    -- and leaves the number of words, and behind the entries a 0 and those that were there.
+    -- and leaves the room, and behind the entries none and what was there.
     pub popped-words : length (poppedPass s .queue) ≡ length (s .queue)
     popped-words =
         omega (
           arith,
-          length-append (popped (keyAt (s .items)) (entriesOf s)) (0 ∷ drop (s .at .queued) (s .queue)),
+          length-append (popped (entryKey (s .items)) (entriesOf s)) (noEntry ∷ drop (s .at .queued) (s .queue)),
           queue-popped-length,
           length-drop (s .at .queued) (s .queue),
         )
 
-    pub popped-last : getD (poppedPass s .queue) (s .at .queued - 1) 0 ≡ 0
+    pub popped-last : entryAt (poppedPass s .queue) (s .at .queued - 1) ≡ noEntry
     popped-last =
-        let p : List ℕ = popped (keyAt (s .items)) (entriesOf s) in
-        let rest : List ℕ = 0 ∷ drop (s .at .queued) (s .queue) in
+        let p : List Entry = popped (entryKey (s .items)) (entriesOf s) in
+        let rest : List Entry = noEntry ∷ drop (s .at .queued) (s .queue) in
         let there : length p + 0 ≡ s .at .queued - 1 = omega (arith, queue-popped-length) in
-        ap (λ (n : ℕ). getD (p ++ rest) n 0) (sym there) ∙ getD-append-add p rest 0 0
+        ap (entryAt (p ++ rest)) (sym there) ∙ getD-append-add p rest 0 noEntry
 
-    pub popped-behind : (i : ℕ) → s .at .queued ≤ i → getD (poppedPass s .queue) i 0 ≡ getD (s .queue) i 0
+    pub popped-behind : (i : ℕ) → s .at .queued ≤ i → entryAt (poppedPass s .queue) i ≡ entryAt (s .queue) i
     popped-behind i behind =
-        let p : List ℕ = popped (keyAt (s .items)) (entriesOf s) in
-        let rest : List ℕ = 0 ∷ drop (s .at .queued) (s .queue) in
+        let p : List Entry = popped (entryKey (s .items)) (entriesOf s) in
+        let rest : List Entry = noEntry ∷ drop (s .at .queued) (s .queue) in
         let there : length p + (1 + (i - s .at .queued)) ≡ i = omega (arith, queue-popped-length) in
         let from : s .at .queued + (i - s .at .queued) ≡ i = omega arith in
-        ap (λ (n : ℕ). getD (p ++ rest) n 0) (sym there)
-        ∙ getD-append-add p rest (1 + (i - s .at .queued)) 0
-        ∙ ap (λ (n : ℕ). getD rest n 0) (let one : 1 + (i - s .at .queued) ≡ Prim.Native.Nat.suc (i - s .at .queued) = omega arith in one)
-        ∙ getD-drop (s .at .queued) (s .queue) (i - s .at .queued) 0
-        ∙ ap (λ (n : ℕ). getD (s .queue) n 0) from
+        ap (entryAt (p ++ rest)) (sym there)
+        ∙ getD-append-add p rest (1 + (i - s .at .queued)) noEntry
+        ∙ ap (entryAt rest) (let one : 1 + (i - s .at .queued) ≡ Prim.Native.Nat.suc (i - s .at .queued) = omega arith in one)
+        ∙ getD-drop (s .at .queued) (s .queue) (i - s .at .queued) noEntry
+        ∙ ap (entryAt (s .queue)) from

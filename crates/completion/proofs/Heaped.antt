@@ -5,10 +5,12 @@ use Prim.Native.Nat.{ℕ, _+_, _<_}
 use native.Mathlib.Omega.{arith}
 use lib.ListN.{length, getD}
 use Rattle.laws.proofs.Turns.{until-keeps}
-use Rattle.laws.proofs.Counts.{Every}
-use Rattle.item.specs.Item.{Item, itemAt, keyAt}
-use Rattle.binary_heap.specs.Sift.{parent}
+use Rattle.binary_heap.proofs.Each.{Every}
+use Rattle.item.specs.Item.{Item, itemAt}
+use Rattle.binary_heap.specs.Entry.{entryKey}
+use Rattle.binary_heap.specs.Sift.{entryAt}
 use Rattle.binary_heap.specs.Heap.{Heap}
+use Rattle.binary_heap.proofs.Top.{heap-same-keys}
 use Rattle.binary_heap.proofs.PushLaws.{pushed-heap, pushed-every}
 use Rattle.binary_heap.proofs.PopLaws.{popped-heap, popped-every}
 use Rattle.grammar.specs.Rules.{Rule, none, noRule}
@@ -24,20 +26,14 @@ use Rattle.completion.proofs.Onward.{Onward, onward-key, onward-store}
 use Rattle.completion.proofs.Through.{Begins, Inside, medial-items-keep, unary-predictions-go, binary-predictions-go, complete-cases}
 use Rattle.completion.proofs.Charting.{Steady, steady-store, steady-enqueue, steady-next, stored-new}
 
--- A heap by one key is a heap by another that gives its entries the same.
-pub heap-same-keys : (key key′ : ℕ → ℕ) (h : List ℕ) → Every (λ v. key′ v ≡ key v) h → Heap key h → Heap key′ h
-heap-same-keys key key′ h same heap = record {
-  ordered = λ pos under there. omega (arith, heap .ordered pos under there, same .each pos there, same .each (parent pos) (omega arith));
-}
-
 -- The entries of a sound pass are places of its items.
-pub sound-entries : (s : Pass) → PassFits s → Every (λ v. v < s .at .items) (entriesOf s)
-sound-entries s sound = every-entry s (sound .queued-fit) (λ v. v < s .at .items) (sound .entries)
+pub sound-entries : (s : Pass) → PassFits s → Every (λ v. v .place < s .at .items) (entriesOf s)
+sound-entries s sound = every-entry s (sound .queued-fit) (λ v. v .place < s .at .items) (sound .entries)
 
 -- The entries are a heap by the items' keys, and the item of each has `Q`.
 pub record Ordered (Q : Item → Type 0) (s : Pass) : Type 0 where
-  pub heap : Heap (keyAt (s .items)) (entriesOf s)
-  pub each : Every (λ v. Q (itemAt (s .items) v)) (entriesOf s)
+  pub heap : Heap (entryKey (s .items)) (entriesOf s)
+  pub each : Every (λ v. Q (itemAt (s .items) (v .place))) (entriesOf s)
 
 module _ (Q : Item → Type 0) (s : Pass) (sound : PassFits s) (ordered : Ordered Q s) where
   -- Items stored behind change no entry's key.
@@ -50,18 +46,18 @@ module _ (Q : Item → Type 0) (s : Pass) (sound : PassFits s) (ordered : Ordere
       onward : Onward s (store origin rule s)
       onward = onward-store origin rule s
 
-      heap : Heap (keyAt (store origin rule s .items)) (entriesOf (store origin rule s))
+      heap : Heap (entryKey (store origin rule s .items)) (entriesOf (store origin rule s))
       heap =
-          subst (Heap (keyAt (store origin rule s .items))) (sym same)
-          (heap-same-keys (keyAt (s .items)) (keyAt (store origin rule s .items)) (entriesOf s)
-          (record { each = λ i there. onward-key onward (getD (entriesOf s) i 0) (sound-entries s sound .each i there) }) (ordered .heap))
+          subst (Heap (entryKey (store origin rule s .items))) (sym same)
+          (heap-same-keys (entryKey (s .items)) (entryKey (store origin rule s .items)) (entriesOf s)
+          (record { each = λ i there. onward-key onward (entryAt (entriesOf s) i .place) (sound-entries s sound .each i there) }) (ordered .heap))
 
-      each : Every (λ v. Q (itemAt (store origin rule s .items) v)) (entriesOf (store origin rule s))
+      each : Every (λ v. Q (itemAt (store origin rule s .items) (v .place))) (entriesOf (store origin rule s))
       each =
-          subst (Every (λ v. Q (itemAt (store origin rule s .items) v))) (sym same)
+          subst (Every (λ v. Q (itemAt (store origin rule s .items) (v .place)))) (sym same)
           (record {
             each = λ i there.
-                subst Q (sym (onward .same-items (getD (entriesOf s) i 0) (sound-entries s sound .each i there))) (ordered .each .each i there);
+                subst Q (sym (onward .same-items (entryAt (entriesOf s) i .place) (sound-entries s sound .each i there))) (ordered .each .each i there);
           })
 
   pub ordered-enqueue : (place : ℕ) → Q (itemAt (s .items) place) → Ordered Q (enqueue place s)
@@ -71,11 +67,11 @@ module _ (Q : Item → Type 0) (s : Pass) (sound : PassFits s) (ordered : Ordere
       done =
           record {
             heap =
-                subst (Heap (keyAt (s .items))) (sym (queued-entries s (sound .queued-fit) place))
-                (pushed-heap (keyAt (s .items)) (entriesOf s) place (ordered .heap));
+                subst (Heap (entryKey (s .items))) (sym (queued-entries s (sound .queued-fit) place))
+                (pushed-heap (entryKey (s .items)) (entriesOf s) (record { place = place }) (ordered .heap));
             each =
-                subst (Every (λ v. Q (itemAt (s .items) v))) (sym (queued-entries s (sound .queued-fit) place))
-                (pushed-every (keyAt (s .items)) (entriesOf s) place (λ v. Q (itemAt (s .items) v)) (ordered .each) new);
+                subst (Every (λ v. Q (itemAt (s .items) (v .place)))) (sym (queued-entries s (sound .queued-fit) place))
+                (pushed-every (entryKey (s .items)) (entriesOf s) (record { place = place }) (λ v. Q (itemAt (s .items) (v .place))) (ordered .each) new);
           }
 
   pub ordered-next : 0 < s .at .queued → Ordered Q (nextSummand s)
@@ -85,11 +81,11 @@ module _ (Q : Item → Type 0) (s : Pass) (sound : PassFits s) (ordered : Ordere
       done =
           record {
             heap =
-                subst (Heap (keyAt (s .items))) (sym (popped-entries s (sound .queued-fit) some))
-                (popped-heap (keyAt (s .items)) (entriesOf s) (some-entries s (sound .queued-fit) some) (ordered .heap));
+                subst (Heap (entryKey (s .items))) (sym (popped-entries s (sound .queued-fit) some))
+                (popped-heap (entryKey (s .items)) (entriesOf s) (some-entries s (sound .queued-fit) some) (ordered .heap));
             each =
-                subst (Every (λ v. Q (itemAt (s .items) v))) (sym (popped-entries s (sound .queued-fit) some))
-                (popped-every (keyAt (s .items)) (entriesOf s) (some-entries s (sound .queued-fit) some) (λ v. Q (itemAt (s .items) v)) (ordered .each));
+                subst (Every (λ v. Q (itemAt (s .items) (v .place)))) (sym (popped-entries s (sound .queued-fit) some))
+                (popped-every (entryKey (s .items)) (entriesOf s) (some-entries s (sound .queued-fit) some) (λ v. Q (itemAt (s .items) (v .place))) (ordered .each));
           }
 
 -- A pass behind `s` that is sound and charted, whose entries are a heap and have `Q`.

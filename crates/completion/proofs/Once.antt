@@ -9,8 +9,9 @@ use lib.ListN.{length, getD}
 use Rattle.laws.specs.Turns.{until}
 use Rattle.laws.proofs.Turns.{until-keeps}
 use Rattle.laws.proofs.Tests.{either-way}
-use Rattle.laws.proofs.Counts.{Every}
-use Rattle.item.specs.Item.{Item, itemAt, keyAt, keyOf}
+use Rattle.binary_heap.proofs.Each.{Every}
+use Rattle.item.specs.Item.{Item, itemAt, keyOf}
+use Rattle.binary_heap.specs.Entry.{entryKey}
 use Rattle.grammar.specs.Rules.{Rule, noRule}
 use Rattle.parse.specs.WellFormed.{leftOf}
 use Rattle.completion.specs.Pass.{Pass}
@@ -37,7 +38,7 @@ noPair = record { set = 0; symbol = 0 }
 
 -- Each entry of the queue comes below a pair.
 pub record AllLower (rs : List Rule) (k x : ℕ) (s : Pass) : Type 0 where
-  pub all : Every (λ v. Lower rs k x (itemAt (s .items) v)) (entriesOf s)
+  pub all : Every (λ v. Lower rs k x (itemAt (s .items) (v .place))) (entriesOf s)
 
 pub heaped-all : {rs : List Rule} {starts : List ℕ} {k x : ℕ} {s t : Pass} → Heaped rs starts (Lower rs k x) s t → AllLower rs k x t
 heaped-all heaped = record { all = heaped .ordered .each }
@@ -91,7 +92,7 @@ module _ {rs : List Rule} {starts rows : List ℕ} (grounds : Grounds rs starts 
     charted = greatest-charts rs starts s s some (pending-steady s pending)
 
     -- After a sum all entries are below its first summand.
-    pub sum-below : Every (λ v. keyAt (completeSum rs starts rows s .items) v < keyOf (greatest s)) (entriesOf (completeSum rs starts rows s))
+    pub sum-below : Every (λ v. entryKey (completeSum rs starts rows s .items) v < keyOf (greatest s)) (entriesOf (completeSum rs starts rows s))
     sum-below = record {
       each = λ i there. sum-lower grounds s pending some .ordered .each .each i there .below (greatest s .rule) (charted .is-rule) refl;
     }
@@ -107,7 +108,7 @@ module _ {rs : List Rule} {starts rows : List ℕ} (grounds : Grounds rs starts 
 
     pub greatest-lower : (k x : ℕ) → AllLower rs k x s → Lower rs k x (greatest s)
     greatest-lower k x lower =
-        each-entry s (pending .sound .queued-fit) (λ v. Lower rs k x (itemAt (s .items) v)) (lower .all) 0 some
+        each-entry s (pending .sound .queued-fit) (λ v. Lower rs k x (itemAt (s .items) (v .place))) (lower .all) 0 some
 
   -- A pending pass with nothing above a pair.
   record Under (k x : ℕ) (s : Pass) : Type 0 where

@@ -7,13 +7,15 @@ use lib.ListN.{length, getD, take, length-take}
 use lib.Seq.{ext-getD, getD-take}
 use Rattle.item.specs.Item.{Item, itemWords, itemAt, keyAt, keyOf}
 use Rattle.item.proofs.Words.{stored-length, stored-item-other, stored-other}
+use Rattle.binary_heap.specs.Entry.{noEntry}
+use Rattle.binary_heap.specs.Sift.{entryAt}
 use Rattle.completion.specs.Pass.{Pass, refused, store, enqueue, itemsFull, queueFull}
 use Rattle.completion.specs.Sums.{nextSummand}
 use Rattle.completion.proofs.Entries.{storedPass, queuedPass, poppedPass, store-cases, enqueue-cases, next-is, queued-length, queued-behind, popped-words, popped-last, popped-behind}
 
--- The words of the queue behind its entries are 0.
+-- Behind the entries of the queue there is none.
 pub record SpareQueue (s : Pass) : Type 0 where
-  pub spare : (i : ℕ) → s .at .queued ≤ i → getD (s .queue) i 0 ≡ 0
+  pub spare : (i : ℕ) → s .at .queued ≤ i → entryAt (s .queue) i ≡ noEntry
 
 -- Pass `t` comes behind pass `s`: items were stored behind those of `s`, and no other item word was touched.
 pub record Onward (s t : Pass) : Type 0 where
@@ -117,7 +119,7 @@ onward-next s fit some = next-is (Onward s) s some done
           elim (decLt i (s .at .queued)) [
             | yes last ↦
                 (let is : s .at .queued - 1 ≡ i = omega arith in
-                subst (λ (n : ℕ). getD (poppedPass s .queue) n 0 ≡ 0) is (popped-last s fit some))
+                subst (λ (n : ℕ). entryAt (poppedPass s .queue) n ≡ noEntry) is (popped-last s fit some))
             | no there ↦ popped-behind s fit some i (omega arith) ∙ spare .spare i (omega arith)
           ];
     }

@@ -1,10 +1,12 @@
 -- Steps 2 and 3 as a whole: what a pass leaves.
-use mathlib.Core.Path.{_≡_, refl, ap₂, _∙_}
+use mathlib.Core.Path.{_≡_, refl, _∙_}
 use mathlib.Core.List.{List}
 use Prim.Native.Nat.{ℕ, _*_, _≤_, _<_}
 use native.Mathlib.Omega.{arith}
 use lib.ListN.{length, getD}
 use Rattle.item.specs.Item.{Item, itemWords, itemAt, originAt, ruleAt}
+use Rattle.binary_heap.specs.Entry.{noEntry}
+use Rattle.binary_heap.specs.Sift.{entryAt}
 use Rattle.grammar.specs.Rules.{Rule, Grammar}
 use Rattle.grammar.specs.Accepted.{Accepted, maxRules}
 use Rattle.parse.specs.declared.State.{State}
@@ -28,9 +30,9 @@ pub record Passed (rs : List Rule) (starts : List ℕ) (e : ℕ) (s t : Pass) : 
   pub onward : Onward s t
   pub sound : PassFits t
   pub charted : Charted rs starts t
-  -- the new items are distinct, and of sets up to the latest
+  -- the new items differ in origin or rule, and are of sets up to the latest
   pub origins : (p : ℕ) → s .at .items ≤ p → p < t .at .items → originAt (t .items) p ≤ e
-  pub distinct : (p q : ℕ) → s .at .items ≤ p → p < q → q < t .at .items → itemAt (t .items) p ≡ itemAt (t .items) q → ⊥
+  pub distinct : (p q : ℕ) → s .at .items ≤ p → p < q → q < t .at .items → originAt (t .items) p ≡ originAt (t .items) q → ruleAt (t .items) p ≡ ruleAt (t .items) q → ⊥
   -- the queue is empty, or a push met full items or a full queue
   pub ends : Ends t
 
@@ -60,8 +62,7 @@ module _ {rs : List Rule} {starts : List ℕ} {e : ℕ} {s t : Pass} (passed : P
   pub passed-apart : length rs ≤ maxRules → e < maxSets → (p q : ℕ) → s .at .items ≤ p → p < q → q < t .at .items
       → placing rs (itemAt (t .items) p) ≡ placing rs (itemAt (t .items) q) → ⊥
   passed-apart few-rules few-sets p q from less there same =
-      passed .distinct p q from less there
-      (ap₂ (λ (o r : ℕ). let i : Item = record { origin = o; rule = r } in i) (apart .0) (apart .1))
+      passed .distinct p q from less there (apart .0) (apart .1)
     where
       apart : (originAt (t .items) p ≡ originAt (t .items) q) × (ruleAt (t .items) p ≡ ruleAt (t .items) q)
       apart =
@@ -71,8 +72,8 @@ module _ {rs : List Rule} {starts : List ℕ} {e : ℕ} {s t : Pass} (passed : P
           let origin-q : originAt (t .items) q ≤ e = passed .origins q (omega arith) there in
           omega arith
 
-  -- Where no push was refused the queue's words are 0 again.
-  pub passed-queue : SpareQueue s → t .at .stopped ≡ 0 → (i : ℕ) → getD (t .queue) i 0 ≡ 0
+  -- Where no push was refused the queue has no entry again.
+  pub passed-queue : SpareQueue s → t .at .stopped ≡ 0 → (i : ℕ) → entryAt (t .queue) i ≡ noEntry
   passed-queue spare going i = passed .onward .spare-queue spare .spare i (omega (arith, by-end (passed .ends)))
     where
       by-end : Ends t → t .at .queued ≡ 0

@@ -11,8 +11,9 @@ use lib.Dec.{eqb}
 use borrow.Author.Tests.{eq-eqb, ne-eqb}
 use Rattle.laws.specs.Turns.{until}
 use Rattle.laws.proofs.Turns.{until-keeps, until-rests, until-turns, until-ends, until-enough}
-use Rattle.laws.proofs.Counts.{Every}
-use Rattle.item.specs.Item.{Item, itemAt, originAt, keyAt, keyOf}
+use Rattle.binary_heap.proofs.Each.{Every}
+use Rattle.item.specs.Item.{Item, itemAt, originAt, keyOf}
+use Rattle.binary_heap.specs.Entry.{Entry, entryKey}
 use Rattle.binary_heap.proofs.Top.{top-greatest}
 use Rattle.grammar.specs.Rules.{Rule, none, noRule}
 use Rattle.grammar.specs.Accepted.{maxRules}
@@ -94,10 +95,10 @@ module _ {rs : List Rule} {starts : List ℕ} (s : Pass) (pending : Pending rs s
   pending-steady = steady-refl rs starts s (pending .sound) (pending .charted)
 
   -- No entry is above the greatest.
-  pub greatest-entry : 0 < s .at .queued → Every (λ v. keyAt (s .items) v ≤ keyOf (greatest s)) (entriesOf s)
+  pub greatest-entry : 0 < s .at .queued → Every (λ v. entryKey (s .items) v ≤ keyOf (greatest s)) (entriesOf s)
   greatest-entry some =
-      subst (λ (t : ℕ). Every (λ v. keyAt (s .items) v ≤ keyAt (s .items) t) (entriesOf s)) (entry-at s (pending .sound .queued-fit) 0 some)
-      (top-greatest (keyAt (s .items)) (entriesOf s) (pending .heap))
+      subst (λ (t : Entry). Every (λ v. entryKey (s .items) v ≤ entryKey (s .items) t) (entriesOf s)) (entry-at s (pending .sound .queued-fit) 0 some)
+      (top-greatest (entryKey (s .items)) (entriesOf s) (pending .heap))
 
   -- What comes behind a pending pass, sound, charted and a heap, is pending.
   pub pending-onward : {Q : Item → Type 0} (t : Pass) → Heaped rs starts Q s t → Pending rs starts t
@@ -164,7 +165,7 @@ module _ {rs : List Rule} {starts rows : List ℕ} (grounds : Grounds rs starts 
       → Lower rs (greatest s .origin) (leftOf rs (greatest s)) (greatest t)
   top-lower t heaped ended more =
       lower-adjacent grounds (greatest s) (greatest t) (greatest-charted .is-rule) (greatest-charts rs starts s t more (heaped .steady) .is-rule)
-      (each-entry t (heaped .steady .sound .queued-fit) (λ v. keyAt (t .items) v ≤ keyOf (greatest s)) (heaped .ordered .each) 0 more)
+      (each-entry t (heaped .steady .sound .queued-fit) (λ v. entryKey (t .items) v ≤ keyOf (greatest s)) (heaped .ordered .each) 0 more)
       (sum-ended rs (greatest s .origin) (leftOf rs (greatest s)) t ended more)
 
   -- and so all that is left is.
@@ -254,7 +255,7 @@ left-falls {rs} {starts} {rows} grounds s pending some = by-count (completeSum r
         elim (decLt 0 (t .at .queued)) [
           | yes more ↦
               (let lower : Lower rs (greatest s .origin) (leftOf rs (greatest s)) (greatest t) =
-              each-entry t (heaped .steady .sound .queued-fit) (λ v. Lower rs (greatest s .origin) (leftOf rs (greatest s)) (itemAt (t .items) v))
+              each-entry t (heaped .steady .sound .queued-fit) (λ v. Lower rs (greatest s .origin) (leftOf rs (greatest s)) (itemAt (t .items) (v .place)))
               (heaped .ordered .each) 0 more in
               let charts : Charts rs starts (greatest s) = greatest-charts rs starts s s some (pending-steady s pending) in
               omega (

@@ -1,5 +1,5 @@
 -- What the two pushes do, where there is a place and where there is none.
-use mathlib.Core.Path.{_≡_, refl, sym, ap, ap₂, _∙_}
+use mathlib.Core.Path.{_≡_, refl, sym, ap, ap₂, _∙_, subst}
 use mathlib.Core.Bool.{Bool, true, false}
 use mathlib.Core.List.{List}
 use Prim.Native.Nat.{ℕ, _+_, _/_, _≤_, _<_}
@@ -7,15 +7,16 @@ use lib.ListN.{length}
 use lib.Dec.{ltb}
 use native.Mathlib.Omega.{arith}
 use borrow.Author.Tests.{lt-ltb, le-ltb, eq-eqb, ne-eqb, ltb-true, ltb-false}
-use Rattle.item.specs.Item.{itemWords, keyAt, stored}
+use Rattle.item.specs.Item.{itemWords, stored}
+use Rattle.binary_heap.specs.Entry.{Entry, entryKey}
 use Rattle.binary_heap.specs.declared.Pushed.the-variants.{Full, Count}
-use Rattle.binary_heap.specs.Words.{pushAnswer, pushWords}
-use Rattle.completion.specs.Pass.{Pass, passOf, refused, andThen, store, enqueue, itemsFull, queueFull}
+use Rattle.binary_heap.specs.Queue.{pushAnswer, pushQueue}
+use Rattle.completion.specs.Pass.{Pass, passWith, refused, andThen, store, enqueue, itemsFull, queueFull}
 
 module _ (s : Pass) where
   -- An item is stored where there is a place for it.
   pub store-done : (origin rule : ℕ) → s .at .items < length (s .items) / itemWords
-      → store origin rule s ≡ passOf (record { stopped = 0; items = s .at .items + 1; queued = s .at .queued }) (stored (s .items) (s .at .items) (record { origin = origin; rule = rule })) (s .queue)
+      → store origin rule s ≡ passWith (record { stopped = 0; items = s .at .items + 1; queued = s .at .queued }) (stored (s .items) (s .at .items) (record { origin = origin; rule = rule })) (s .queue)
   unfolding store
   store-done origin rule place = rw (store, lt-ltb (s .at .items) (length (s .items) / itemWords) place) refl
 
@@ -26,7 +27,7 @@ module _ (s : Pass) where
 
   -- A place is queued where the queue has one free.
   pub enqueue-done : (place : ℕ) → s .at .queued < length (s .queue)
-      → enqueue place s ≡ passOf (record { stopped = 0; items = s .at .items; queued = s .at .queued + 1 }) (s .items) (pushWords (keyAt (s .items)) (length (s .queue)) (s .queue) (s .at .queued) place)
+      → enqueue place s ≡ passWith (record { stopped = 0; items = s .at .items; queued = s .at .queued + 1 }) (s .items) (pushQueue (entryKey (s .items)) (length (s .queue)) (s .queue) (s .at .queued) (record { place = place }))
   unfolding enqueue
   enqueue-done place free = rw (enqueue, lt-ltb (s .at .queued) (length (s .queue)) free) refl
 
@@ -67,20 +68,21 @@ module _ (s : Pass) where
       absurd (omega arith)
 
   -- A push that the queue refused, and one that it took.
-  pub queue-refused : (place : ℕ) (words : List ℕ) → s .at .stopped ≡ 0 → pushAnswer (length (s .queue)) (s .at .queued) ≡ Full
-      → words ≡ pushWords (keyAt (s .items)) (length (s .queue)) (s .queue) (s .at .queued) place
-      → passOf (record { stopped = queueFull; items = s .at .items; queued = s .at .queued }) (s .items) words ≡ andThen s (enqueue place)
-  unfolding pushWords
-  queue-refused place words on full pushed =
-      let no-room : length (s .queue) ≤ s .at .queued = full-answer (ltb (s .at .queued) (length (s .queue))) refl full in
-      let same : words ≡ s .queue = pushed ∙ rw (pushWords, le-ltb (s .at .queued) (length (s .queue)) no-room) refl in
-      ap (λ (w : List ℕ). passOf (record { stopped = queueFull; items = s .at .items; queued = s .at .queued }) (s .items) w) same
+  pub queue-refused : (place capacity : ℕ) (queue : List Entry) → capacity ≡ length (s .queue) → s .at .stopped ≡ 0 → pushAnswer capacity (s .at .queued) ≡ Full
+      → queue ≡ pushQueue (entryKey (s .items)) capacity (s .queue) (s .at .queued) (record { place = place })
+      → passWith (record { stopped = queueFull; items = s .at .items; queued = s .at .queued }) (s .items) queue ≡ andThen s (enqueue place)
+  unfolding pushQueue
+  queue-refused place capacity queue room on full pushed =
+      let no-room : length (s .queue) ≤ s .at .queued = full-answer (ltb (s .at .queued) (length (s .queue))) refl (subst (λ (c : ℕ). pushAnswer c (s .at .queued) ≡ Full) room full) in
+      let same : queue ≡ s .queue = pushed ∙ rw (pushQueue, le-ltb (s .at .queued) capacity (omega arith)) refl in
+      ap (λ (w : List Entry). passWith (record { stopped = queueFull; items = s .at .items; queued = s .at .queued }) (s .items) w) same
       ∙ sym (goes-on (enqueue place) on ∙ enqueue-refused place no-room)
 
-  pub queue-took : (place n : ℕ) (words : List ℕ) → s .at .stopped ≡ 0 → pushAnswer (length (s .queue)) (s .at .queued) ≡ Count n
-      → words ≡ pushWords (keyAt (s .items)) (length (s .queue)) (s .queue) (s .at .queued) place
-      → passOf (record { stopped = 0; items = s .at .items; queued = n }) (s .items) words ≡ andThen s (enqueue place)
-  queue-took place n words on count pushed =
-      let told = count-answer n (ltb (s .at .queued) (length (s .queue))) refl count in
-      ap₂ (λ (m : ℕ) (w : List ℕ). passOf (record { stopped = 0; items = s .at .items; queued = m }) (s .items) w) (told .1) pushed
+  pub queue-took : (place capacity n : ℕ) (queue : List Entry) → capacity ≡ length (s .queue) → s .at .stopped ≡ 0 → pushAnswer capacity (s .at .queued) ≡ Count n
+      → queue ≡ pushQueue (entryKey (s .items)) capacity (s .queue) (s .at .queued) (record { place = place })
+      → passWith (record { stopped = 0; items = s .at .items; queued = n }) (s .items) queue ≡ andThen s (enqueue place)
+  queue-took place capacity n queue room on count pushed =
+      let told = count-answer n (ltb (s .at .queued) (length (s .queue))) refl (subst (λ (c : ℕ). pushAnswer c (s .at .queued) ≡ Count n) room count) in
+      let into = pushed ∙ ap (λ (c : ℕ). pushQueue (entryKey (s .items)) c (s .queue) (s .at .queued) (record { place = place })) room in
+      ap₂ (λ (m : ℕ) (w : List Entry). passWith (record { stopped = 0; items = s .at .items; queued = m }) (s .items) w) (told .1) into
       ∙ sym (goes-on (enqueue place) on ∙ enqueue-done place (told .0))

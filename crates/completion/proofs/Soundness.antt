@@ -4,17 +4,19 @@ use mathlib.Core.List.{List, _++_}
 use Prim.Native.Nat.{ℕ, _+_, _/_, _<_}
 use native.Mathlib.Decide.{decLt, ℕ-discrete}
 use native.Mathlib.Omega.{arith}
-use lib.ListN.{length, getD, take, drop, length-append, List·getD-append}
+use lib.ListN.{length, take, drop, length-append, List·getD-append}
 use lib.Seq.{length-take-le, getD-take}
 use borrow.Author.Tests.{lt-ltb}
-use Rattle.laws.proofs.Counts.{Every}
-use Rattle.item.specs.Item.{itemWords, HasPlace, keyAt, stored}
+use Rattle.binary_heap.proofs.Each.{Every}
+use Rattle.item.specs.Item.{itemWords, HasPlace, stored}
 use Rattle.item.proofs.Words.{stored-length}
+use Rattle.binary_heap.specs.Entry.{Entry, noEntry, entryKey}
+use Rattle.binary_heap.specs.Sift.{entryAt}
 use Rattle.binary_heap.specs.Heap.{pushed}
-use Rattle.binary_heap.specs.Words.{Places, pushWords}
+use Rattle.binary_heap.specs.Queue.{Places, pushQueue}
 use Rattle.binary_heap.proofs.PushLaws.{pushed-length, pushed-every}
 use Rattle.completion.specs.declared.Progress.{Progress}
-use Rattle.completion.specs.Pass.{Pass, passOf, refused, andThen, store, enqueue}
+use Rattle.completion.specs.Pass.{Pass, passWith, refused, andThen, store, enqueue}
 use Rattle.completion.specs.inner.Ready.{PassFits}
 use Rattle.completion.proofs.Pushes.{store-done, store-refused, enqueue-done, enqueue-refused, goes-on, stays}
 
@@ -25,7 +27,7 @@ has-place s sound p there = omega (arith, sound .items-fit)
 -- The entries of a sound pass are places of items.
 pub sound-places : (s : Pass) → PassFits s → Places (s .items) (s .queue) (s .at .queued)
 sound-places s sound =
-    record { within = sound .queued-fit; places = λ i there. has-place s sound (getD (s .queue) i 0) (sound .entries i there) }
+    record { within = sound .queued-fit; places = λ i there. has-place s sound (entryAt (s .queue) i .place) (sound .entries i there) }
 
 -- A refusal keeps a pass sound.
 pub refused-sound : (n : ℕ) (s : Pass) → PassFits s → PassFits (refused n s)
@@ -51,7 +53,7 @@ store-sound origin rule s sound =
     long : length (stored (s .items) (s .at .items) (record { origin = origin; rule = rule })) ≡ length (s .items)
     long = stored-length (s .items) (s .at .items) (record { origin = origin; rule = rule })
 
-    done : s .at .items < length (s .items) / itemWords → PassFits (passOf (record { stopped = 0; items = s .at .items + 1; queued = s .at .queued }) (stored (s .items) (s .at .items) (record { origin = origin; rule = rule })) (s .queue))
+    done : s .at .items < length (s .items) / itemWords → PassFits (passWith (record { stopped = 0; items = s .at .items + 1; queued = s .at .queued }) (stored (s .items) (s .at .items) (record { origin = origin; rule = rule })) (s .queue))
     done place =
         record {
           few-items = omega (arith, long, sound .few-items);
@@ -60,24 +62,27 @@ store-sound origin rule s sound =
           entries = λ i there. omega (arith, sound .entries i there);
         }
 
--- The words of a queue that took a push.
-pub push-into : (key : ℕ → ℕ) (q : List ℕ) (n entry : ℕ) → n < length q → pushWords key (length q) q n entry ≡ pushed key (take n q) entry ++ drop (n + 1) q
-unfolding pushWords
-push-into key q n entry free = rw (pushWords, lt-ltb n (length q) free) refl
+-- A queue that took a push.
+pub push-into : (key : Entry → ℕ) (q : List Entry) (n : ℕ) (entry : Entry) → n < length q → pushQueue key (length q) q n entry ≡ pushed key (take n q) entry ++ drop (n + 1) q
+unfolding pushQueue
+push-into key q n entry free = rw (pushQueue, lt-ltb n (length q) free) refl
 
 -- Queueing a place of an item keeps a pass sound.
 pub enqueue-sound : (place : ℕ) (s : Pass) → PassFits s → place < s .at .items → PassFits (enqueue place s)
 enqueue-sound place s sound there =
     elim (decLt (s .at .queued) (length (s .queue))) [
-      | yes free ↦ subst PassFits (sym (enqueue-done s place free)) (subst (λ (w : List ℕ). PassFits (passOf at′ (s .items) w)) (sym (push-into key q n place free)) (done free))
+      | yes free ↦ subst PassFits (sym (enqueue-done s place free)) (subst (λ (w : List Entry). PassFits (passWith at′ (s .items) w)) (sym (push-into key q n entry free)) (done free))
       | no full ↦ subst PassFits (sym (enqueue-refused s place (omega arith))) (refused-sound 8 s sound)
     ]
   where
-    key : ℕ → ℕ
-    key = keyAt (s .items)
+    key : Entry → ℕ
+    key = entryKey (s .items)
 
-    q : List ℕ
+    q : List Entry
     q = s .queue
+
+    entry : Entry
+    entry = record { place = place }
 
     n : ℕ
     n = s .at .queued
@@ -85,18 +90,18 @@ enqueue-sound place s sound there =
     at′ : Progress
     at′ = record { stopped = 0; items = s .at .items; queued = s .at .queued + 1 }
 
-    done : n < length q → PassFits (passOf at′ (s .items) (pushed key (take n q) place ++ drop (n + 1) q))
+    done : n < length q → PassFits (passWith at′ (s .items) (pushed key (take n q) entry ++ drop (n + 1) q))
     done free =
         let first-n : length (take n q) ≡ n = length-take-le n q (omega arith) in
-        let long : length (pushed key (take n q) place) ≡ n + 1 = pushed-length key (take n q) place ∙ ap (λ (m : ℕ). m + 1) first-n in
-        let entries : Every (λ v. v < s .at .items) (take n q) =
-        record { each = λ i h. subst (λ (v : ℕ). v < s .at .items) (sym (getD-take n q i 0 (omega (arith, first-n)))) (sound .entries i (omega (arith, first-n))) } in
-        let all : Every (λ v. v < s .at .items) (pushed key (take n q) place) = pushed-every key (take n q) place (λ v. v < s .at .items) entries there in
+        let long : length (pushed key (take n q) entry) ≡ n + 1 = pushed-length key (take n q) entry ∙ ap (λ (m : ℕ). m + 1) first-n in
+        let entries : Every (λ v. v .place < s .at .items) (take n q) =
+        record { each = λ i h. subst (λ (v : Entry). v .place < s .at .items) (sym (getD-take n q i noEntry (omega (arith, first-n)))) (sound .entries i (omega (arith, first-n))) } in
+        let all : Every (λ v. v .place < s .at .items) (pushed key (take n q) entry) = pushed-every key (take n q) entry (λ v. v .place < s .at .items) entries there in
         record {
           few-items = sound .few-items;
           items-fit = sound .items-fit;
-          queued-fit = omega (arith, length-append (pushed key (take n q) place) (drop (n + 1) q), long);
+          queued-fit = omega (arith, length-append (pushed key (take n q) entry) (drop (n + 1) q), long);
           entries = λ i h.
-              subst (λ (v : ℕ). v < s .at .items) (sym (List·getD-append (pushed key (take n q) place) (drop (n + 1) q) 0 i (omega (arith, long))))
+              subst (λ (v : Entry). v .place < s .at .items) (sym (List·getD-append (pushed key (take n q) entry) (drop (n + 1) q) noEntry i (omega (arith, long))))
               (all .each i (omega (arith, long)));
         }

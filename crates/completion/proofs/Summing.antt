@@ -8,13 +8,13 @@ use lib.Dec.{eqb}
 use borrow.Author.Tests.{eq-eqb, ne-eqb}
 use Rattle.laws.specs.Turns.{until}
 use Rattle.laws.proofs.Turns.{until-turns}
-use Rattle.item.specs.Item.{keyAt}
-use Rattle.binary_heap.specs.Words.{popWords, popAnswer}
+use Rattle.binary_heap.specs.Entry.{Entry, entryKey}
+use Rattle.binary_heap.specs.Queue.{popQueue, popAnswer}
 use Rattle.binary_heap.specs.declared.Popped.the-variants as pops
 use Rattle.binary_heap.proofs.Answers.{pop-entry-tells}
 use Rattle.grammar.specs.Rules.{Rule}
 use Rattle.parse.specs.WellFormed.{leftOf}
-use Rattle.completion.specs.Pass.{Pass, passOf}
+use Rattle.completion.specs.Pass.{Pass, passWith}
 use Rattle.completion.specs.inner.Ready.{PassFits, RulesRead}
 use Rattle.completion.specs.Complete.{complete}
 use Rattle.completion.specs.Sums.{greatest, sumEnds, nextSummand, popSum, completeSum}
@@ -54,12 +54,12 @@ module _ (rs : List Rule) (k x : ℕ) (s : Pass) where
         ∙ with-entries
 
 -- The greatest entry comes off.
-pub popped-entry : (s : Pass) (entry left : ℕ) (words : List ℕ) → popAnswer (s .queue) (s .at .queued) ≡ pops.Entry entry left
-    → words ≡ popWords (keyAt (s .items)) (s .queue) (s .at .queued)
-    → passOf (record { stopped = s .at .stopped; items = s .at .items; queued = left }) (s .items) words ≡ nextSummand s
+pub popped-entry : (s : Pass) (entry left : ℕ) (queue : List Entry) → popAnswer (s .queue) (s .at .queued) ≡ pops.Entry entry left
+    → queue ≡ popQueue (entryKey (s .items)) (s .queue) (s .at .queued)
+    → passWith (record { stopped = s .at .stopped; items = s .at .items; queued = left }) (s .items) queue ≡ nextSummand s
 unfolding nextSummand
-popped-entry s entry left words answer popped =
-    ap₂ (λ (m : ℕ) (w : List ℕ). passOf (record { stopped = s .at .stopped; items = s .at .items; queued = m }) (s .items) w)
+popped-entry s entry left queue answer popped =
+    ap₂ (λ (m : ℕ) (w : List Entry). passWith (record { stopped = s .at .stopped; items = s .at .items; queued = m }) (s .items) w)
     (pop-entry-tells (s .queue) (s .at .queued) entry left answer .2) popped
 
 -- One summand more, of those that are left.

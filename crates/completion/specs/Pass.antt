@@ -4,17 +4,22 @@ use mathlib.Core.List.{List}
 use Prim.Native.Nat.{ℕ, _+_, _/_}
 use lib.ListN.{length}
 use lib.Dec.{eqb, ltb}
-use Rattle.item.specs.Item.{itemWords, keyAt, stored}
-use Rattle.binary_heap.specs.Words.{pushWords}
+use Rattle.item.specs.Item.{itemWords, stored}
+use Rattle.binary_heap.specs.Entry.{Entry, entriesIn, entryKey}
+use Rattle.binary_heap.specs.Queue.{pushQueue}
 use Rattle.completion.specs.declared.Progress.{Progress}
 
 pub record Pass : Type 0 where
   pub at : Progress
   pub items : List ℕ
-  pub queue : List ℕ
+  pub queue : List Entry
 
+abbrev pub passWith : Progress → List ℕ → List Entry → Pass
+passWith at items queue = record { at = at; items = items; queue = queue }
+
+-- A pass with the entries that words hold.
 abbrev pub passOf : Progress → List ℕ → List ℕ → Pass
-passOf at items queue = record { at = at; items = items; queue = queue }
+passOf at items words = passWith at items (entriesIn words)
 
 -- The refusals of a push: no place for an item, no place in the queue.
 abbrev pub itemsFull : ℕ
@@ -52,7 +57,7 @@ enqueue place s =
           record {
             at = record { stopped = 0; items = s .at .items; queued = s .at .queued + 1 };
             items = s .items;
-            queue = pushWords (keyAt (s .items)) (length (s .queue)) (s .queue) (s .at .queued) place;
+            queue = pushQueue (entryKey (s .items)) (length (s .queue)) (s .queue) (s .at .queued) (record { place = place });
           }
       | false ↦ refused queueFull s
     ]

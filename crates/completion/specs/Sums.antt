@@ -2,11 +2,13 @@
 use mathlib.Core.Bool.{Bool, _&&_, not, _||_}
 use mathlib.Core.List.{List}
 use Prim.Native.Nat.{ℕ, _-_, _*_}
-use lib.ListN.{length, getD}
+use lib.ListN.{length}
 use lib.Dec.{eqb}
 use Rattle.laws.specs.Turns.{until}
-use Rattle.item.specs.Item.{Item, itemAt, keyAt}
-use Rattle.binary_heap.specs.Words.{popWords}
+use Rattle.item.specs.Item.{Item, itemAt}
+use Rattle.binary_heap.specs.Entry.{entryKey}
+use Rattle.binary_heap.specs.Sift.{entryAt}
+use Rattle.binary_heap.specs.Queue.{popQueue}
 use Rattle.grammar.specs.Rules.{Rule}
 use Rattle.parse.specs.WellFormed.{leftOf}
 use Rattle.completion.specs.Pass.{Pass}
@@ -14,7 +16,7 @@ use Rattle.completion.specs.Complete.{complete}
 
 -- The item of the greatest entry.
 abbrev pub greatest : Pass → Item
-greatest s = itemAt (s .items) (getD (s .queue) 0 0)
+greatest s = itemAt (s .items) (entryAt (s .queue) 0 .place)
 
 -- The queue is empty, or its greatest entry is of another origin or left side.
 abbrev pub sumEnds : List Rule → ℕ → ℕ → Pass → Bool
@@ -26,7 +28,7 @@ nextSummand s =
     record {
       at = record { stopped = s .at .stopped; items = s .at .items; queued = s .at .queued - 1 };
       items = s .items;
-      queue = popWords (keyAt (s .items)) (s .queue) (s .at .queued);
+      queue = popQueue (entryKey (s .items)) (s .queue) (s .at .queued);
     }
 
 -- All entries of one origin and left side are popped.

@@ -5,7 +5,7 @@ pub mod predictions;
 pub mod sums;
 
 ghost use mathlib.Core.Path.{_≡_};
-ghost use Prim.Native.Nat.{_*_, _+_, _<_, _≤_};
+ghost use Prim.Native.Nat.{_*_, _<_};
 ghost use Rattle.laws.specs.Bits.{wordBits};
 ghost use Rattle.bits.specs.Width.{rowWords};
 ghost use Rattle.grammar.specs.inner.Decoded.{rulesIn};

@@ -6,6 +6,7 @@ ghost use Rattle.completion.specs.Pass.{passOf, andThen, store, enqueue}
 ghost use Rattle.completion.specs.inner.Ready.{PassFits};
 use crate::Progress;
 use binary_heap::Pushed;
+use binary_heap::entry::ENTRY_WORDS;
 
 // The refusals: no place for an item, no place in the queue.
 pub const ITEMS_FULL: u32 = 7;
@@ -45,7 +46,7 @@ pub fn enqueue(items: &[u32], queue: &mut [u32], place: usize, at: Progress) -> 
     }
     let stored = at.items;
     let queued = at.queued;
-    let capacity = queue.len();
+    let capacity = queue.len() / ENTRY_WORDS;
     match binary_heap::push(items, queue, capacity, queued, place as u32) {
         Pushed::Full => Progress {
             stopped: QUEUE_FULL,

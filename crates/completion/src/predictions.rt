@@ -2,7 +2,6 @@
 ghost use mathlib.Core.Path.{_≡_};
 ghost use mathlib.Core.List.{List};
 ghost use Prim.Native.Nat.{ℕ, _<_};
-ghost use lib.ListN.{length};
 ghost use Rattle.grammar.specs.inner.Decoded.{rulesIn};
 ghost use Rattle.completion.specs.Pass.{passOf};
 ghost use Rattle.completion.specs.inner.Ready.{RulesFit, HasRow, PassFits};

@@ -1,16 +1,37 @@
 // Completed items by origin and left side: greatest first, and each pair is completed when its last summand has come off.
 ghost use mathlib.Core.Path.{_≡_};
-ghost use Prim.Native.Nat.{ℕ, _<_};
+ghost use Prim.Native.Nat.{_<_};
 ghost use Rattle.grammar.specs.inner.Decoded.{rulesIn};
+ghost use Rattle.parse.specs.WellFormed.{leftOf};
 ghost use Rattle.completion.specs.Pass.{passOf};
 ghost use Rattle.completion.specs.inner.Ready.{RulesFit, Rowed, PassFits, Charted, RulesRead};
 ghost use Rattle.completion.specs.inner.Pending.{Grounds, Pending};
-ghost use Rattle.completion.specs.Sums.{sumEnds, nextSummand, popSum, completeSum, completeAllSums};
+ghost use Rattle.completion.specs.Sums.{greatest, sumEnds, nextSummand, popSum, completeSum, completeAllSums};
 use crate::Progress;
 use crate::complete;
 use binary_heap::Popped;
 use grammar::rules::Rules;
 use item::wide;
+
+// The origin of the greatest entry's item.
+fn greatest_origin(items: &[u32], queue: &[u32], at: Progress) -> usize
+    requires { ⌜ PassFits (passOf at (now items) (now queue)) × (0 < at .queued) ⌝ }
+    ensures { λ r. ⌜ r ≡ greatest (passOf at (now (items .entry)) (now (queue .entry))) .origin ⌝ }
+{
+    wide(item::origin(items, wide(binary_heap::entry::place(queue, 0))))
+}
+
+// Its left side.
+fn greatest_left(rules: &Rules, count: usize, items: &[u32], queue: &[u32], at: Progress) -> usize
+    requires { ⌜ RulesRead (rulesIn (now rules) count) (passOf at (now items) (now queue)) × (0 < at .queued) ⌝ }
+    ensures { λ r. ⌜ r ≡ leftOf (rulesIn (now (rules .entry)) count)
+        (greatest (passOf at (now (items .entry)) (now (queue .entry)))) ⌝ }
+{
+    grammar::rules::left(
+        rules,
+        wide(item::rule(items, wide(binary_heap::entry::place(queue, 0)))),
+    )
+}
 
 // Whether the queue is empty, or its greatest entry is of another origin or left side.
 fn sum_ends(
@@ -29,11 +50,10 @@ fn sum_ends(
     if at.queued == 0 {
         return true;
     }
-    let top = wide(queue[0]);
-    if wide(item::origin(items, top)) != k {
+    if greatest_origin(items, queue, at) != k {
         return true;
     }
-    if grammar::rules::left(rules, wide(item::rule(items, top))) != x {
+    if greatest_left(rules, count, items, queue, at) != x {
         return true;
     }
     false
@@ -95,9 +115,8 @@ fn complete_sum(
     ensures { λ r. ⌜ passOf r (now (items .exit)) (now (queue .exit)) ≡ completeSum (rulesIn (now (rules .entry)) count)
         (now (starts .entry)) (now (rows .entry)) (passOf at (now (items .entry)) (now (queue .entry))) ⌝ }
 {
-    let top = wide(queue[0]);
-    let k = wide(item::origin(items, top));
-    let x = grammar::rules::left(rules, wide(item::rule(items, top)));
+    let k = greatest_origin(items, queue, at);
+    let x = greatest_left(rules, count, items, queue, at);
     let popped = pop_sum(rules, count, items, queue, k, x, at);
     complete(rules, count, items, starts, rows, queue, k, x, popped)
 }

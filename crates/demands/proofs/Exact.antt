@@ -138,7 +138,7 @@ module _ (g : Grammar) (st : State) (v : Words) (t : ℕ) (charted : Charted (g 
 
     sum-right : (l y : ℕ) → now l y → Gives l y
     sum-right l y this =
-        each-entry s (kept-sound (g .rules) st v (so-far .kept) .queued-fit) (λ p. OfPair Gives (g .rules) (itemAt (s .items) p))
+        each-entry s (kept-sound (g .rules) st v (so-far .kept) .queued-fit) (λ e. OfPair Gives (g .rules) (itemAt (s .items) (e .place)))
         (so-far .kept .heaped .ordered .each) 0 some
     sum-right l y (before d) = so-far .right l y d
 

@@ -7,9 +7,10 @@ use lib.ListN.{length, replicate}
 use Rattle.laws.specs.Bits.{union}
 use Rattle.laws.specs.Records as records
 use Rattle.laws.specs.Turns.{over, until}
+use Rattle.binary_heap.specs.Entry.{entriesIn}
 use Rattle.binary_heap.specs.Sift.{move, goesUp, rise, siftUp, takesRight, child, goesDown, sink, siftDown}
 use Rattle.binary_heap.specs.Heap.{pushed, popped}
-use Rattle.binary_heap.specs.Words.{pushWords, popWords}
+use Rattle.binary_heap.specs.Queue.{pushQueue, popQueue}
 use Rattle.bits.specs.Width.{rowWords}
 use Rattle.grammar.specs.Rules.{Rule, Grammar, none}
 use Rattle.grammar.specs.Sentences.{Sentence, Begins}
@@ -113,12 +114,12 @@ unfolding rowsOf
 start-a = reading-start (state 7 7) old-a sound-a (omega arith) refl
 
 pub one-a : Reads (state 1 2) words-a1 (0 ∷ [])
-unfolding advanced stepped ran andThen store enqueue completeMedial completeMedialItems completeUnary completeUnaryPredictions completeBinary completeBinaryPredictions complete nextSummand popSum completeSum completeAllSums over until union records.flat highest greatestOrigin predictions itemsFrom insert sortInto binary pushWords popWords pushed popped move goesUp rise siftUp takesRight child goesDown sink siftDown rowsOf
+unfolding entriesIn advanced stepped ran andThen store enqueue completeMedial completeMedialItems completeUnary completeUnaryPredictions completeBinary completeBinaryPredictions complete nextSummand popSum completeSum completeAllSums over until union records.flat highest greatestOrigin predictions itemsFrom insert sortInto binary pushQueue popQueue pushed popped move goesUp rise siftUp takesRight child goesDown sink siftDown rowsOf
 one-a = reading-on start-a 0 refl
 
 -- A READS "0 1 0".
 pub read-a : Reads (state 3 6) words-a3 (0 ∷ 1 ∷ 0 ∷ [])
-unfolding advanced stepped ran andThen store enqueue completeMedial completeMedialItems completeUnary completeUnaryPredictions completeBinary completeBinaryPredictions complete nextSummand popSum completeSum completeAllSums over until union records.flat highest greatestOrigin predictions itemsFrom insert sortInto binary pushWords popWords pushed popped move goesUp rise siftUp takesRight child goesDown sink siftDown rowsOf
+unfolding entriesIn advanced stepped ran andThen store enqueue completeMedial completeMedialItems completeUnary completeUnaryPredictions completeBinary completeBinaryPredictions complete nextSummand popSum completeSum completeAllSums over until union records.flat highest greatestOrigin predictions itemsFrom insert sortInto binary pushQueue popQueue pushed popped move goesUp rise siftUp takesRight child goesDown sink siftDown rowsOf
 read-a = reading-on (reading-on {s′ = state 2 3} {w′ = words-a2} one-a 1 refl) 0 refl
 
 -- So it is a sentence, since finished says yes;
@@ -135,11 +136,11 @@ abbrev pub ended : State → Words → ℕ → Ended
 ended s w taken = record { outcome = asItWas 0 s w; taken = taken }
 
 pub run-a : Runs file-a (state 0 0) words-a0 (0 ∷ 1 ∷ 0 ∷ []) (ended (state 3 6) words-a3 3)
-unfolding advanced stepped ran andThen store enqueue completeMedial completeMedialItems completeUnary completeUnaryPredictions completeBinary completeBinaryPredictions complete nextSummand popSum completeSum completeAllSums over until union records.flat highest greatestOrigin predictions itemsFrom insert sortInto binary pushWords popWords pushed popped move goesUp rise siftUp takesRight child goesDown sink siftDown rowsOf
+unfolding entriesIn advanced stepped ran andThen store enqueue completeMedial completeMedialItems completeUnary completeUnaryPredictions completeBinary completeBinaryPredictions complete nextSummand popSum completeSum completeAllSums over until union records.flat highest greatestOrigin predictions itemsFrom insert sortInto binary pushQueue popQueue pushed popped move goesUp rise siftUp takesRight child goesDown sink siftDown rowsOf
 run-a = Runs.done (start-a .ready)
 
 pub run-one-a : Runs file-a (state 0 0) words-a0 (0 ∷ []) (ended (state 1 2) words-a1 1)
-unfolding advanced stepped ran andThen store enqueue completeMedial completeMedialItems completeUnary completeUnaryPredictions completeBinary completeBinaryPredictions complete nextSummand popSum completeSum completeAllSums over until union records.flat highest greatestOrigin predictions itemsFrom insert sortInto binary pushWords popWords pushed popped move goesUp rise siftUp takesRight child goesDown sink siftDown rowsOf
+unfolding entriesIn advanced stepped ran andThen store enqueue completeMedial completeMedialItems completeUnary completeUnaryPredictions completeBinary completeBinaryPredictions complete nextSummand popSum completeSum completeAllSums over until union records.flat highest greatestOrigin predictions itemsFrom insert sortInto binary pushQueue popQueue pushed popped move goesUp rise siftUp takesRight child goesDown sink siftDown rowsOf
 run-one-a = Runs.done (start-a .ready)
 
 -- Grammar B: its file, its rules, and the words of its table.
@@ -197,7 +198,7 @@ start-b = reading-start (state 7 7) old-b sound-b (omega arith) refl
 
 -- B READS "0 1 2" IN ONE RUN, and drops a set: three tokens, and the latest set is set 2.
 pub read-b : History file-b (state 2 3) words-b3 (0 ∷ 1 ∷ 2 ∷ [])
-unfolding advanced stepped ran andThen store enqueue completeMedial completeMedialItems completeUnary completeUnaryPredictions completeBinary completeBinaryPredictions complete nextSummand popSum completeSum completeAllSums over until union records.flat highest greatestOrigin predictions itemsFrom insert sortInto binary pushWords popWords pushed popped move goesUp rise siftUp takesRight child goesDown sink siftDown rowsOf
+unfolding entriesIn advanced stepped ran andThen store enqueue completeMedial completeMedialItems completeUnary completeUnaryPredictions completeBinary completeBinaryPredictions complete nextSummand popSum completeSum completeAllSums over until union records.flat highest greatestOrigin predictions itemsFrom insert sortInto binary pushQueue popQueue pushed popped move goesUp rise siftUp takesRight child goesDown sink siftDown rowsOf
 read-b = History.run {us = 0 ∷ 1 ∷ 2 ∷ []} (start-b .history) (Runs.done (start-b .ready))
 
 -- A START IN THE MIDDLE BEGINS ANEW: over the words that B's parse left, "0 1" is read and a second 0 is answered 6. No sentence begins so.
@@ -208,7 +209,7 @@ abbrev words-b2 : Words
 words-b2 = record { items = 0 ∷ 3 ∷ 1 ∷ 4 ∷ 0 ∷ 0 ∷ 0 ∷ 0 ∷ 0 ∷ 0 ∷ 0 ∷ 0 ∷ []; starts = 0 ∷ 0 ∷ 1 ∷ 2 ∷ []; rows = wordRows (89 ∷ 34 ∷ 4 ∷ []); queue = 0 ∷ 0 ∷ [] }
 
 again-b : Reading file-b grammar-b (tableOf rows-b) (state 2 2) words-b2 (0 ∷ 1 ∷ [])
-unfolding advanced stepped ran andThen store enqueue completeMedial completeMedialItems completeUnary completeUnaryPredictions completeBinary completeBinaryPredictions complete nextSummand popSum completeSum completeAllSums over until union records.flat highest greatestOrigin predictions itemsFrom insert sortInto binary pushWords popWords pushed popped move goesUp rise siftUp takesRight child goesDown sink siftDown rowsOf
+unfolding entriesIn advanced stepped ran andThen store enqueue completeMedial completeMedialItems completeUnary completeUnaryPredictions completeBinary completeBinaryPredictions complete nextSummand popSum completeSum completeAllSums over until union records.flat highest greatestOrigin predictions itemsFrom insert sortInto binary pushQueue popQueue pushed popped move goesUp rise siftUp takesRight child goesDown sink siftDown rowsOf
 again-b =
     reading-on (reading-on {s′ = state 1 1} {w′ = words-b1} (reading-start {s′ = state 0 0} {w′ = words-b0} (state 2 3) words-b3 sound-b (omega arith) refl) 0 refl) 1 refl
 

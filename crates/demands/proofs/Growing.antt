@@ -1,16 +1,18 @@
 -- What the steps of a pass add: places to the queue, and items behind those that are there.
 use mathlib.Core.Path.{_≡_, refl, sym, ap, _∙_, subst}
+use mathlib.Core.Bool.{Bool}
 use mathlib.Core.Logic.{_⊎_, inl, inr}
 use Prim.Native.Nat.{ℕ, zero, suc, _+_, _<_}
 use native.Mathlib.Decide.{decLt, ℕ-discrete}
 use native.Mathlib.Omega.{arith}
-use lib.ListN.{getD}
 use lib.Dec.{eqb}
 use borrow.Author.Tests.{eqb-true, eq-eqb, ne-eqb}
 use Rattle.laws.specs.Counts.{once, count}
 use Rattle.laws.specs.Turns.{over}
 use Rattle.laws.proofs.Counts.{Passes, found}
-use Rattle.item.specs.Item.{Item, itemAt, keyAt}
+use Rattle.item.specs.Item.{Item, itemAt}
+use Rattle.binary_heap.specs.Entry.{Entry, noEntry, entryKey}
+use Rattle.binary_heap.specs.Sift.{entryAt}
 use Rattle.binary_heap.proofs.PushLaws.{pushed-counts}
 use Rattle.binary_heap.proofs.PopLaws.{popped-counts}
 use Rattle.parse.specs.declared.State.{State}
@@ -23,9 +25,13 @@ use Rattle.completion.proofs.Onward.{Onward, onward-refl, onward-trans, onward-
 use Rattle.completion.proofs.Heaped.{sound-entries}
 use Rattle.demands.proofs.Chart.{New}
 
--- Place `p` is an entry of the queue.
+-- An entry names place `p`.
+abbrev pub names : ℕ → Entry → Bool
+names p e = eqb p (e .place)
+
+-- An entry of the queue names place `p`.
 pub record IsEntry (s : Pass) (p : ℕ) : Type 0 where
-  pub counted : 0 < count (eqb p) (entriesOf s)
+  pub counted : 0 < count (names p) (entriesOf s)
 
 -- A store leaves the entries.
 pub entry-store : (origin rule : ℕ) (s : Pass) (p : ℕ) → IsEntry s p → IsEntry (store origin rule s) p
@@ -36,13 +42,13 @@ module _ (s : Pass) (sound : PassFits s) where
   -- An entry is a place of an item.
   pub entry-place : (p : ℕ) → IsEntry s p → p < s .at .items
   entry-place p entry =
-      let at : Passes (eqb p) (entriesOf s) 0 = found (eqb p) (entriesOf s) 0 (entry .counted) in
-      subst (λ (n : ℕ). n < s .at .items) (sym (eqb-true p (getD (entriesOf s) (at .place) 0) (at .passes)))
+      let at : Passes (names p) (entriesOf s) noEntry = found (names p) (entriesOf s) noEntry (entry .counted) in
+      subst (λ (n : ℕ). n < s .at .items) (sym (eqb-true p (entryAt (entriesOf s) (at .place) .place) (at .passes)))
       (sound-entries s sound .each (at .place) (at .within))
 
-  queued-counts : (place p : ℕ) → count (eqb p) (entriesOf (queuedPass place s)) ≡ count (eqb p) (entriesOf s) + once (eqb p place)
+  queued-counts : (place p : ℕ) → count (names p) (entriesOf (queuedPass place s)) ≡ count (names p) (entriesOf s) + once (eqb p place)
   queued-counts place p =
-      ap (count (eqb p)) (queued-entries s (sound .queued-fit) place) ∙ pushed-counts (keyAt (s .items)) (entriesOf s) place (eqb p)
+      ap (count (names p)) (queued-entries s (sound .queued-fit) place) ∙ pushed-counts (entryKey (s .items)) (entriesOf s) (record { place = place }) (names p)
 
   -- A push leaves the entries that are there,
   pub entry-enqueue : (place p : ℕ) → IsEntry s p → IsEntry (enqueue place s) p
@@ -57,22 +63,22 @@ module _ (s : Pass) (sound : PassFits s) where
       (λ free on. record { counted = omega (arith, queued-counts place place, ap once (eq-eqb place place refl)) }) (λ on. absurd (omega arith))
 
   -- A pop takes away the greatest, and no other.
-  pub entry-next : 0 < s .at .queued → (p : ℕ) → IsEntry s p → (p ≡ getD (s .queue) 0 0) ⊎ IsEntry (nextSummand s) p
+  pub entry-next : 0 < s .at .queued → (p : ℕ) → IsEntry s p → (p ≡ entryAt (s .queue) 0 .place) ⊎ IsEntry (nextSummand s) p
   entry-next some p entry =
-      elim (ℕ-discrete p (getD (s .queue) 0 0)) [
+      elim (ℕ-discrete p (entryAt (s .queue) 0 .place)) [
         | yes top ↦ inl top
         | no other ↦ inr (next-is (λ (t : Pass). IsEntry t p) s some (record { counted = left other }))
       ]
     where
-      left : (p ≡ getD (s .queue) 0 0 → ⊥) → 0 < count (eqb p) (entriesOf (poppedPass s))
+      left : (p ≡ entryAt (s .queue) 0 .place → ⊥) → 0 < count (names p) (entriesOf (poppedPass s))
       left other =
-          let first : getD (entriesOf s) 0 0 ≡ getD (s .queue) 0 0 = entry-at s (sound .queued-fit) 0 some in
+          let first : entryAt (entriesOf s) 0 .place ≡ entryAt (s .queue) 0 .place = ap (λ (e : Entry). e .place) (entry-at s (sound .queued-fit) 0 some) in
           omega (
             arith,
             entry .counted,
-            ap (count (eqb p)) (popped-entries s (sound .queued-fit) some),
-            popped-counts (keyAt (s .items)) (entriesOf s) (some-entries s (sound .queued-fit) some) (eqb p),
-            ap once (ne-eqb p (getD (entriesOf s) 0 0) (λ same. other (same ∙ first))),
+            ap (count (names p)) (popped-entries s (sound .queued-fit) some),
+            popped-counts (entryKey (s .items)) (entriesOf s) (some-entries s (sound .queued-fit) some) (names p),
+            ap once (ne-eqb p (entryAt (entriesOf s) 0 .place) (λ same. other (same ∙ first))),
           )
 
 -- Item `i` is queued.

@@ -11,6 +11,7 @@ use Rattle.laws.proofs.Counts.{found}
 use Rattle.laws.proofs.Tests.{both-true}
 use Rattle.laws.proofs.Turns.{until-keeps}
 use Rattle.item.specs.Item.{Item, itemAt}
+use Rattle.binary_heap.specs.Entry.{noEntry}
 use Rattle.grammar.specs.Rules.{Rule}
 use Rattle.parse.specs.WellFormed.{leftOf}
 use Rattle.completion.specs.Pass.{Pass}
@@ -19,7 +20,7 @@ use Rattle.completion.specs.inner.Ready.{PassFits}
 use Rattle.completion.proofs.Entries.{entriesOf, entries-length}
 use Rattle.completion.proofs.Turning.{sum-goes}
 use Rattle.completion.proofs.Charting.{next-sound}
-use Rattle.demands.proofs.Growing.{Queued, entry-next}
+use Rattle.demands.proofs.Growing.{Queued, names, entry-next}
 use Rattle.demands.proofs.Following.{OfPair, Met}
 
 module _ (rs : List Rule) (k x : ℕ) where
@@ -69,4 +70,4 @@ module _ (rs : List Rule) (k x : ℕ) where
 pub met-empty : {rs : List Rule} {done : ℕ → ℕ → Type 0} {s : Pass} {i : Item} → PassFits s → s .at .queued ≡ 0 → Met rs done s i → OfPair done rs i
 met-empty sound nothing (Met.completed c) = c
 met-empty {s = s} sound nothing (Met.queued q) =
-    absurd (omega (arith, found (eqb (q .place)) (entriesOf s) 0 (q .entry .counted) .within, entries-length s (sound .queued-fit)))
+    absurd (omega (arith, found (names (q .place)) (entriesOf s) noEntry (q .entry .counted) .within, entries-length s (sound .queued-fit)))

@@ -9,7 +9,7 @@ use Rattle.item.specs.Item.{itemWords, ruleAt, Item}
 use Rattle.grammar.specs.Rules.{Grammar, wrapper}
 use Rattle.parse.specs.declared.State.{State}
 use Rattle.parse.specs.Words.{Words, startOf, padded}
-use Rattle.completion.specs.Pass.{Pass}
+use Rattle.completion.specs.Pass.{Pass, passOf}
 use Rattle.completion.specs.Complete.{predicted, complete}
 use Rattle.completion.specs.Sums.{completeAllSums}
 use Rattle.advance.specs.NewItems.{newItems}
@@ -51,7 +51,7 @@ abbrev pub completed : Grammar → State → Words → ℕ → Pass
 completed g s v t =
     completeAllSums (g .rules) (v .starts) (v .rows)
     (complete (g .rules) (v .starts) (v .rows) (s .set) t
-    (record { at = record { stopped = 0; items = s .items; queued = 0 }; items = v .items; queue = v .queue }))
+    (passOf (record { stopped = 0; items = s .items; queued = 0 }) (v .items) (v .queue)))
 
 -- Steps 4 to 6, with `new` for the new items as step 4 leaves them.
 unfoldable pub advanced : Grammar → List (List ℕ) → State → Words → List Item → Outcome

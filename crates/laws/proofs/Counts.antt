@@ -3,13 +3,9 @@ use mathlib.Core.Path.{_≡_, refl, sym, ap, _∙_, subst}
 use mathlib.Core.Bool.{Bool, true}
 use mathlib.Core.List.{List, [], _∷_, _++_}
 use Prim.Native.Nat.{ℕ, zero, suc, _+_, _≤_, _<_, zero-le, suc-le-suc}
-use native.Mathlib.Decide.{decLt}
 use native.Mathlib.Nat.{le-of-suc-le-suc, not-suc-le-zero}
 use native.Mathlib.Omega.{arith}
-use lib.ListN.{length, getD, take, set, length-append, length-set, length-take, List·getD-append}
-use lib.Seq.{getD-append-seam, getD-take}
-use lib.Dec.{eqb}
-use borrow.Author.Tests.{eq-eqb, eqb-true}
+use lib.ListN.{length, getD, set, length-set}
 use Rattle.laws.specs.Counts.{once, count, SameElements}
 use Rattle.laws.proofs.Lists.{set-either}
 use Rattle.laws.proofs.Tests.{either-way}
@@ -92,43 +88,5 @@ module _ {A : Type 0} where
 pub record Among {A : Type 0} (l m : List A) : Type 0 where
   pub counts : (test : A → Bool) → count test l ≤ count test m
 
--- Each element of a list of numbers has a property.
-pub record Every (P : ℕ → Type 0) (l : List ℕ) : Type 0 where
-  pub each : (k : ℕ) → k < length l → P (getD l k 0)
-
--- What each element of a list has, each element of a list among it has.
-pub among-every : (P : ℕ → Type 0) (l m : List ℕ) → Among l m → Every P m → Every P l
-among-every P l m a e = record {
-  each = λ k h.
-      let there : Passes (eqb (getD l k 0)) m 0 =
-      found (eqb (getD l k 0)) m 0
-      (omega (arith, counted (eqb (getD l k 0)) l k 0 h (eq-eqb (getD l k 0) (getD l k 0) refl), a .counts (eqb (getD l k 0)))) in
-      subst P (sym (eqb-true (getD l k 0) (getD m (there .place) 0) (there .passes))) (e .each (there .place) (there .within));
-}
-
 pub same-among : {A : Type 0} (l m : List A) → SameElements l m → Among l m
 same-among l m s = record { counts = λ test. omega (arith, s .counts test) }
-
--- Each element of a list has what each had, and the one behind them.
-pub every-more : (P : ℕ → Type 0) (l : List ℕ) (a : ℕ) → Every P l → P a → Every P (l ++ (a ∷ []))
-every-more P l a e new = record {
-  each = λ k h.
-      elim (decLt k (length l)) [
-        | yes b ↦ subst P (sym (List·getD-append l (a ∷ []) 0 k b)) (e .each k b)
-        | no b ↦
-            (let is : length l ≡ k = omega (arith, length-append l (a ∷ [])) in
-            subst (λ (i : ℕ). P (getD (l ++ (a ∷ [])) i 0)) is (subst P (sym (getD-append-seam l a [] 0)) new))
-      ];
-}
-
--- Each element of the front of a list has what each has.
-pub every-take : (P : ℕ → Type 0) (n : ℕ) (l : List ℕ) → Every P l → Every P (take n l)
-every-take P n l e = record {
-  each = λ k h.
-      let short : (k < n) × (k < length l) = omega (arith, length-take n l) in
-      subst P (sym (getD-take n l k 0 (short .0))) (e .each k (short .1));
-}
-
--- A store of what has it keeps it.
-pub every-set : (P : ℕ → Type 0) (l : List ℕ) (i a : ℕ) → Every P l → P a → Every P (set l i a)
-every-set P l i a e new = record { each = λ k h. set-either P l i a k 0 new (e .each k (omega (arith, length-set l i a))) }

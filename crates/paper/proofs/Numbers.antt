@@ -6,9 +6,10 @@ use Prim.Native.Nat.{ℕ}
 use Rattle.laws.specs.Bits.{union}
 use Rattle.laws.specs.Records as records
 use Rattle.laws.specs.Turns.{over, until}
+use Rattle.binary_heap.specs.Entry.{entriesIn}
 use Rattle.binary_heap.specs.Sift.{move, goesUp, rise, siftUp, takesRight, child, goesDown, sink, siftDown}
 use Rattle.binary_heap.specs.Heap.{pushed, popped}
-use Rattle.binary_heap.specs.Words.{pushWords, popWords}
+use Rattle.binary_heap.specs.Queue.{pushQueue, popQueue}
 use Rattle.grammar.specs.Rules.{Grammar}
 use Rattle.grammar.specs.File.{rulesFrom, grammarOf}
 use Rattle.completion.specs.Pass.{andThen, store, enqueue}
@@ -93,7 +94,7 @@ parseRows =
     ∷ []
 
 parse-numbers : All parseRows
-unfolding parseRows tried ended rulesFrom rowsOf ran stepped advanced complete completeMedial completeMedialItems completeUnary completeUnaryPredictions completeBinary completeBinaryPredictions andThen store enqueue completeAllSums completeSum popSum nextSummand over until pushWords popWords pushed popped move goesUp rise siftUp takesRight child goesDown sink siftDown itemsFrom insert sortInto binary highest greatestOrigin predictions union records.flat
+unfolding entriesIn parseRows tried ended rulesFrom rowsOf ran stepped advanced complete completeMedial completeMedialItems completeUnary completeUnaryPredictions completeBinary completeBinaryPredictions andThen store enqueue completeAllSums completeSum popSum nextSummand over until pushQueue popQueue pushed popped move goesUp rise siftUp takesRight child goesDown sink siftDown itemsFrom insert sortInto binary highest greatestOrigin predictions union records.flat
 parse-numbers = (refl, (refl, (refl, (refl, (refl, (refl, (refl, (refl, (refl, (refl, (refl, tt)))))))))))
 
 -- ALL OF THEM, in one table.

@@ -6,12 +6,15 @@ use mathlib.Core.List.{List, _++_}
 use Prim.Native.Nat.{ℕ, _+_, _-_, _*_, _/_, _≤_, _<_}
 use native.Mathlib.Decide.{decLt}
 use native.Mathlib.Omega.{arith}
-use lib.ListN.{length, getD, take, replicate, length-take, List·getD-eq-default}
+use lib.ListN.{length, getD, take, length-take, List·getD-eq-default}
 use lib.Seq.{ext-getD, getD-take}
 use borrow.Author.Tests.{ltb-true, ltb-false}
 use Rattle.laws.specs.Bits.{wordBits}
 use Rattle.bits.specs.Width.{rowWords}
 use Rattle.item.specs.Item.{Item, itemWords, flat}
+use Rattle.binary_heap.specs.Entry.{Entry, entriesIn}
+use Rattle.binary_heap.specs.Sift.{entryAt}
+use Rattle.binary_heap.proofs.Held.{none-held}
 use Rattle.grammar.specs.Rules.{Grammar, Rule, none}
 use Rattle.grammar.specs.inner.Decoded.{rulesIn}
 use Rattle.grammar.proofs.Decoding.{in-count}
@@ -52,9 +55,9 @@ module _ (rules : List ℕ) (sizes : Sizes) (table : List (List ℕ)) (s : State
   abbrev pass : Pass
   pass = completed g s v t
 
-  -- The words with what the pass stored and queued.
+  -- The words with what the pass stored.
   abbrev u : Words
-  u = record { items = pass .items; starts = v .starts; rows = v .rows; queue = pass .queue }
+  u = record { items = pass .items; starts = v .starts; rows = v .rows; queue = v .queue }
 
   well : WellFormed (sizes .symbols) rs s v
   well = can .well-formed
@@ -103,10 +106,9 @@ module _ (rules : List ℕ) (sizes : Sizes) (table : List (List ℕ)) (s : State
   zeros-same : (q : List ℕ) → length q ≡ length (v .queue) → ((i : ℕ) → getD q i 0 ≡ 0) → q ≡ v .queue
   zeros-same q long zero = ext-getD 0 q (v .queue) long (λ i there. zero i ∙ sym (well .spare-queue i))
 
-  pub cleared-queue : padded (length (pass .queue)) (take 0 (pass .queue)) ≡ v .queue
-  cleared-queue =
-      zeros-same (padded (length (pass .queue)) (take 0 (pass .queue))) (padded-length (length (pass .queue)) (take 0 (pass .queue)) (omega arith) ∙ passed .onward .queue-words)
-      (λ i. padded-word (length (pass .queue)) (take 0 (pass .queue)) i)
+  pub cleared-queue : (q : List ℕ) → length q ≡ length (v .queue) → padded (length q) (take 0 q) ≡ v .queue
+  cleared-queue q long =
+      zeros-same (padded (length q) (take 0 q)) (padded-length (length q) (take 0 q) (omega arith) ∙ long) (λ i. padded-word (length q) (take 0 q) i)
 
   -- A pass that was refused met full items or a full queue.
   pub full-at : (pass .at .stopped ≡ 0 → ⊥) → FullAt (pass .at .stopped)
@@ -118,14 +120,19 @@ module _ (rules : List ℕ) (sizes : Sizes) (table : List (List ℕ)) (s : State
       by-end (Ends.full-queue at full) = record { either = inr at }
 
   module _ (going : pass .at .stopped ≡ 0) where
-    queue-same : pass .queue ≡ v .queue
-    queue-same = zeros-same (pass .queue) (passed .onward .queue-words) (passed-queue passed (begins-spare well (can .accepted .few-rules) (can .few-items) (can .rowed)) going)
+    -- The queue is empty again, and so its words are those that were there.
+    pub queue-back : (q : List ℕ) → length q ≡ length (v .queue) → entriesIn q ≡ pass .queue → q ≡ v .queue
+    queue-back q long holds =
+        zeros-same q long
+        (none-held q
+        (λ k.
+        ap (λ (h : List Entry). entryAt h k) holds
+        ∙ passed-queue passed (begins-spare well (can .accepted .few-rules) (can .few-items) (can .rowed)) going k))
 
     without : withoutNew s u ≡ v
     without =
-        ap₂ (λ (i q : List ℕ). let w : Words = record { items = i; starts = v .starts; rows = v .rows; queue = q } in w)
+        ap (λ (i : List ℕ). let w : Words = record { items = i; starts = v .starts; rows = v .rows; queue = v .queue } in w)
         (without-new s v u (omega (arith, well .items-fit)) (record { zero = well .spare-items }) (passed .onward .item-words) (same-front (itemWords * s .items) (omega arith)))
-        queue-same
 
     -- What the advance asks.
     asks : Advanceable rules (sizes .rules) table s u (pass .at .items)
@@ -160,25 +167,19 @@ module _ (rules : List ℕ) (sizes : Sizes) (table : List (List ℕ)) (s : State
           items = padded n (front ++ flat new);
           starts = nextWords k m v new row .starts;
           rows = nextWords k m v new row .rows;
-          queue = replicate (length (pass .queue)) 0;
+          queue = nextWords k m v new row .queue;
         } in w)
         (passed .onward .item-words) (same-front (itemWords * startOf v (lastKept k m + 1)) (omega arith))
-        ∙ ap (λ (n : ℕ). let w : Words = record {
-          items = nextWords k m v new row .items;
-          starts = nextWords k m v new row .starts;
-          rows = nextWords k m v new row .rows;
-          queue = replicate n 0;
-        } in w) (passed .onward .queue-words)
 
     module _ (small : t < sizes .tokens) (there : Predicted s v t) (r : Advanced) (items starts rows : List ℕ)
         (advances : Advances rs table s (lent (pass .items) (v .starts) (v .rows)) (pass .at .items) r (lent items starts rows)) where
       abbrev after : Words
-      after = record { items = items; starts = starts; rows = rows; queue = pass .queue }
+      after = record { items = items; starts = starts; rows = rows; queue = v .queue }
 
       whole : (r ≡ advanceAnswer rs s u (pass .at .items)) × (after ≡ advanceWords rs table s u (pass .at .items))
       whole =
           advances-whole rules (sizes .rules) table s u (pass .at .items) r items starts rows
-          (record { zero = λ i from. passed-queue passed (begins-spare well (can .accepted .few-rules) (can .few-items) (can .rowed)) going i }) advances
+          (record { zero = λ i from. well .spare-queue i }) advances
 
       -- No room for the new set: 9.
       pub advance-refused : r ≡ answers.Refused → record { number = 9; state = s; words = after } ≡ stepped g table s v t
@@ -214,11 +215,11 @@ module _ (rules : List ℕ) (sizes : Sizes) (table : List (List ℕ)) (s : State
               ∙ sym (is-done g table s v t small there going (ltb-true (keptOf g s v t + 1) (length (v .rows) / rowWords) room))
 
   -- A push met full items or a full queue: 7 or 8, and the words are as they were.
-  pub pass-refused : t < sizes .tokens → Predicted s v t → (pass .at .stopped ≡ 0 → ⊥) → (number : ℕ) (items queue : List ℕ) → number ≡ pass .at .stopped
-      → items ≡ padded (length (pass .items)) (take (itemWords * s .items) (pass .items)) → queue ≡ padded (length (pass .queue)) (take 0 (pass .queue))
+  pub pass-refused : t < sizes .tokens → Predicted s v t → (pass .at .stopped ≡ 0 → ⊥) → (number : ℕ) (items queue q : List ℕ) → number ≡ pass .at .stopped
+      → length q ≡ length (v .queue) → items ≡ padded (length (pass .items)) (take (itemWords * s .items) (pass .items)) → queue ≡ padded (length q) (take 0 q)
       → record { number = number; state = s; words = record { items = items; starts = v .starts; rows = v .rows; queue = queue } } ≡ stepped g table s v t
-  pass-refused small there stopped number items queue is cleared emptied =
+  pass-refused small there stopped number items queue q is long cleared emptied =
       ap₂ (λ (i q : List ℕ). let o : Outcome = record { number = number; state = s; words = record { items = i; starts = v .starts; rows = v .rows; queue = q } } in o)
-      (cleared ∙ cleared-items) (emptied ∙ cleared-queue)
+      (cleared ∙ cleared-items) (emptied ∙ cleared-queue q long)
       ∙ ap (λ (n : ℕ). kept n s v) is
       ∙ sym (is-full g table s v t small there stopped)

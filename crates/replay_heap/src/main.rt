@@ -2,11 +2,13 @@
 // records and pops there were, how many pops gave another entry than the Rust, and how many words of the queue were left uncleared.
 use binary_heap::Popped;
 use binary_heap::Pushed;
+use binary_heap::entry::ENTRY_WORDS;
 use item::ITEM_WORDS;
 use libc::STDOUT_FILENO;
 use std::num::wrapping_add_u64;
 ghost use mathlib.Core.Path.{_≡_};
-ghost use Rattle.binary_heap.specs.Words.{Places};
+ghost use Rattle.binary_heap.specs.Entry.{entriesIn};
+ghost use Rattle.binary_heap.specs.Queue.{Places};
 
 // The text, the items of a record, and the entries of its queue at most.
 const TEXT: usize = 262_144;
@@ -138,7 +140,7 @@ fn answers_of(text: &[u8], at: usize, operations: u64) -> usize {
 
 // Does the operations of a record.
 fn operate(text: &[u8], items: &[u32], queue: &mut [u32], start: Replay, operations: u64) -> Replay
-    requires { ⌜ Places (now items) (now queue) (start .entries) ⌝ }
+    requires { ⌜ Places (now items) (entriesIn (now queue)) (start .entries) ⌝ }
 {
     let mut r = start;
     let mut left = operations;
@@ -151,8 +153,8 @@ fn operate(text: &[u8], items: &[u32], queue: &mut [u32], start: Replay, operati
 
 // Does one operation.
 fn step(text: &[u8], items: &[u32], queue: &mut [u32], r: Replay) -> Replay
-    requires { ⌜ Places (now items) (now queue) (r .entries) ⌝ }
-    ensures { λ s. ⌜ Places (now (items .entry)) (now (queue .exit)) (s .entries) ⌝ }
+    requires { ⌜ Places (now items) (entriesIn (now queue)) (r .entries) ⌝ }
+    ensures { λ s. ⌜ Places (now (items .entry)) (entriesIn (now (queue .exit))) (s .entries) ⌝ }
 {
     let operation = numbers::read(text, r.operation);
     if operation.value != 0 {
@@ -164,13 +166,13 @@ fn step(text: &[u8], items: &[u32], queue: &mut [u32], r: Replay) -> Replay
 
 // A push.
 fn push(items: &[u32], queue: &mut [u32], r: Replay, next: usize, place: u32) -> Replay
-    requires { ⌜ Places (now items) (now queue) (r .entries) ⌝ }
-    ensures { λ s. ⌜ Places (now (items .entry)) (now (queue .exit)) (s .entries) ⌝ }
+    requires { ⌜ Places (now items) (entriesIn (now queue)) (r .entries) ⌝ }
+    ensures { λ s. ⌜ Places (now (items .entry)) (entriesIn (now (queue .exit))) (s .entries) ⌝ }
 {
     if (place as usize) >= items.len() / ITEM_WORDS {
         return refused(r, next, r.answer);
     }
-    let capacity = queue.len();
+    let capacity = queue.len() / ENTRY_WORDS;
     match binary_heap::push(items, queue, capacity, r.entries, place) {
         Pushed::Count(entries) => Replay {
             operation: next,
@@ -185,8 +187,8 @@ fn push(items: &[u32], queue: &mut [u32], r: Replay, next: usize, place: u32) ->
 
 // A pop, compared with the next recorded answer.
 fn pop(text: &[u8], items: &[u32], queue: &mut [u32], r: Replay, next: usize) -> Replay
-    requires { ⌜ Places (now items) (now queue) (r .entries) ⌝ }
-    ensures { λ s. ⌜ Places (now (items .entry)) (now (queue .exit)) (s .entries) ⌝ }
+    requires { ⌜ Places (now items) (entriesIn (now queue)) (r .entries) ⌝ }
+    ensures { λ s. ⌜ Places (now (items .entry)) (entriesIn (now (queue .exit))) (s .entries) ⌝ }
 {
     let recorded = numbers::read(text, r.answer);
     match binary_heap::pop(items, queue, r.entries) {

@@ -3,7 +3,8 @@ use mathlib.Core.Path.{_≡_}
 use mathlib.Core.List.{List}
 use Prim.Native.Nat.{ℕ, _+_, _≤_, _<_}
 use lib.ListN.{length, getD, take}
-use Rattle.item.specs.Item.{originAt, keyAt}
+use Rattle.item.specs.Item.{originAt}
+use Rattle.binary_heap.specs.Entry.{entryKey}
 use Rattle.binary_heap.specs.Heap.{Heap}
 use Rattle.grammar.specs.Rules.{Rule, none, noRule}
 use Rattle.completion.specs.Pass.{Pass}
@@ -25,4 +26,4 @@ pub record Pending (rs : List Rule) (starts : List ℕ) (s : Pass) : Type 0 wher
   pub sound : PassFits s
   pub charted : Charted rs starts s
   pub earlier : (k p : ℕ) → getD starts k 0 ≤ p → p < getD starts (k + 1) 0 → originAt (s .items) p < k
-  pub heap : Heap (keyAt (s .items)) (take (s .at .queued) (s .queue))
+  pub heap : Heap (entryKey (s .items)) (take (s .at .queued) (s .queue))

@@ -6,6 +6,7 @@ use lib.ListN.{length, getD}
 use Rattle.laws.specs.Bits.{wordBits}
 use Rattle.bits.specs.Width.{rowWords}
 use Rattle.item.specs.Item.{itemWords, itemAt, originAt, ruleAt}
+use Rattle.binary_heap.specs.Sift.{entryAt}
 use Rattle.grammar.specs.Rules.{Rule, noRule}
 use Rattle.grammar.specs.Accepted.{maxRules}
 use Rattle.parse.specs.Words.{maxItems, maxSets}
@@ -27,7 +28,7 @@ pub record PassFits (s : Pass) : Type 0 where
   pub few-items : length (s .items) ≤ itemWords * maxItems
   pub items-fit : s .at .items ≤ length (s .items) / itemWords
   pub queued-fit : s .at .queued ≤ length (s .queue)
-  pub entries : (i : ℕ) → i < s .at .queued → getD (s .queue) i 0 < s .at .items
+  pub entries : (i : ℕ) → i < s .at .queued → entryAt (s .queue) i .place < s .at .items
 
 -- `k` is a set: the places of its items do not run backwards, and the start behind them is there.
 pub record IsSet (starts : List ℕ) (k : ℕ) : Type 0 where

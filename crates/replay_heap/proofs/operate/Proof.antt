@@ -2,12 +2,13 @@
 use mathlib.Core.Path.{_≡_}
 use borrow.Author.Needs.{needs}
 use lib.ListN.{length}
-use Rattle.binary_heap.specs.Words.{Places}
+use Rattle.binary_heap.specs.Entry.{entriesIn}
+use Rattle.binary_heap.specs.Queue.{Places}
 use Rattle.replay_heap.proofs.operate.Statement.{statement}
 use Rattle.replay_heap.proofs.operate.Tie as tie
 
 abbrev Inv-loop : tie.InvT-loop
-Inv-loop text items queue₀ operations r₀ left₀ queue r left = (length queue ≡ length queue₀) × Places items queue (r .entries)
+Inv-loop text items queue₀ operations r₀ left₀ queue r left = (length queue ≡ length queue₀) × Places items (entriesIn queue) (r .entries)
 
 abbrev μ-loop : tie.MeasureT-loop
 μ-loop text items queue₀ operations r₀ left₀ queue r left = left

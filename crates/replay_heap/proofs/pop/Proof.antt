@@ -2,8 +2,8 @@
 use mathlib.Core.Path.{_∙_, sym, subst}
 use Prim.Native.Nat.{ℕ}
 use denote.Ref.{now}
-use Rattle.item.specs.Item.{keyAt}
-use Rattle.binary_heap.specs.Words.{Places}
+use Rattle.binary_heap.specs.Entry.{entriesIn, entryKey}
+use Rattle.binary_heap.specs.Queue.{Places}
 use Rattle.binary_heap.proofs.Kept.{kept-empty, kept-entry}
 use borrow.Author.Needs.{needs}
 use Rattle.replay_heap.proofs.pop.Statement.{statement}
@@ -50,7 +50,7 @@ returns : tie.Need-returns
 returns c =
     let start = c .before .before .before .before .before .before .before .before .before .before .before .before .before .before in
     let called = c .before .before .before .before .before .before .before .before .pop in
-    kept-entry (keyAt (now (start .args .items))) (now (start .args .items)) (now (start .args .queue)) _ _ (start .pre) _ _
+    kept-entry (entryKey (now (start .args .items))) (now (start .args .items)) (entriesIn (now (start .args .queue))) _ _ (start .pre) _ _
     (sym (called .ensures .0) ∙ c .before .before .before .before .entry .given .1) (called .ensures .1)
 
 -- src/main.rt:166:1
@@ -62,8 +62,8 @@ returns-2 : tie.Need-returns-2
 returns-2 c =
     let start = c .before .before .before .before .before .before .before .before .before .before .before in
     let called = c .before .before .before .before .before .pop in
-    subst (λ (n : ℕ). Places (now (start .args .items)) (called .last .1 .0) n) (sym (c .refused .ensures))
-    (kept-empty (keyAt (now (start .args .items))) (now (start .args .items)) (now (start .args .queue)) _ _ (start .pre)
+    subst (λ (n : ℕ). Places (now (start .args .items)) (entriesIn (called .last .1 .0)) n) (sym (c .refused .ensures))
+    (kept-empty (entryKey (now (start .args .items))) (now (start .args .items)) (entriesIn (now (start .args .queue))) _ _ (start .pre)
     (sym (called .ensures .0) ∙ c .before .enum-told .given .1) (called .ensures .1))
 
 pub pop-spec : {M : Type 1} → statement M

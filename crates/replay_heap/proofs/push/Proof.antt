@@ -3,8 +3,9 @@ use mathlib.Core.Path.{_∙_, sym, subst}
 use Prim.Native.Nat.{ℕ}
 use native.Mathlib.Omega.{arith}
 use denote.Ref.{now}
-use Rattle.item.specs.Item.{keyAt}
-use Rattle.binary_heap.specs.Words.{Places}
+use Rattle.binary_heap.specs.Entry.{entriesIn, entryKey}
+use Rattle.binary_heap.specs.Queue.{Places}
+use Rattle.binary_heap.proofs.Held.{held-length}
 use Rattle.binary_heap.proofs.Kept.{kept-full, kept-count}
 use borrow.Author.Needs.{needs}
 use Rattle.replay_heap.proofs.push.Statement.{statement}
@@ -18,11 +19,13 @@ refused-requires c κs = search needs
 returns : tie.Need-returns
 returns c =
     let start = c .before .before .before .before in
-    subst (λ (n : ℕ). Places (now (start .args .items)) (now (start .args .queue)) n) (sym (c .refused .ensures)) (start .pre)
+    subst (λ (n : ℕ). Places (now (start .args .items)) (entriesIn (now (start .args .queue))) n) (sym (c .refused .ensures)) (start .pre)
 
 -- src/main.rt:153:11
 push-requires : tie.Need-push-requires
-push-requires c κs = search needs
+push-requires c κs =
+    let start = c .before .before .before .before in
+    (start .pre, omega (arith, held-length (now (start .args .queue))), omega arith)
 
 -- src/main.rt:154:23
 enum-known-entries : tie.Need-enum-known-entries
@@ -45,7 +48,7 @@ returns-2 : tie.Need-returns-2
 returns-2 c =
     let start = c .before .before .before .before .before .before .before .before .before .before in
     let called = c .before .before .before .before .before .push in
-    kept-count (keyAt (now (start .args .items))) (now (start .args .items)) (now (start .args .queue)) _ _ (start .pre) _ (start .args .place) _ (omega arith)
+    kept-count (entryKey (now (start .args .items))) (now (start .args .items)) (entriesIn (now (start .args .queue))) _ _ (start .pre) _ (record { place = start .args .place }) _ (omega arith)
     (sym (called .ensures .0) ∙ c .before .entries .given .1) (called .ensures .1)
 
 -- src/main.rt:145:1
@@ -57,8 +60,8 @@ returns-3 : tie.Need-returns-3
 returns-3 c =
     let start = c .before .before .before .before .before .before .before .before .before .before in
     let called = c .before .before .before .before .before .push in
-    subst (λ (n : ℕ). Places (now (start .args .items)) (called .last .1 .0) n) (sym (c .refused2 .ensures))
-    (kept-full (keyAt (now (start .args .items))) (now (start .args .items)) (now (start .args .queue)) _ _ (start .pre) _ (start .args .place)
+    subst (λ (n : ℕ). Places (now (start .args .items)) (entriesIn (called .last .1 .0)) n) (sym (c .refused2 .ensures))
+    (kept-full (entryKey (now (start .args .items))) (now (start .args .items)) (entriesIn (now (start .args .queue))) _ _ (start .pre) _ (record { place = start .args .place })
     (sym (called .ensures .0) ∙ c .before .enum-told .given .1) (called .ensures .1))
 
 pub push-spec : {M : Type 1} → statement M

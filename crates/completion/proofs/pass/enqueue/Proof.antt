@@ -2,8 +2,8 @@ use mathlib.Core.Path.{sym, _∙_}
 use Prim.Native.Nat.{_<_}
 use native.Mathlib.Omega.{arith}
 use borrow.Author.Needs.{needs}
-use native.Mathlib.Nat.{le-refl}
-use lib.ListN.{length}
+use Rattle.binary_heap.specs.Entry.{entriesIn}
+use Rattle.binary_heap.proofs.Held.{held-length}
 use Rattle.completion.specs.Pass.{passOf}
 use Rattle.completion.proofs.Soundness.{sound-places, has-place}
 use Rattle.completion.proofs.Pushes.{stays, queue-refused, queue-took}
@@ -30,7 +30,7 @@ push-requires c κs =
     let given = c .before .before .before .before .before .args in
     let required = c .before .before .before .before .before .pre in
     let s = passOf (given .at) (given .items .now) (given .queue .now) in
-    (sound-places s (required .0), le-refl (length (given .queue .now)), has-place s (required .0) (given .place) (required .1 (c .before .if1 .left)))
+    (sound-places s (required .0), omega (arith, held-length (given .queue .now)), has-place s (required .0) (given .place) (required .1 (c .before .if1 .left)))
 
 -- src/pass.rt:49:25
 enum-told : tie.Need-enum-told
@@ -50,7 +50,7 @@ returns-2 c =
     let given = c .before .before .before .before .before .before .before .before .before .before .args in
     let stop-tested = c .before .before .before .before .before .before .if1 in
     let pushed = c .before .before .before .before .push in
-    queue-refused (passOf (given .at) (given .items .now) (given .queue .now)) (given .place) (pushed .last .1 .0) (stop-tested .left)
+    queue-refused (passOf (given .at) (given .items .now) (given .queue .now)) (given .place) _ (entriesIn (pushed .last .1 .0)) (sym (held-length (given .queue .now))) (stop-tested .left)
     (sym (pushed .ensures .0) ∙ c .enum-told .given .1) (pushed .ensures .1)
 
 -- src/pass.rt:38:1
@@ -63,7 +63,7 @@ returns-3 c =
     let given = c .before .before .before .before .before .before .before .before .before .before .before .args in
     let stop-tested = c .before .before .before .before .before .before .before .if1 in
     let pushed = c .before .before .before .before .before .push in
-    queue-took (passOf (given .at) (given .items .now) (given .queue .now)) (given .place) _ (pushed .last .1 .0) (stop-tested .left)
+    queue-took (passOf (given .at) (given .items .now) (given .queue .now)) (given .place) _ _ (entriesIn (pushed .last .1 .0)) (sym (held-length (given .queue .now))) (stop-tested .left)
     (sym (pushed .ensures .0) ∙ c .before .n .given .1) (pushed .ensures .1)
 
 pub enqueue-spec : {M : Type 1} → statement M

@@ -1,5 +1,6 @@
 use Rattle.completion.proofs.Summing.{popped-entry}
 use Rattle.completion.proofs.Soundness.{sound-places}
+use Rattle.binary_heap.specs.Entry.{entriesIn}
 use Rattle.binary_heap.proofs.Answers.{pop-empty-tells}
 use Rattle.completion.specs.Pass.{passOf}
 use native.Mathlib.Omega.{arith}
@@ -32,7 +33,7 @@ returns : tie.Need-returns
 returns c =
     let given = c .before .before .before .before .before .before .before .before .args in
     let required = c .before .before .before .before .before .before .before .before .pre in
-    let none : given .at .queued ≡ 0 = pop-empty-tells (given .queue .now) (given .at .queued) (sym (c .before .before .before .before .pop .ensures .0) ∙ c .enum-told .given .1) in
+    let none : given .at .queued ≡ 0 = pop-empty-tells (entriesIn (given .queue .now)) (given .at .queued) (sym (c .before .before .before .before .pop .ensures .0) ∙ c .enum-told .given .1) in
     absurd (omega (arith, required .1))
 
 -- src/sums.rt:32:1
@@ -44,7 +45,7 @@ returns-2 : tie.Need-returns-2
 returns-2 c =
     let given = c .before .before .before .before .before .before .before .before .before .args in
     let popped = c .before .before .before .before .before .pop in
-    popped-entry (passOf (given .at) (given .items .now) (given .queue .now)) _ _ (popped .last .1 .0) (sym (popped .ensures .0) ∙ c .before .left .given .1) (popped .ensures .1)
+    popped-entry (passOf (given .at) (given .items .now) (given .queue .now)) _ _ (entriesIn (popped .last .1 .0)) (sym (popped .ensures .0) ∙ c .before .left .given .1) (popped .ensures .1)
 
 pub next-summand-spec : {M : Type 1} → statement M
 next-summand-spec =

@@ -6,7 +6,7 @@ use Rattle.completion.specs.Pass.{passOf}
 use Rattle.grammar.specs.inner.Decoded.{rulesIn}
 use lib.ListN.{take}
 use Rattle.item.specs.Item.{itemWords}
-use Rattle.recognizer.proofs.OneToken.{full-at, advance-asks, advance-refused, advance-done, pass-refused}
+use Rattle.recognizer.proofs.OneToken.{full-at, queue-back, advance-asks, advance-refused, advance-done, pass-refused}
 use Rattle.demands.proofs.Ways.{is-no-token, is-not-predicted, Predicted}
 use Rattle.parse.specs.Words.{wordsOf, padded}
 use Rattle.recognizer.specs.inner.Steppable.{grammarFrom}
@@ -17,7 +17,8 @@ use Rattle.laws.proofs.Bits.{holds-true, holds-false}
 use borrow.Author.Tests.{not-true, not-false}
 use native.Mathlib.Omega.{arith}
 use lib.ListN.{length}
-use Prim.Native.Nat.{_-_, _*_}
+use mathlib.Core.List.{List}
+use Prim.Native.Nat.{ℕ, _-_, _*_}
 use mathlib.Core.Path.{_≡_, sym, ap, _∙_, subst}
 use borrow.Author.Needs.{needs}
 use Rattle.recognizer.proofs.step.step.Statement.{statement}
@@ -111,10 +112,10 @@ returns-3 c =
     let there : Predicted (given .state) v (given .t) =
     holds-true (rowOf rowWords (given .rows .now) (given .state .set)) (given .t) (sym (looked-up .ensures) ∙ not-false (looked-up .result) (prediction-tested .left)) in
     pass-refused (given .rules .now) (given .sizes) (given .table .now) (given .state) v required (given .t) (token-tested .left) there
-    (λ e. stop-tested .taken (stops ∙ e)) _ (pass-cleared .last .0) (pass-cleared .last .1 .0)
-    (c .full .ensures ∙ stops)
+    (λ e. stop-tested .taken (stops ∙ e)) _ (pass-cleared .last .0) (pass-cleared .last .1 .0) (passed .last .1 .1 .1 .1 .1 .1 .1 .0)
+    (c .full .ensures ∙ stops) (passed .kept .1 .1 .1 .1 .1 .1 .1 .0)
     (pass-cleared .ensures .0 ∙ ap (λ (u : Pass). padded (length (u .items)) (take (itemWords * given .state .items) (u .items))) is)
-    (pass-cleared .ensures .1 ∙ ap (λ (u : Pass). padded (length (u .queue)) (take 0 (u .queue))) is)
+    (pass-cleared .ensures .1)
 
 -- src/step.rt:108:9
 advance-requires : tie.Need-advance-requires
@@ -173,7 +174,8 @@ returns-4 c =
     let items = moved-on .last .1 .1 .1 .1 .0 in
     let starts = moved-on .last .1 .1 .1 .1 .1 .0 in
     let rows = moved-on .last .1 .1 .1 .1 .1 .1 .0 in
-    ap (λ (u : Pass). let o : Outcome = record { number = 9; state = given .state; words = wordsOf items starts rows (u .queue) } in o) is
+    let emptied = queue-back (given .rules .now) (given .sizes) (given .table .now) (given .state) v required (given .t) (sym stops ∙ stop-tested .left) _ (passed .kept .1 .1 .1 .1 .1 .1 .1 .0) (ap (λ (u : Pass). u .queue) is) in
+    ap (λ (q : List ℕ). let o : Outcome = record { number = 9; state = given .state; words = wordsOf items starts rows q } in o) emptied
     ∙ advance-refused (given .rules .now) (given .sizes) (given .table .now) (given .state) v required (given .t) (sym stops ∙ stop-tested .left)
     (token-tested .left) there (moved-on .result) items starts rows
     (subst (λ (u : Pass). Advances (rulesIn (given .rules .now) (given .sizes .rules)) (given .table .now) (given .state)
@@ -216,7 +218,8 @@ returns-5 c =
     let items = moved-on .last .1 .1 .1 .1 .0 in
     let starts = moved-on .last .1 .1 .1 .1 .1 .0 in
     let rows = moved-on .last .1 .1 .1 .1 .1 .1 .0 in
-    ap (λ (u : Pass). let o : Outcome = record { number = 0; state = c .before .advanced .given .0 .0; words = wordsOf items starts rows (u .queue) } in o) is
+    let emptied = queue-back (given .rules .now) (given .sizes) (given .table .now) (given .state) v required (given .t) (sym stops ∙ stop-tested .left) _ (passed .kept .1 .1 .1 .1 .1 .1 .1 .0) (ap (λ (u : Pass). u .queue) is) in
+    ap (λ (q : List ℕ). let o : Outcome = record { number = 0; state = c .before .advanced .given .0 .0; words = wordsOf items starts rows q } in o) emptied
     ∙ advance-done (given .rules .now) (given .sizes) (given .table .now) (given .state) v required (given .t) (sym stops ∙ stop-tested .left) (token-tested .left) there
     (moved-on .result) items starts rows
     (subst (λ (u : Pass). Advances (rulesIn (given .rules .now) (given .sizes .rules)) (given .table .now) (given .state)
