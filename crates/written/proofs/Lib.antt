@@ -1,0 +1,11 @@
+-- Laws of written grammars and of their translation.
+pub mod Examples
+pub mod Lists
+pub mod Loops
+pub mod Becoming
+pub mod Alone
+pub mod Splitting
+pub mod Keeping
+pub mod Marking
+pub mod Standing
+pub mod Ordering
