@@ -15,7 +15,7 @@ use Rattle.written.specs.Lists.{Each}
 use Rattle.written.specs.Split.{rule, given, split}
 use Rattle.written.specs.Translation.{places}
 use Rattle.written.proofs.Becoming.{becomes-same, becomes-join, becomes-on}
-use Rattle.written.proofs.Splitting.{Has, Yields, Spelled, split-gives, Ended, Sound}
+use Rattle.written.proofs.Splitting.{Has, Yields, Spelled, split-gives, Ended}
 
 -- Tokens of a string's parts, and of the whole.
 pub tokens-part : {g : Written} (u v : List ℕ) → Tokens g (u ++ v) → Tokens g u × Tokens g v
@@ -26,9 +26,14 @@ pub tokens-join : {g : Written} {u v : List ℕ} → Tokens g u → Tokens g v �
 tokens-join none-left q = q
 tokens-join (one-more h p) q = one-more h (tokens-join p q)
 
-append-some : (u v : List ℕ) → u ≢ [] → u ++ v ≢ []
+-- What has a part that is not empty is not empty.
+pub append-some : (u v : List ℕ) → u ≢ [] → u ++ v ≢ []
 append-some [] v n e = n refl
 append-some (x ∷ u) v n e = cons≢nil e
+
+pub some-append : (u v : List ℕ) → v ≢ [] → u ++ v ≢ []
+some-append [] v n e = n e
+some-append (x ∷ u) v n e = cons≢nil e
 
 -- Nothing of one or two symbols derives the empty string.
 pub derives-some : {g : Grammar} {x : ℕ} {w : List ℕ} → Derives g x w → w ≢ []
@@ -43,6 +48,11 @@ module _ (w : Written) (g : Grammar) (new : ℕ → ℕ) (empty keep : ℕ → B
     place : {x : ℕ} {u v rest : List ℕ} → keep x ≡ true → Yields g new empty (new x) (empty x) u → Spells rest v → Spells (x ∷ rest) (u ++ v)
     gone : {x : ℕ} {v rest : List ℕ} → keep x ≡ false → Spells rest v → Spells (x ∷ rest) v
 
+  -- The grammar has the rules of a split.
+  pub record HasSplit (a : ℕ) (l : List ℕ) : Type 0 where
+    pub next : ℕ
+    pub has : Each (Has g new empty) (split new empty a l next)
+
   pub places-spelled : {l v : List ℕ} → Spells l v → Spelled g new empty (places keep l) v
   unfolding places given
   places-spelled no-place = Spelled.no-place
@@ -53,8 +63,7 @@ module _ (w : Written) (g : Grammar) (new : ℕ → ℕ) (empty keep : ℕ → B
       (no-none : (x : ℕ) → new x ≢ none)
       (all-empty : (a : ℕ) → Becomes w (a ∷ []) [] → empty a ≡ true)
       (all-kept : (a : ℕ) (u : List ℕ) → Tokens w u → u ≢ [] → Becomes w (a ∷ []) u → keep a ≡ true)
-      (next : ℕ → ℕ)
-      (has-split : (r a : ℕ) (ω : List ℕ) → Writes w r a ω → Each (Has g new empty) (split new empty (new a) (places keep ω) (next r))) where
+      (has-split : (r a : ℕ) (ω : List ℕ) → Writes w r a ω → HasSplit (new a) (places keep ω)) where
     alone : {a r : ℕ} {ω u : List ℕ} → Writes w r a ω → Becomes w ω u → Becomes w (a ∷ []) u
     alone {a} {u = u} h p = subst (Becomes w (a ∷ [])) (append-nil u) (by-rule h p nothing)
 
@@ -76,7 +85,7 @@ module _ (w : Written) (g : Grammar) (new : ℕ → ℕ) (empty keep : ℕ → B
         place {u = x ∷ []} (token-kept x h) (Yields.derived (subst (λ (n : ℕ). Derives g n (x ∷ [])) (sym (token-number x h)) (Derives.token (subst (λ (n : ℕ). x < n) (sym same-tokens) h)))) (becomes-spells p t)
     becomes-spells (by-rule {r = r} {a = a} {ω = ω} {γ = u} {β = v} h p q) t =
         let ts = tokens-part u v t in
-        add (alone h p) (ts .0) (split-gives g new empty (new a) (places keep ω) (next r) no-none (has-split r a ω h) (places-spelled (becomes-spells p (ts .0)))) (becomes-spells q (ts .1))
+        add (alone h p) (ts .0) (split-gives g new empty (new a) (places keep ω) (has-split r a ω h .next) no-none (has-split r a ω h .has) (places-spelled (becomes-spells p (ts .0)))) (becomes-spells q (ts .1))
 
     lone : (a : ℕ) {u : List ℕ} → Spells (a ∷ []) u → u ≢ [] → Derives g (new a) u
     lone a (place {u = s} k (Yields.derived d) no-place) n = subst (Derives g (new a)) (sym (append-nil s)) d

@@ -9,3 +9,9 @@ pub mod Keeping
 pub mod Marking
 pub mod Standing
 pub mod Ordering
+pub mod Numbers
+pub mod Listing
+pub mod Knowing
+pub mod Fair
+pub mod Leading
+pub mod Translating

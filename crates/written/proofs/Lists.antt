@@ -80,3 +80,49 @@ before-back (x ∷ l) p = later (before-back l p)
 pub before-across : {a b : ℕ} {l m : List ℕ} → In a l → In b m → Before a b (l ++ m)
 before-across {l = x ∷ l} here j = first (in-back l j)
 before-across (there i) j = later (before-across i j)
+
+-- Nothing stands twice.
+pub data NoTwice {A : Type 0} : List A → Type 0 where
+  empty : NoTwice []
+  more : {x : A} {l : List A} → (In x l → ⊥) → NoTwice l → NoTwice (x ∷ l)
+
+pub no-twice-first : {A : Type 0} {x : A} {l : List A} → NoTwice (x ∷ l) → In x l → ⊥
+no-twice-first (NoTwice.more n m) = n
+
+pub no-twice-rest : {A : Type 0} {x : A} {l : List A} → NoTwice (x ∷ l) → NoTwice l
+no-twice-rest (NoTwice.more n m) = m
+
+-- Two lists that share nothing.
+pub no-twice-join : {A : Type 0} (l m : List A) → NoTwice l → NoTwice m → ((x : A) → In x l → In x m → ⊥) → NoTwice (l ++ m)
+no-twice-join [] m p q apart = q
+no-twice-join (x ∷ l) m (NoTwice.more n p) q apart =
+    NoTwice.more (λ i. ⊎-elim n (λ j. apart x here j) (in-either l m i)) (no-twice-join l m p q (λ y i j. apart y (there i) j))
+
+pub no-twice-snoc : {A : Type 0} (l : List A) (x : A) → NoTwice l → (In x l → ⊥) → NoTwice (l ++ x ∷ [])
+no-twice-snoc l x p n =
+    no-twice-join l (x ∷ []) p (NoTwice.more none-there NoTwice.empty) (λ y i j. head-or-tail j (λ e. n (subst (λ z. In z l) (sym e) i)) (λ k. none-there k))
+
+-- So equal places are one place.
+pub no-twice-at : {A : Type 0} (l : List A) (d : A) (q r : ℕ) → NoTwice l → q < r → r < length l → getD l q d ≡ getD l r d → ⊥
+no-twice-at [] d q r n h k e = omega arith
+no-twice-at (x ∷ l) d zero zero n h k e = omega arith
+no-twice-at (x ∷ l) d zero (suc r) n h k e = no-twice-first n (subst (λ z. In z l) (sym e) (at-in l r d (omega arith)))
+no-twice-at (x ∷ l) d (suc q) zero n h k e = omega arith
+no-twice-at (x ∷ l) d (suc q) (suc r) n h k e = no-twice-at l d q r (no-twice-rest n) (omega arith) (omega arith) e
+
+-- What stands before another is there, and so is the other.
+pub before-first : {a b : ℕ} {l : List ℕ} → Before a b l → In a l
+before-first (Before.first i) = here
+before-first (Before.later p) = there (before-first p)
+
+pub before-second : {a b : ℕ} {l : List ℕ} → Before a b l → In b l
+before-second (Before.first i) = there i
+before-second (Before.later p) = there (before-second p)
+
+-- Where nothing stands twice, nothing stands both before and behind another.
+pub before-one-way : {a b : ℕ} (l : List ℕ) → NoTwice l → Before a b l → Before b a l → ⊥
+before-one-way [] n p q = elim p [ ]
+before-one-way (x ∷ l) n (Before.first i) (Before.first j) = no-twice-first n i
+before-one-way (x ∷ l) n (Before.first i) (Before.later q) = no-twice-first n (before-second q)
+before-one-way (x ∷ l) n (Before.later p) (Before.first j) = no-twice-first n (before-second p)
+before-one-way (x ∷ l) n (Before.later p) (Before.later q) = before-one-way l (no-twice-rest n) p q

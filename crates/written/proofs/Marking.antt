@@ -43,10 +43,11 @@ module _ (w : Written) (P : List ℕ → Type 0) (empty-is : P []) (join : (u v 
       let k = part u v p in
       and (closed r a ω h (all-marked Marked begin closed d (k .0))) (all-marked Marked begin closed e (k .1))
 
--- Symbols become those of them that stay, where the others become nothing.
-pub becomes-places : (w : Written) (keep : ℕ → Bool) → ((x : ℕ) → keep x ≡ false → Becomes w (x ∷ []) []) → (α : List ℕ) → Becomes w α (places keep α)
+-- Symbols become their places, where the others become nothing.
+pub becomes-places : (w : Written) (keep : ℕ → Bool) {Low : ℕ → Type 0} → ((x : ℕ) → Low x → keep x ≡ false → Becomes w (x ∷ []) []) → (α : List ℕ)
+    → Each Low α → Becomes w α (places keep α)
 unfolding places given
-becomes-places w keep gone [] = nothing
-becomes-places w keep gone (x ∷ α) = either-way (keep x)
-    (λ k. rw (places, k) (stays (becomes-places w keep gone α)))
-    (λ k. rw (places, k) (becomes-join (gone x k) (becomes-places w keep gone α)))
+becomes-places w keep gone [] end = nothing
+becomes-places w keep gone (x ∷ α) (and h p) = either-way (keep x)
+    (λ k. rw (places, k) (stays (becomes-places w keep gone α p)))
+    (λ k. rw (places, k) (becomes-join (gone x h k) (becomes-places w keep gone α p)))

@@ -1,4 +1,4 @@
--- Every rule of the split is a derivation of the written grammar; and what the places spell, the left side derives.
+-- What the places of a rule spell, its left side derives, in a grammar that has the rules of the split.
 use mathlib.Core.Path.{_≡_, refl, sym, ap, ap₂, subst, _∙_}
 use mathlib.Core.Bool.{Bool, true, false, _&&_}
 use mathlib.Core.List.{List, [], _∷_, _++_, append-nil, append-assoc}
@@ -20,45 +20,6 @@ pub each-given : {P : Rule → Type 0} (b : Bool) (r : Rule) → (b ≡ true →
 unfolding given
 each-given true r h = and (h refl) end
 each-given false r h = end
-
-module _ (w : Written) (new : ℕ → ℕ) (empty : ℕ → Bool) (stands : ℕ → List ℕ) (Kept : ℕ → Type 0) (stands-for : (x : ℕ) → Kept x → stands (new x) ≡ x ∷ []) (nothing-at-none : stands none ≡ []) (is-empty : (x : ℕ) → empty x ≡ true → Becomes w (x ∷ []) []) where
-  -- What the left side stands for becomes what the right side stands for.
-  pub record Sound (r : Rule) : Type 0 where
-    pub sound : Becomes w (stands (r .left)) (stands (r .first) ++ stands (r .second))
-
-  -- The new symbols stand for the places so far.
-  unfoldable pub Stand : (head : ℕ) (rest : List ℕ) (next : ℕ) → Type 0
-  Stand head [] next = Unit {0}
-  Stand head (x ∷ []) next = Unit {0}
-  Stand head (x ∷ y ∷ rest) next = (stands next ≡ stands head ++ x ∷ []) × Stand next (y ∷ rest) (suc next)
-
-  -- A pair, where the left side becomes head and x.
-  pair-sound : (a head x : ℕ) (e : Bool) → Kept x → Becomes w (stands a) (stands head ++ x ∷ []) → (e ≡ true → Becomes w (stands head) [])
-      → Each Sound (pair a head (new x) e (empty x))
-  unfolding pair
-  pair-sound a head x e k p q =
-      let two : Sound (rule a head (new x)) = record { sound = subst (λ (l : List ℕ). Becomes w (stands a) (stands head ++ l)) (sym (stands-for x k)) p } in
-      let one : empty x ≡ true → Sound (rule a head none) = λ h. record {
-        sound = subst (λ (l : List ℕ). Becomes w (stands a) (stands head ++ l)) (sym nothing-at-none)
-            (becomes-on p (becomes-join (becomes-same (stands head)) (is-empty x h)));
-      } in
-      let other : e ≡ true → Sound (rule a (new x) none) = λ h. record {
-        sound = subst (λ (l : List ℕ). Becomes w (stands a) (stands (new x) ++ l)) (sym nothing-at-none)
-            (subst (λ (l : List ℕ). Becomes w (stands a) (l ++ [])) (sym (stands-for x k)) (becomes-on p (becomes-join (q h) (becomes-same (x ∷ [])))));
-      } in
-      and two (each-join (each-given (empty x) (rule a head none) one) (each-given e (rule a (new x) none) other))
-
-  pub joined-sound : (a head : ℕ) (e : Bool) (rest : List ℕ) (next : ℕ) → Each Kept rest → Stand head rest next → Becomes w (stands a) (stands head ++ rest)
-      → (e ≡ true → Becomes w (stands head) []) → Each Sound (joined new empty a head e rest next)
-  unfolding joined Stand
-  joined-sound a head e [] next ks s p q = end
-  joined-sound a head e (x ∷ []) next (and k ks) s p q = pair-sound a head x e k p q
-  joined-sound a head e (x ∷ y ∷ rest) next (and k ks) s p q =
-      each-join
-      (pair-sound next head x e k (subst (λ (l : List ℕ). Becomes w l (stands head ++ x ∷ [])) (sym (s .0)) (becomes-same (stands head ++ x ∷ []))) q)
-      (joined-sound a next (e && empty x) (y ∷ rest) (suc next) ks (s .1)
-      (subst (Becomes w (stands a)) (sym (append-assoc (stands head) (x ∷ []) (y ∷ rest)) ∙ ap (λ (l : List ℕ). l ++ y ∷ rest) (sym (s .0))) p)
-      (λ h. subst (λ (l : List ℕ). Becomes w l []) (sym (s .0)) (becomes-join (q (both-true e (empty x) h .0)) (is-empty x (both-true e (empty x) h .1)))))
 
 -- In a grammar `g` of one and two symbols that has the rules of a split.
 module _ (g : Grammar) (new : ℕ → ℕ) (empty : ℕ → Bool) where

@@ -1,15 +1,16 @@
 -- What new symbols stand for: places in a list of beginnings, so that numbers are positions. And how many there are.
-use mathlib.Core.Path.{_≡_, refl, sym, ap, subst, _∙_}
+use mathlib.Core.Path.{_≡_, refl, sym, ap, ap₂, subst, _∙_}
 use mathlib.Core.Bool.{Bool, true, false, _&&_}
 use mathlib.Core.List.{List, [], _∷_, _++_, append-assoc, append-nil}
-use Prim.Native.Nat.{ℕ, zero, suc, _+_, _*_, _≤_}
+use Prim.Native.Nat.{ℕ, zero, suc, _+_, _-_, _*_, _≤_}
 use native.Mathlib.Omega.{arith}
 use lib.ListN.{length, getD, length-append}
-use lib.Seq.{getD-append-seam}
+use lib.Seq.{getD-at}
 use Rattle.grammar.specs.Rules.{Rule, none}
 use Rattle.written.specs.Split.{rule, given, pair, joined, split}
-use Rattle.written.specs.Written.{Written, Becomes}
-use Rattle.written.proofs.Splitting.{Stand}
+use Rattle.written.specs.Written.{WrittenRule, Written, symbolCount}
+use Rattle.written.specs.Translation.{places, newSymbols, allNew, wrapperOf}
+use Rattle.written.proofs.Numbers.{singles, singles-count}
 
 -- The beginnings of the places behind `head`, the shortest first; all of them but the whole.
 unfoldable pub beginnings : (head rest : List ℕ) → List (List ℕ)
@@ -44,22 +45,44 @@ few-rules new empty a head e (x ∷ y ∷ rest) n =
     let q = few-rules new empty a n (e && empty x) (y ∷ rest) (suc n) in
     omega (arith, length-append (pair n head (new x) e (empty x)) (joined new empty a n (e && empty x) (y ∷ rest) (suc n)))
 
--- Where the list of what symbols stand for is `before`, the beginnings of a rule's places, and `after`, the rule's new symbols stand for its places so far.
-module _ (w : Written) (new : ℕ → ℕ) (empty : ℕ → Bool) (meanings : List (List ℕ)) (Kept : ℕ → Type 0)
-    (stands-for : (x : ℕ) → Kept x → getD meanings (new x) [] ≡ x ∷ []) (nothing-at-none : getD meanings none [] ≡ [])
-    (is-empty : (x : ℕ) → empty x ≡ true → Becomes w (x ∷ []) []) where
-  pub standing : (before after : List (List ℕ)) (head n : ℕ) (m rest : List ℕ) → n ≡ length before → getD meanings head [] ≡ m → meanings ≡ before ++ (beginnings m rest ++ after)
-      → Stand w new empty (λ k. getD meanings k []) Kept stands-for nothing-at-none is-empty head rest n
-  unfolding Stand beginnings
-  standing before after head n m [] l h e = tt
-  standing before after head n m (x ∷ []) l h e = tt
-  standing before after head n m (x ∷ y ∷ rest) l h e =
-      let longer : List ℕ = m ++ x ∷ [] in
-      let behind : List (List ℕ) = beginnings (m ++ x ∷ []) (y ∷ rest) ++ after in
-      let here : getD meanings n [] ≡ m ++ x ∷ [] =
-      ap (λ (k : ℕ). getD meanings k []) l ∙ ap (λ (b : List (List ℕ)). getD b (length before) []) e ∙ getD-append-seam before (m ++ x ∷ []) behind [] in
-      let counted : suc n ≡ length (before ++ (m ++ x ∷ []) ∷ []) = omega (arith, length-append before ((m ++ x ∷ []) ∷ [])) in (
-        here ∙ ap (λ (k : List ℕ). k ++ x ∷ []) (sym h),
-        standing (before ++ (m ++ x ∷ []) ∷ []) after n (suc n) (m ++ x ∷ []) (y ∷ rest) counted here
-            (e ∙ sym (append-assoc before ((m ++ x ∷ []) ∷ []) behind)),
-      )
+-- The beginnings of a rule's places, and of those of all rules.
+unfoldable pub beginningsOf : List ℕ → List (List ℕ)
+beginningsOf [] = []
+beginningsOf (x ∷ rest) = beginnings (x ∷ []) rest
+
+unfoldable pub allBeginnings : (keep : ℕ → Bool) → List WrittenRule → List (List ℕ)
+allBeginnings keep [] = []
+allBeginnings keep (r ∷ rules) = beginningsOf (places keep (r .right)) ++ allBeginnings keep rules
+
+-- As many as there are new symbols.
+pub of-count : (l : List ℕ) → length (beginningsOf l) ≡ newSymbols l
+unfolding beginningsOf beginnings
+of-count [] = omega arith
+of-count (x ∷ []) = omega arith
+of-count (x ∷ y ∷ rest) = let h = few-new (x ∷ []) rest y in omega arith
+
+pub all-count : (keep : ℕ → Bool) (rules : List WrittenRule) → length (allBeginnings keep rules) ≡ allNew keep rules
+unfolding allBeginnings allNew
+all-count keep [] = refl
+all-count keep (r ∷ rules) =
+    length-append (beginningsOf (places keep (r .right))) (allBeginnings keep rules) ∙ ap₂ _+_ (of-count (places keep (r .right))) (all-count keep rules)
+
+-- What each symbol of the file stands for: tokens and nonterminals that stay for themselves, new symbols for their beginnings, W for S. The place
+-- in this list is the number.
+abbrev pub meanings : (w : Written) (keep : ℕ → Bool) → List (List ℕ)
+meanings w keep = singles keep (symbolCount w) ++ (allBeginnings keep (w .rules) ++ (w .start ∷ []) ∷ [])
+
+pub meanings-count : (w : Written) (keep : ℕ → Bool) → length (meanings w keep) ≡ wrapperOf w keep + 1
+meanings-count w keep =
+    let one = length-append (singles keep (symbolCount w)) (allBeginnings keep (w .rules) ++ (w .start ∷ []) ∷ []) in
+    let two = length-append (allBeginnings keep (w .rules)) ((w .start ∷ []) ∷ []) in
+    let three = singles-count keep (symbolCount w) in
+    let four = all-count keep (w .rules) in
+    omega arith
+
+-- W stands for S.
+pub wrapper-stands : (w : Written) (keep : ℕ → Bool) → getD (meanings w keep) (wrapperOf w keep) [] ≡ w .start ∷ []
+wrapper-stands w keep =
+    ap (λ (l : List (List ℕ)). getD l (wrapperOf w keep) []) (sym (append-assoc (singles keep (symbolCount w)) (allBeginnings keep (w .rules)) ((w .start ∷ []) ∷ [])))
+    ∙ getD-at (singles keep (symbolCount w) ++ allBeginnings keep (w .rules)) (w .start ∷ []) [] [] (wrapperOf w keep)
+    (length-append (singles keep (symbolCount w)) (allBeginnings keep (w .rules)) ∙ ap₂ _+_ (singles-count keep (symbolCount w)) (all-count keep (w .rules)))
