@@ -15,3 +15,4 @@ pub mod Knowing
 pub mod Fair
 pub mod Leading
 pub mod Translating
+pub mod Passing
