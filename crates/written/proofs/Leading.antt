@@ -18,7 +18,7 @@ use Rattle.written.specs.Lists.Each.{end, and}
 use Rattle.written.specs.Split.{rule}
 use Rattle.written.specs.Order.{has, named, passing, ordered}
 use Rattle.written.specs.Translation.{rulesOf, blocks, upFrom}
-use Rattle.written.proofs.Lists.{NoTwice, no-twice-join, no-twice-first, no-twice-rest, none-there, head-or-tail, each-join, in-each, in-either, at-in, Before}
+use Rattle.written.proofs.Lists.{NoTwice, no-twice-join, no-twice-first, no-twice-rest, none-there, head-or-tail, each-join, in-each, in-either, each-at, Before}
 use Rattle.written.proofs.Loops.{Led}
 use Rattle.written.proofs.Listing.{either-true, or-first, or-second, in-of, in-blocks, rules-parts}
 use Rattle.written.proofs.Ordering.{passing-in}
@@ -130,15 +130,10 @@ pub data Pairwise {A : Type 0} (P : A → A → Type 0) : List A → Type 0 wher
   empty : Pairwise P []
   more : {x : A} {l : List A} → Each (P x) l → Pairwise P l → Pairwise P (x ∷ l)
 
-each-getD : {A : Type 0} {P : A → Type 0} (l : List A) (d : A) (i : ℕ) → Each P l → i < length l → P (getD l i d)
-each-getD [] d i e h = absurd (omega arith)
-each-getD (x ∷ l) d zero (and p e) h = p
-each-getD (x ∷ l) d (suc i) (and p e) h = each-getD l d i e (omega arith)
-
 pub pairwise-at : {A : Type 0} {P : A → A → Type 0} (l : List A) (d : A) (q r : ℕ) → Pairwise P l → q < r → r < length l → P (getD l q d) (getD l r d)
 pairwise-at [] d q r p h k = absurd (omega arith)
 pairwise-at (x ∷ l) d zero zero p h k = absurd (omega arith)
-pairwise-at (x ∷ l) d zero (suc r) (Pairwise.more e p) h k = each-getD l d r e (omega arith)
+pairwise-at (x ∷ l) d zero (suc r) (Pairwise.more e p) h k = each-at l d r e (omega arith)
 pairwise-at (x ∷ l) d (suc q) zero p h k = absurd (omega arith)
 pairwise-at (x ∷ l) d (suc q) (suc r) (Pairwise.more e p) h k = pairwise-at l d q r p (omega arith) (omega arith)
 

@@ -16,3 +16,7 @@ pub mod Fair
 pub mod Leading
 pub mod Translating
 pub mod Passing
+pub mod Filing
+pub mod Forms
+pub mod Promising
+pub mod Agreeing

@@ -126,3 +126,7 @@ before-one-way (x ∷ l) n (Before.first i) (Before.first j) = no-twice-first n 
 before-one-way (x ∷ l) n (Before.first i) (Before.later q) = no-twice-first n (before-second q)
 before-one-way (x ∷ l) n (Before.later p) (Before.first j) = no-twice-first n (before-second p)
 before-one-way (x ∷ l) n (Before.later p) (Before.later q) = before-one-way l (no-twice-rest n) p q
+
+-- What holds of all holds at each place.
+pub each-at : {A : Type 0} {P : A → Type 0} (l : List A) (d : A) (i : ℕ) → Each P l → i < length l → P (getD l i d)
+each-at l d i e h = each-in e (at-in l i d h)
