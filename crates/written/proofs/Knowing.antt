@@ -86,6 +86,67 @@ unfolding places given
 in-places keep {x = x} here k = rw (places, k) here
 in-places keep (there {y = y} i) k = in-back (given (keep y) (y ∷ [])) (in-places keep i k)
 
+-- A symbol is a token or a nonterminal.
+pub token-or-not : (w : Written) (x : ℕ) → x < symbolCount w → (x < w .tokens) ⊎ Nonterminal w x
+token-or-not w x h = elim (decLt x (w .tokens)) [
+  | yes l ↦ inl l
+  | no g ↦ inr (record { no-token = omega arith; within = h })
+]
+
+-- A token derives itself.
+pub token-stays : (w : Written) (t : ℕ) → t < w .tokens → Stays w t
+token-stays w t h = record { string = t ∷ []; gives = record { tokens = one-more h none-left; becomes = becomes-same (t ∷ []) }; filled = cons≢nil }
+
+-- Every symbol derives some token string where every nonterminal does.
+pub every-fruitful : (w : Written) → ((a : ℕ) → Nonterminal w a → Fruitful w a) → (x : ℕ) → x < symbolCount w → Fruitful w x
+every-fruitful w all x h = ⊎-elim
+    (λ l. let s = token-stays w x l in record { string = s .string; gives = s .gives })
+    (λ n. all x n)
+    (token-or-not w x h)
+
+-- Where every symbol derives some token string.
+module _ (w : Written) (fruit : (x : ℕ) → x < symbolCount w → Fruitful w x) where
+  -- A token string that a list of symbols becomes.
+  pub record Strung (α : List ℕ) : Type 0 where
+    pub string : List ℕ
+    pub tokens : Tokens w string
+    pub becomes : Becomes w α string
+
+  -- Every list of symbols becomes one; and one that is not empty where one of them stays.
+  pub all-strung : {α : List ℕ} → Each (λ (x : ℕ). x < symbolCount w) α → Strung α
+  all-strung end = record { string = []; tokens = none-left; becomes = nothing }
+  all-strung (and {x = x} h p) =
+      let f = fruit x h in
+      let r = all-strung p in
+      record { string = f .string ++ r .string; tokens = tokens-join (f .gives .tokens) (r .tokens); becomes = becomes-join (f .gives .becomes) (r .becomes) }
+
+  pub record Filled (α : List ℕ) : Type 0 where
+    pub strung : Strung α
+    pub filled : strung .string ≡ [] → ⊥
+
+  pub all-filled : {α : List ℕ} {x : ℕ} → Each (λ (y : ℕ). y < symbolCount w) α → In x α → Stays w x → Filled α
+  all-filled (and h p) here s =
+      let r = all-strung p in
+      record {
+        strung = record {
+          string = s .string ++ r .string;
+          tokens = tokens-join (s .gives .tokens) (r .tokens);
+          becomes = becomes-join (s .gives .becomes) (r .becomes);
+        };
+        filled = append-some (s .string) (r .string) (s .filled);
+      }
+  all-filled (and {x = y} h p) (there i) s =
+      let f = fruit y h in
+      let r = all-filled p i s in
+      record {
+        strung = record {
+          string = f .string ++ r .strung .string;
+          tokens = tokens-join (f .gives .tokens) (r .strung .tokens);
+          becomes = becomes-join (f .gives .becomes) (r .strung .becomes);
+        };
+        filled = some-append (f .string) (r .strung .string) (r .filled);
+      }
+
 module _ (c : Known) where
   -- The number of a symbol that stays; that of the first new symbol; that of W.
   abbrev pub new : ℕ → ℕ
@@ -97,19 +158,9 @@ module _ (c : Known) where
   abbrev pub top : ℕ
   top = wrapperOf (c .w) (c .keep)
 
-  -- A symbol is a token or a nonterminal.
-  pub token-or-not : (x : ℕ) → x < symbolCount (c .w) → (x < c .w .tokens) ⊎ Nonterminal (c .w) x
-  token-or-not x h = elim (decLt x (c .w .tokens)) [
-    | yes l ↦ inl l
-    | no g ↦ inr (record { no-token = omega arith; within = h })
-  ]
-
   -- Tokens stay.
-  token-stays : (t : ℕ) → t < c .w .tokens → Stays (c .w) t
-  token-stays t h = record { string = t ∷ []; gives = record { tokens = one-more h none-left; becomes = becomes-same (t ∷ []) }; filled = cons≢nil }
-
   pub token-kept : (t : ℕ) → t < c .w .tokens → c .keep t ≡ true
-  token-kept t h = told (c .keeps t) (token-stays t h)
+  token-kept t h = told (c .keeps t) (token-stays (c .w) t h)
 
   pub token-number : (t : ℕ) → t < c .w .tokens → new t ≡ t
   token-number t h = number-same (c .keep) t (λ s l. token-kept s (let k : s < t = l in omega arith))
@@ -124,10 +175,7 @@ module _ (c : Known) where
 
   -- Every symbol derives some token string.
   pub all-fruitful : (x : ℕ) → x < symbolCount (c .w) → Fruitful (c .w) x
-  all-fruitful x h = ⊎-elim
-      (λ l. let s = token-stays x l in record { string = s .string; gives = s .gives })
-      (λ n. c .sound .fruitful x n)
-      (token-or-not x h)
+  all-fruitful = every-fruitful (c .w) (c .sound .fruitful)
 
   -- What does not stay may be empty.
   pub gone-empty : (x : ℕ) → x < symbolCount (c .w) → c .keep x ≡ false → Becomes (c .w) (x ∷ []) []
@@ -144,51 +192,10 @@ module _ (c : Known) where
   pub right-places : {r a : ℕ} {ω : List ℕ} → Writes (c .w) r a ω → Becomes (c .w) ω (places (c .keep) ω)
   right-places {ω = ω} h = becomes-places (c .w) (c .keep) gone-empty ω (c .lawful .symbols h)
 
-  -- A token string that a list of symbols becomes.
-  pub record Strung (α : List ℕ) : Type 0 where
-    pub string : List ℕ
-    pub tokens : Tokens (c .w) string
-    pub becomes : Becomes (c .w) α string
-
-  -- Every list of symbols becomes one; and one that is not empty where one of them stays.
-  pub all-strung : {α : List ℕ} → Each (λ (x : ℕ). x < symbolCount (c .w)) α → Strung α
-  all-strung end = record { string = []; tokens = none-left; becomes = nothing }
-  all-strung (and {x = x} h p) =
-      let f = all-fruitful x h in
-      let r = all-strung p in
-      record { string = f .string ++ r .string; tokens = tokens-join (f .gives .tokens) (r .tokens); becomes = becomes-join (f .gives .becomes) (r .becomes) }
-
-  pub record Filled (α : List ℕ) : Type 0 where
-    pub strung : Strung α
-    pub filled : strung .string ≡ [] → ⊥
-
-  pub all-filled : {α : List ℕ} {x : ℕ} → Each (λ (y : ℕ). y < symbolCount (c .w)) α → In x α → Stays (c .w) x → Filled α
-  all-filled (and h p) here s =
-      let r = all-strung p in
-      record {
-        strung = record {
-          string = s .string ++ r .string;
-          tokens = tokens-join (s .gives .tokens) (r .tokens);
-          becomes = becomes-join (s .gives .becomes) (r .becomes);
-        };
-        filled = append-some (s .string) (r .string) (s .filled);
-      }
-  all-filled (and {x = y} h p) (there i) s =
-      let f = all-fruitful y h in
-      let r = all-filled p i s in
-      record {
-        strung = record {
-          string = f .string ++ r .strung .string;
-          tokens = tokens-join (f .gives .tokens) (r .strung .tokens);
-          becomes = becomes-join (f .gives .becomes) (r .strung .becomes);
-        };
-        filled = some-append (f .string) (r .strung .string) (r .filled);
-      }
-
   -- A left side stays where a symbol of its rule does.
   pub kept-left : {r a x : ℕ} {ω : List ℕ} → Writes (c .w) r a ω → In x ω → c .keep x ≡ true → c .keep a ≡ true
   kept-left {a = a} {x = x} h i k =
-      let f = all-filled (c .lawful .symbols h) i (c .keeps x .if-yes k) in
+      let f = all-filled (c .w) all-fruitful (c .lawful .symbols h) i (c .keeps x .if-yes k) in
       told (c .keeps a) (record {
         string = f .strung .string;
         gives = record { tokens = f .strung .tokens; becomes = rule-becomes h (f .strung .becomes) };

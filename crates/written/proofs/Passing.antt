@@ -268,7 +268,7 @@ module _ (c : Known) where
         each-in (split-reached (new c a) (places (c .keep) ω) (s .next) (s .has) q .places-reached) (in-places (c .keep) i k)
 
     nonterminal-of : (x : ℕ) → x < symbolCount (c .w) → c .w .tokens ≤ new c x → Reachable (c .w) x
-    nonterminal-of x h l = ⊎-elim (λ t. absurd (token x t l)) (λ n. c .sound .reachable x n) (token-or-not c x h)
+    nonterminal-of x h l = ⊎-elim (λ t. absurd (token x t l)) (λ n. c .sound .reachable x n) (token-or-not (c .w) x h)
       where
         token : (t : ℕ) → t < c .w .tokens → c .w .tokens ≤ new c t → ⊥
         token t b m = let e = token-number c t b in omega arith

@@ -57,10 +57,13 @@ rightAt bytes at = symbolsAt bytes (at + ruleHead) (lengthAt bytes at)
 abbrev pub behind : List ℕ → ℕ → ℕ
 behind bytes at = at + ruleHead + 2 * lengthAt bytes at
 
+abbrev pub ruleAt : List ℕ → ℕ → WrittenRule
+ruleAt bytes at = record { left = leftAt bytes at; right = rightAt bytes at }
+
 -- `count` rules, one behind the other.
 unfoldable pub rulesAt : List ℕ → ℕ → ℕ → List WrittenRule
 rulesAt bytes at zero = []
-rulesAt bytes at (suc count) = record { left = leftAt bytes at; right = rightAt bytes at } ∷ rulesAt bytes (behind bytes at) count
+rulesAt bytes at (suc count) = ruleAt bytes at ∷ rulesAt bytes (behind bytes at) count
 
 -- The grammar that the bytes write.
 abbrev pub writtenOf : List ℕ → Written

@@ -1,0 +1,7 @@
+-- Laws of the translator's parts.
+pub mod Reading
+pub mod Testing
+pub mod Walking
+pub mod Growing
+pub mod Marked
+pub mod Exact

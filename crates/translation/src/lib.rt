@@ -1,0 +1,4 @@
+// The translator of written grammars to grammar files, as docs/TRANSLATION.md says it.
+pub mod form;
+pub mod grow;
+pub mod marks;
