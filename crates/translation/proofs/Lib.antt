@@ -5,3 +5,4 @@ pub mod Walking
 pub mod Growing
 pub mod Marked
 pub mod Exact
+pub mod Reaching

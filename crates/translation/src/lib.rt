@@ -2,3 +2,4 @@
 pub mod form;
 pub mod grow;
 pub mod marks;
+pub mod reach;
