@@ -6,3 +6,5 @@ pub mod Growing
 pub mod Marked
 pub mod Exact
 pub mod Reaching
+pub mod Circling
+pub mod Dropping
