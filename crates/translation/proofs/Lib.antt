@@ -1,0 +1,10 @@
+-- Laws of the translator's parts.
+pub mod Reading
+pub mod Testing
+pub mod Walking
+pub mod Growing
+pub mod Marked
+pub mod Exact
+pub mod Reaching
+pub mod Circling
+pub mod Dropping

@@ -1,0 +1,2 @@
+-- What the parts of the translator promise, over the definitions of `written`.
+pub mod inner

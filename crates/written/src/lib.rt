@@ -1,0 +1,1 @@
+// Written grammars and their translation: definitions and laws alone, in specs/ and proofs/.
