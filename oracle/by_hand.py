@@ -1,26 +1,10 @@
-"""What the tables share whose wanted numbers are written out by hand: a parse on the built library, and what came of the rows."""
+"""What the tables share whose wanted numbers are written out by hand: a parse on the built library, and (expecting.py) what came of the rows."""
 
 import library
 import model
+from expecting import expect, passed  # noqa: F401
 
 AS_IT_WAS = 0xBAD  # what library.py puts into a word that a call may leave
-
-failures, count = [], 0
-
-
-def expect(what, got, wanted):
-    global count
-    count += 1
-    if got != wanted:
-        failures.append(f"{what}: wanted {wanted}, got {got}")
-
-
-def passed():
-    """Prints what failed, and how many were expected."""
-    for failure in failures:
-        print(failure)
-    print(f"{count} numbers, {len(failures)} failed")
-    return count > 0 and not failures
 
 
 class Parse:

@@ -135,6 +135,66 @@ def ask_states(cases, program="recognize"):
     return answers
 
 
+# --------------------------------------------------------------------------------------------------------- Forests
+
+NO_NODE = 0xFFFFFFFF
+
+# What the recognizer tells its forest at a token. leaf: the number of its node, also where it is refused; sums: (origin, left side, node,
+# summands), a summand being (rule, left node, right node or NO_NODE); finished: a node or NO_NODE; nodes: of each item after the token.
+Told = namedtuple("Told", "number leaf sums finished nodes", defaults=[[], NO_NODE, []])
+# The crate's own forest after a token. below: for each handle below the finished one, a leaf's symbol, or (whether there is a Sum, summands), a
+# summand being (action, factors).
+Grown = namedtuple("Grown", "number finished below", defaults=[NO_NODE, {}])
+
+
+def read_told(numbers):
+    number, leaf = numbers.list(2)
+    if number:
+        return Told(number, leaf)
+    sums = []
+    for _ in range(numbers.next()):
+        origin, left, node = numbers.list(3)
+        sums.append((origin, left, node, [tuple(numbers.list(3)) for _ in range(numbers.next())]))
+    return Told(number, leaf, sums, numbers.next(), numbers.list(numbers.next()))
+
+
+def ask_told(cases, program="recognize"):
+    """For each case what the Rust's forest was told at each token."""
+    numbers = Numbers(ask(program, "told", [number for case in cases for number in case_numbers(case)]))
+    told = [[read_told(numbers) for _ in case.tokens] for case in cases]
+    assert not numbers, "the program told more than was asked"
+    return told
+
+
+def read_below(numbers):
+    below = {}
+    for _ in range(numbers.next()):
+        handle, inner = numbers.list(2)
+        if not inner:
+            below[handle] = numbers.next()
+            continue
+        has_sum, count = numbers.list(2)
+        summands = [numbers.list(3) for _ in range(count)]
+        below[handle] = (bool(has_sum), [(action, [left] if right == NO_NODE else [left, right]) for action, left, right in summands])
+    return below
+
+
+def read_grown(numbers):
+    number = numbers.next()
+    if number:
+        return Grown(number)
+    finished = numbers.next()
+    return Grown(number, finished, {} if finished == NO_NODE else read_below(numbers))
+
+
+def ask_bocage(cases, program="bocage_written_order"):
+    """For each case, from the start, the forest of the Rust after each token, and the units of its store at last."""
+    numbers = Numbers(ask(program, "stores", [number for case in cases for number in case_numbers(case)]))
+    grown = [([read_grown(numbers) for _ in case.tokens], numbers.list(numbers.next())) for case in cases]
+    assert not numbers, "the program told more than was asked"
+    return grown
+
+
 # ------------------------------------------------------------------------------------------------------------ Heap
 
 HeapCase = namedtuple("HeapCase", "items operations")  # operations: (PUSH, place) or (POP,)

@@ -1,6 +1,7 @@
 //! Runs the unchanged recognizer and tells its whole state. The streams of numbers are described in ../README.md.
 //!
 //!     recognize states < cases         states after the start and after each token, and the summands in pop order
+//!     recognize told < cases           what the forest is told: leaves, sums, summands and their nodes, and the nodes of the items
 //!     recognize latest < cases         the items of the latest set, as `medial_items` tells them; tokens are passed over
 //!     recognize panics < cases         the line of recognizer.rs (else 1) at which the case's tokens panic, or 0
 //!     recognize heap < cases           places in pop order, for given items and pushes
@@ -50,25 +51,30 @@ const ROW_WORDS: usize = 8;
 const ACCEPTED: u32 = 0;
 const EXHAUSTED: u32 = 6;
 
+/// In place of a node's number: none.
+const NO_NODE: u32 = 0xFFFF_FFFF;
+
 /// A forest that numbers leaves and sums and remembers the summands in pop order.
 ///
 /// An item is told apart from all others of its state by origin, rule and the number of its left node: that gives back
 /// the item's place, which the forest is not told.
 struct SummandLog {
     nodes: u32,
+    latest_leaf: u32,
     sums: Vec<Sum>,
-    summands: Vec<Item<u32>>,
+    summands: Vec<CompletedItem<u32>>,
 }
 
 struct Sum {
     origin: u32,
     left_side: usize,
-    summands: Vec<Item<u32>>,
+    node: u32,
+    summands: Vec<CompletedItem<u32>>,
 }
 
 impl SummandLog {
     fn after(nodes: usize) -> Self {
-        SummandLog { nodes: nodes as u32, sums: vec![], summands: vec![] }
+        SummandLog { nodes: nodes as u32, latest_leaf: NO_NODE, sums: vec![], summands: vec![] }
     }
 
     fn next_node(&mut self) -> u32 {
@@ -86,17 +92,19 @@ impl Forest for SummandLog {
     fn begin_sum(&mut self) {}
 
     fn push_summand(&mut self, item: CompletedItem<u32>) {
-        self.summands.push(item.into());
+        self.summands.push(item);
     }
 
     fn sum(&mut self, lhs_sym: Symbol, origin: u32) -> u32 {
         let summands = self.summands.split_off(0);
-        self.sums.push(Sum { origin, left_side: lhs_sym.usize(), summands });
-        self.next_node()
+        let node = self.next_node();
+        self.sums.push(Sum { origin, left_side: lhs_sym.usize(), node, summands });
+        node
     }
 
     fn leaf(&mut self, _: Symbol, _: u32, _: ()) -> u32 {
-        self.next_node()
+        self.latest_leaf = self.next_node();
+        self.latest_leaf
     }
 
     fn nulling(&self, _: Symbol) -> u32 {
@@ -164,8 +172,9 @@ fn take_token(parse: &mut Parse, token: u32) -> Option<Taken> {
         most_queued = most_queued.max(parse.complete.len());
     }
     let most_items = parse.medial.len();
-    let place = |popped: &Item<u32>| {
-        parse.medial.iter().position(|item| item == popped && item.node == popped.node).expect("a stored item")
+    let place = |popped: &CompletedItem<u32>| {
+        let popped: Item<u32> = (*popped).into();
+        parse.medial.iter().position(|item| *item == popped && item.node == popped.node).expect("a stored item")
     };
     let sums = parse.forest.sums.iter().map(|sum| {
         (sum.origin, sum.left_side, sum.summands.iter().map(&place).collect())
@@ -230,6 +239,28 @@ fn states(mut parse: Parse, tokens: Vec<u32>) {
             print_state(&parse);
         } else {
             println!("{}", EXHAUSTED);
+        }
+    }
+}
+
+fn told(mut parse: Parse, tokens: Vec<u32>) {
+    for token in tokens {
+        let answer = if take_token(&mut parse, token).is_some() { ACCEPTED } else { EXHAUSTED };
+        println!("{} {}", answer, parse.forest.latest_leaf);
+        if answer == ACCEPTED {
+            println!("{}", parse.forest.sums.len());
+            for sum in &parse.forest.sums {
+                print!("{} {} {} {}", sum.origin, sum.left_side, sum.node, sum.summands.len());
+                for item in &sum.summands {
+                    print!("  {} {} {}", item.dot, item.left_node, item.right_node.unwrap_or(NO_NODE));
+                }
+                println!();
+            }
+            print!("{} {} ", parse.finished_node().unwrap_or(NO_NODE), parse.medial.len());
+            for item in &parse.medial {
+                print!(" {}", item.node);
+            }
+            println!();
         }
     }
 }
@@ -322,6 +353,7 @@ fn main() {
     let arguments: Vec<String> = env::args().skip(1).collect();
     match arguments.first().map(|word| &word[..]) {
         Some("states") => for_each_case(states),
+        Some("told") => for_each_case(told),
         Some("latest") => for_each_case(latest),
         Some("panics") => {
             note_panic_lines();
@@ -329,6 +361,6 @@ fn main() {
         }
         Some("heap") => heap(),
         Some("show") if arguments.len() > 1 => show(&arguments[1], &arguments[2..]),
-        _ => panic!("usage: recognize states | latest | panics | heap | show FILE TOKEN .."),
+        _ => panic!("usage: recognize states | told | latest | panics | heap | show FILE TOKEN .."),
     }
 }

@@ -1,9 +1,9 @@
-//! Stand-in for `grammar.rs`: the tables that the recognizer asks for, filled from a grammar file of version 1.
+//! Stand-in for `grammar.rs`: the tables that the recognizer and the bocage ask for, filled from a grammar file of version 1.
 //!
 //! The tables follow `populate_grammar_with_lhs`, `populate_grammar_with_rhs`, `populate_prediction_matrix` and
 //! `compute_unary_completion_table` / `compute_binary_completion_table`. A dot is a rule's number in the file: the file
 //! already has the rules of one left side together and unit rules before those they predict, as `grammar.rs` asks in
-//! its properties 4 and 6. Hints, events, traces, nulling and symbol maps are empty: our grammars have none.
+//! its properties 4 and 6. Hints, events, traces, nulling and symbol maps are empty: our grammars have none. A rule's origin is its own number.
 
 use bit_matrix::BitMatrix;
 use cfg::Symbol;
@@ -22,6 +22,8 @@ pub enum MaybePostdot {
 }
 
 pub type ExternalDottedRule = (u32, u32);
+pub type NullingEliminated = Option<(Symbol, bool)>;
+pub type NullingIntermediateRule = (Symbol, Symbol, Symbol);
 pub type Event = (Option<u32>, Option<u32>);
 
 pub struct InternalGrammar {
@@ -128,6 +130,22 @@ impl InternalGrammar {
 
     pub fn has_trivial_derivation(&self) -> bool {
         false
+    }
+
+    pub fn nulling(&self, _dot: Dot) -> NullingEliminated {
+        None
+    }
+
+    pub fn eliminated_nulling_intermediate(&self) -> &[NullingIntermediateRule] {
+        &[]
+    }
+
+    pub fn max_nulling_symbol(&self) -> Option<usize> {
+        None
+    }
+
+    pub fn external_origin(&self, dot: Dot) -> Option<u32> {
+        Some(dot)
     }
 
     pub fn externalized_start_sym(&self) -> Symbol {
