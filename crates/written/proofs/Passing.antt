@@ -1,30 +1,29 @@
 -- The translated grammar is one that the check takes, field by field; and every nonterminal of it is reachable from S.
-use mathlib.Core.Path.{_≡_, refl, sym, ap, ap₂, subst, _∙_}
-use mathlib.Core.Bool.{Bool, true, false, _&&_}
+use mathlib.Core.Path.{_≡_, refl, sym, ap, subst, _∙_}
+use mathlib.Core.Bool.{Bool, _&&_}
 use mathlib.Core.List.{List, [], _∷_, _++_}
-use mathlib.Core.Logic.{_⊎_, inl, inr, ⊎-elim, _≢_}
-use Prim.Native.Nat.{ℕ, zero, suc, _+_, _-_, _≤_, _<_}
+use mathlib.Core.Logic.{_⊎_, inl, inr, ⊎-elim}
+use Prim.Native.Nat.{ℕ, zero, suc, _+_, _≤_, _<_}
 use native.Mathlib.Decide.{decLt}
 use native.Mathlib.Omega.{arith}
 use lib.ListN.{length, getD}
-use Rattle.laws.proofs.Tests.{either-way}
 use Rattle.grammar.specs.Rules.{Rule, Grammar, Says, none, noRule, ruleCount, ruleAt, start, wrapper}
 use Rattle.grammar.specs.Sentences.{Derives}
 use Rattle.grammar.specs.Accepted as accepted
 use Rattle.written.specs.Lists.{In, Each}
 use Rattle.written.specs.Lists.In.{here, there}
 use Rattle.written.specs.Lists.Each.{end, and}
-use Rattle.written.specs.Written.{WrittenRule, Written, Writes, Becomes, Tokens, Gives, symbolCount}
-use Rattle.written.specs.Written.Tokens.{none-left, one-more}
+use Rattle.written.specs.Written.{WrittenRule, Tokens, symbolCount}
+use Rattle.written.specs.Written.Tokens.{one-more}
 use Rattle.written.specs.Refusals.{Stays, Reachable}
-use Rattle.written.specs.Split.{rule, pair, joined, split}
+use Rattle.written.specs.Split.{pair, joined, split}
 use Rattle.written.specs.Translation.{number, places, newSymbols, allNew, splits, blocks}
-use Rattle.written.proofs.Lists.{each-in, each-part, in-each, at-in, NoTwice, no-twice-at, Before, before-one-way, before-first, before-second, head-or-tail, none-there}
+use Rattle.written.proofs.Lists.{each-in, each-part, at-in, no-twice-at, Before, before-one-way}
 use Rattle.written.proofs.Splitting.{Has}
 use Rattle.written.proofs.Listing.{blocks-once, in-blocks, rules-parts}
-use Rattle.written.proofs.Leading.{Names, Follows, Pairwise, pairwise-at, blocks-follow}
+use Rattle.written.proofs.Leading.{Names, Follows, pairwise-at, blocks-follow}
 use Rattle.written.proofs.Numbers.{number-onto}
-use Rattle.written.proofs.Knowing.{Known, new, first, top, in-writes, token-kept, token-number, tokens-low, number-nonterminal, number-kept-low, number-no-none, kept-left, places-kept, places-in, in-places, token-or-not}
+use Rattle.written.proofs.Knowing.{Known, new, first, top, in-writes, token-number, number-nonterminal, number-kept-low, number-no-none, kept-left, places-kept, places-in, in-places, token-or-not}
 use Rattle.written.proofs.Fair.{Fair, Kept}
 use Rattle.written.proofs.Translating.{list, order, file, listed-fair, order-once, order-names, list-once, behind-listed, parts-has, start-kept, number-derives, split-there}
 
@@ -186,37 +185,6 @@ module _ (c : Known) where
       low : (x : ℕ) → accepted.Nonterminal G x → x < first c + allNew (c .keep) (c .w .rules)
       low x m = omega (arith, m .no-wrapper, wrapper-is)
 
-  -- What the check asks.
-  pub passes : ruleCount G ≤ accepted.maxRules → accepted.Accepted G
-  passes few-rules = record {
-    a-token = a-token;
-    room = omega (arith, start-low .0, start-low .1);
-    few-symbols = few;
-    a-rule = omega arith;
-    few-rules = few-rules;
-    wraps = record { there = omega arith; left = sym wrapper-is; first = refl; second = omega arith };
-    starts = nonterminal (new c (c .w .start)) (start-low .0) (start-low .1);
-    lefts = lefts;
-    firsts = firsts;
-    seconds = seconds;
-    adjacent = adjacent;
-    distinct = distinct;
-    unary-below = unary-below;
-    productive = productive;
-  }
-    where
-      lefts : (r : ℕ) → 0 < r → r < ruleCount G → accepted.Nonterminal G (ruleAt G r .left)
-      lefts zero z l = absurd (omega arith)
-      lefts (suc r) z l = let f = fair-at r (omega arith) in nonterminal (getD rest r noRule .left) (f .no-token) (f .left-low)
-
-      firsts : (r : ℕ) → 0 < r → r < ruleCount G → ruleAt G r .first < wrapper G
-      firsts zero z l = absurd (omega arith)
-      firsts (suc r) z l = let f = fair-at r (omega arith) .first-low in omega (arith, wrapper-is)
-
-      seconds : (r : ℕ) → 0 < r → r < ruleCount G → (ruleAt G r .second ≡ none) ⊎ (ruleAt G r .second < wrapper G)
-      seconds zero z l = absurd (omega arith)
-      seconds (suc r) z l = ⊎-elim inl (λ (f : getD rest r noRule .second < top c). inr (omega (arith, wrapper-is))) (fair-at r (omega arith) .second-low)
-
   -- Whatever S has, and what each rule hands on from its left side to its right side, every nonterminal has: so each is reachable from S.
   module _ (R : ℕ → Type 0) (begins : R (start G)) (on : (r a b d : ℕ) → Says G r a b d → R a → R b × ((d ≡ none → ⊥) → R d)) where
     pair-reached : (a head x : ℕ) (e f : Bool) → Each (Has G (new c) (c .empty)) (pair a head (new c x) e f) → R a → R head × R (new c x)
@@ -293,3 +261,34 @@ module _ (c : Known) where
       where
         low : (x : ℕ) → accepted.Nonterminal G x → x < first c + allNew (c .keep) (c .w .rules)
         low x k = omega (arith, k .no-wrapper, wrapper-is)
+
+  -- What the check asks.
+  pub passes : ruleCount G ≤ accepted.maxRules → accepted.Accepted G
+  passes few-rules = record {
+    a-token = a-token;
+    room = omega (arith, start-low .0, start-low .1);
+    few-symbols = few;
+    a-rule = omega arith;
+    few-rules = few-rules;
+    wraps = record { there = omega arith; left = sym wrapper-is; first = refl; second = omega arith };
+    starts = nonterminal (new c (c .w .start)) (start-low .0) (start-low .1);
+    lefts = lefts;
+    firsts = firsts;
+    seconds = seconds;
+    adjacent = adjacent;
+    distinct = distinct;
+    unary-below = unary-below;
+    productive = productive;
+  }
+    where
+      lefts : (r : ℕ) → 0 < r → r < ruleCount G → accepted.Nonterminal G (ruleAt G r .left)
+      lefts zero z l = absurd (omega arith)
+      lefts (suc r) z l = let f = fair-at r (omega arith) in nonterminal (getD rest r noRule .left) (f .no-token) (f .left-low)
+
+      firsts : (r : ℕ) → 0 < r → r < ruleCount G → ruleAt G r .first < wrapper G
+      firsts zero z l = absurd (omega arith)
+      firsts (suc r) z l = let f = fair-at r (omega arith) .first-low in omega (arith, wrapper-is)
+
+      seconds : (r : ℕ) → 0 < r → r < ruleCount G → (ruleAt G r .second ≡ none) ⊎ (ruleAt G r .second < wrapper G)
+      seconds zero z l = absurd (omega arith)
+      seconds (suc r) z l = ⊎-elim inl (λ (f : getD rest r noRule .second < top c). inr (omega (arith, wrapper-is))) (fair-at r (omega arith) .second-low)
