@@ -1,37 +1,30 @@
 -- What a rule leads to, in place; and that what is left when no symbol can be dropped has one that derives itself.
-use mathlib.Core.Path.{_≡_, refl, sym, ap, ap₂, subst, _∙_}
-use mathlib.Core.Bool.{Bool, true, false, _&&_, not}
+use mathlib.Core.Path.{_≡_, refl, sym, ap, subst, _∙_}
+use mathlib.Core.Bool.{Bool, true, false, not}
 use mathlib.Core.List.{List, [], _∷_, _++_, cons≢nil}
 use mathlib.Core.Logic.{_⊎_, inl, inr, ⊎-elim}
 use Prim.Native.Nat.{ℕ, zero, suc, _+_, _-_, _*_, _≤_, _<_}
-use native.Mathlib.Decide.{decLt, ℕ-discrete}
 use native.Mathlib.Omega.{arith}
-use lib.ListN.{length, getD, set, replicate, length-set, length-replicate, getD-replicate, List·getD-eq-default}
+use lib.ListN.{length, getD, set, replicate, length-set, length-replicate}
 use lib.Dec.{eqb}
-use borrow.Author.Tests.{eqb-true, eq-eqb, ne-eqb}
-use Rattle.laws.specs.Counts.{once, count}
+use borrow.Author.Tests.{eq-eqb, ne-eqb}
+use Rattle.laws.specs.Counts.{once}
 use Rattle.laws.specs.Decides.{Decides}
 use Rattle.laws.proofs.Tests.{either-way}
 use Rattle.laws.proofs.Decides.{false-true, true-false}
 use Rattle.grammar.specs.File.{u16At}
 use Rattle.grammar.proofs.Marks.{mark-kept, mark-new, mark-old}
 use Rattle.written.specs.Lists.{In, Each}
-use Rattle.written.specs.Lists.Each.{end, and}
-use Rattle.written.specs.Written.{WrittenRule, Written, Writes, Becomes, MayBeEmpty, noWritten}
+use Rattle.written.specs.Lists.Each.{and}
+use Rattle.written.specs.Written.{WrittenRule, Written, Becomes, MayBeEmpty, noWritten}
 use Rattle.written.specs.Written.Becomes.{nothing}
 use Rattle.written.specs.Form.{symbolsAt, ruleHead, leftAt, lengthAt, ruleAt}
-use Rattle.written.specs.Refusals.{DerivesItself, Circular}
-use Rattle.written.specs.Order.{passing}
-use Rattle.written.specs.Translation.{upFrom}
-use Rattle.written.proofs.Lists.{each-in, each-at, at-in, in-front, in-back, none-there, head-or-tail}
-use Rattle.written.proofs.Loops.{Led, Loop, has-loop}
+use Rattle.written.proofs.Lists.{at-in, in-back, none-there, head-or-tail}
 use Rattle.written.proofs.Becoming.{becomes-join, becomes-part}
-use Rattle.written.proofs.Alone.{Among, Leads, Chain, chain-on, chain-itself, itself-chain}
-use Rattle.written.proofs.Ordering.{in-passing, passing-in}
-use Rattle.written.proofs.Leading.{up-in}
+use Rattle.written.proofs.Alone.{Among, Leads}
 use Rattle.written.proofs.Knowing.{in-writes, told}
-use Rattle.translation.specs.inner.Marks.{mostSymbols, marked, MarksAre, walk}
-use Rattle.translation.specs.inner.Circles.{filledIn, leading, marksIf, leadsTo, leads, heldIn, Dropped, SomeHeld}
+use Rattle.translation.specs.inner.Marks.{mostSymbols, marked, walk}
+use Rattle.translation.specs.inner.Circles.{filledIn, leading, marksIf, leadsTo, leads}
 use Rattle.translation.proofs.Reading.{LowRule}
 use Rattle.translation.proofs.Testing.{symbols-next, symbols-none}
 use Rattle.translation.proofs.Marked.{none-marked}

@@ -4,29 +4,28 @@ use mathlib.Core.Path.{_≡_, refl, sym, ap, subst, _∙_}
 use mathlib.Core.Bool.{Bool, true, false}
 use mathlib.Core.List.{List, [], _∷_}
 use mathlib.Core.Logic.{_⊎_, inl, inr, ⊎-elim}
-use Prim.Native.Nat.{ℕ, zero, suc, _+_, _-_, _≤_, _<_}
+use Prim.Native.Nat.{ℕ, zero, suc, _+_, _≤_, _<_}
 use native.Mathlib.Decide.{decLt, ℕ-discrete}
 use native.Mathlib.Omega.{arith}
-use lib.ListN.{length, getD, set, replicate, length-set, length-replicate, getD-replicate, List·getD-eq-default}
-use lib.Seq.{getD-set-same, getD-set-other}
+use lib.ListN.{length, set, replicate, length-set, length-replicate, getD-replicate, List·getD-eq-default}
+use lib.Seq.{getD-set-other}
 use Rattle.laws.specs.Counts.{once, count}
 use Rattle.laws.specs.Decides.{Decides}
-use Rattle.laws.proofs.Tests.{either-way}
 use Rattle.laws.proofs.Decides.{false-true, true-false}
 use Rattle.written.specs.Lists.{In, Each}
-use Rattle.written.specs.Written.{Written, Writes, MayBeEmpty, noWritten}
-use Rattle.written.specs.Refusals.{DerivesItself, Circular}
+use Rattle.written.specs.Written.{Written, MayBeEmpty, noWritten}
+use Rattle.written.specs.Refusals.{Circular}
 use Rattle.written.specs.Order.{passing}
 use Rattle.written.specs.Translation.{upFrom}
 use Rattle.written.proofs.Lists.{each-at}
-use Rattle.written.proofs.Loops.{Led, Loop, has-loop}
+use Rattle.written.proofs.Loops.{Led, has-loop}
 use Rattle.written.proofs.Alone.{Leads, Chain, chain-on, chain-itself, itself-chain}
 use Rattle.written.proofs.Ordering.{in-passing, passing-in}
 use Rattle.written.proofs.Leading.{up-in}
-use Rattle.translation.specs.inner.Marks.{mostSymbols, marked, MarksAre, walk}
+use Rattle.translation.specs.inner.Marks.{mostSymbols, marked, walk}
 use Rattle.translation.specs.inner.Circles.{leads, heldIn, Dropped, SomeHeld}
 use Rattle.translation.proofs.Reading.{LowRule}
-use Rattle.translation.proofs.Circling.{LedBy, led-from, from-led}
+use Rattle.translation.proofs.Circling.{led-from, from-led}
 
 -- A dropped symbol makes them fewer.
 fewer-held : (l : List Bool) (a : ℕ) → a < length l → marked l a ≡ true → heldIn (set l a false) < heldIn l

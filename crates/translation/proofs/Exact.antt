@@ -2,20 +2,18 @@
 use mathlib.Core.Path.{_≡_, refl, sym, ap, ap₂, subst, _∙_}
 use mathlib.Core.Bool.{Bool, true, false, _&&_, not}
 use mathlib.Core.List.{List, [], _∷_, _++_, cons≢nil}
-use mathlib.Core.Logic.{_⊎_, inl, inr, ⊎-elim}
 use Prim.Native.Nat.{ℕ, _<_}
-use lib.ListN.{length, getD, replicate}
-use Rattle.laws.specs.Decides.{Decides}
+use lib.ListN.{getD, replicate}
 use Rattle.laws.proofs.Tests.{either-way}
 use Rattle.laws.proofs.Decides.{true-false, false-true}
 use Rattle.written.specs.Lists.{In, Each}
 use Rattle.written.specs.Lists.In.{here, there}
-use Rattle.written.specs.Lists.Each.{end, and}
-use Rattle.written.specs.Written.{WrittenRule, Written, Writes, Becomes, Tokens, MayBeEmpty, Gives, symbolCount, noWritten}
+use Rattle.written.specs.Lists.Each.{and}
+use Rattle.written.specs.Written.{WrittenRule, Written, Writes, Becomes, Tokens, MayBeEmpty, noWritten}
 use Rattle.written.specs.Written.Becomes.{nothing, stays, by-rule}
 use Rattle.written.specs.Written.Tokens.{none-left, one-more}
 use Rattle.written.specs.Refusals.{Nonterminal, Fruitful, Stays}
-use Rattle.written.proofs.Lists.{at-in, each-in}
+use Rattle.written.proofs.Lists.{at-in}
 use Rattle.written.proofs.Keeping.{tokens-join, tokens-part}
 use Rattle.written.proofs.Marking.{all-marked}
 use Rattle.written.proofs.Knowing.{Lawful, rule-becomes, token-stays, every-fruitful, all-filled}

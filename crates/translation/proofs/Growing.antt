@@ -1,20 +1,20 @@
 -- Marks that grow by walks over the rules: each walk that marks something leaves fewer unmarked, and one that does not leaves no rule that fires.
-use mathlib.Core.Path.{_≡_, refl, sym, ap, ap₂, subst, _∙_}
-use mathlib.Core.Bool.{Bool, true, false, _&&_, _||_, not}
+use mathlib.Core.Path.{_≡_, refl, sym, ap, subst, _∙_}
+use mathlib.Core.Bool.{Bool, true, false, _&&_, not}
 use mathlib.Core.List.{List, [], _∷_}
-use mathlib.Core.Logic.{_⊎_, inl, inr, ⊎-elim}
-use Prim.Native.Nat.{ℕ, zero, suc, _+_, _-_, _≤_, _<_}
+use mathlib.Core.Logic.{⊎-elim}
+use Prim.Native.Nat.{ℕ, _+_, _≤_, _<_}
 use native.Mathlib.Omega.{arith}
-use lib.ListN.{length, getD, set, length-set}
-use borrow.Author.Tests.{not-true, not-false}
+use lib.ListN.{length, set, length-set}
+use borrow.Author.Tests.{not-true}
 use Rattle.laws.proofs.Tests.{either-way, both-true}
 use Rattle.laws.proofs.Decides.{false-true, true-false}
-use Rattle.grammar.proofs.Marks.{mark-kept, mark-new, mark-old}
+use Rattle.grammar.proofs.Marks.{mark-kept, mark-old}
 use Rattle.grammar.proofs.Rounds.{unmarked, unmarked-less}
 use Rattle.written.specs.Lists.{In, Each}
 use Rattle.written.specs.Lists.In.{here, there}
 use Rattle.written.specs.Lists.Each.{end, and}
-use Rattle.written.specs.Written.{WrittenRule, Written, Writes}
+use Rattle.written.specs.Written.{WrittenRule, Written}
 use Rattle.written.specs.Form.{symbolsAt, ruleHead, leftAt, lengthAt, rightAt, ruleAt}
 use Rattle.written.proofs.Lists.{each-in, each-map}
 use Rattle.written.proofs.Knowing.{in-writes}

@@ -8,3 +8,5 @@ pub mod Exact
 pub mod Reaching
 pub mod Circling
 pub mod Dropping
+pub mod Placing
+pub mod Asking

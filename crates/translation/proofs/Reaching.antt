@@ -2,11 +2,10 @@
 use mathlib.Core.Path.{_≡_, refl, sym, ap, subst, _∙_}
 use mathlib.Core.Bool.{Bool, true, false}
 use mathlib.Core.List.{List, [], _∷_}
-use mathlib.Core.Logic.{_⊎_, inl, inr, ⊎-elim}
-use Prim.Native.Nat.{ℕ, zero, suc, _+_, _-_, _*_, _≤_, _<_}
+use mathlib.Core.Logic.{⊎-elim}
+use Prim.Native.Nat.{ℕ, _+_, _-_, _*_, _≤_, _<_}
 use native.Mathlib.Omega.{arith}
-use lib.ListN.{length, getD, set, replicate, length-set, length-replicate}
-use Rattle.laws.specs.Decides.{Decides}
+use lib.ListN.{length, set, replicate, length-set, length-replicate}
 use Rattle.laws.proofs.Tests.{either-way}
 use Rattle.laws.proofs.Decides.{false-true, true-false}
 use Rattle.grammar.specs.File.{u16At}
@@ -14,10 +13,10 @@ use Rattle.grammar.proofs.Marks.{mark-kept, mark-new, mark-old}
 use Rattle.grammar.proofs.Rounds.{unmarked, unmarked-less}
 use Rattle.written.specs.Lists.{In, Each}
 use Rattle.written.specs.Lists.Each.{end, and}
-use Rattle.written.specs.Written.{WrittenRule, Written, Writes, noWritten}
+use Rattle.written.specs.Written.{WrittenRule, Written, noWritten}
 use Rattle.written.specs.Form.{symbolsAt, ruleHead, leftAt, lengthAt, ruleAt}
 use Rattle.written.specs.Refusals.{Reachable}
-use Rattle.written.proofs.Lists.{each-in, each-at, in-each, at-in}
+use Rattle.written.proofs.Lists.{each-in, each-at, in-each}
 use Rattle.written.proofs.Knowing.{in-writes}
 use Rattle.translation.specs.inner.Marks.{mostSymbols, marked, MarksAre, Turn, turn, walk, marking, reaching}
 use Rattle.translation.proofs.Reading.{LowRule}

@@ -1,12 +1,12 @@
 -- Symbols and rules in place, one after the other.
-use mathlib.Core.Path.{_≡_, refl, sym, ap, subst, _∙_}
-use mathlib.Core.Bool.{Bool, true, false}
-use mathlib.Core.List.{List, [], _∷_}
+use mathlib.Core.Path.{_≡_, sym, subst}
+use mathlib.Core.Bool.{Bool}
+use mathlib.Core.List.{List}
 use Prim.Native.Nat.{ℕ, zero, suc, _+_, _-_, _*_, _≤_, _<_}
 use native.Mathlib.Omega.{arith}
 use lib.ListN.{length, getD}
 use Rattle.laws.specs.Decides.{Decides}
-use Rattle.laws.proofs.Decides.{says-yes, says-no, says-eqb, decides-map}
+use Rattle.laws.proofs.Decides.{says-eqb, decides-map}
 use lib.Dec.{eqb}
 use Rattle.grammar.specs.File.{u16At}
 use Rattle.written.specs.Lists.{Each}

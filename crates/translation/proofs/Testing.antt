@@ -1,12 +1,12 @@
 -- Tests of right sides: what they tell, and how they go on from symbol to symbol.
-use mathlib.Core.Path.{_≡_, refl, sym, ap, ap₂, subst, _∙_}
-use mathlib.Core.Bool.{Bool, true, false, _&&_, _||_, not}
+use mathlib.Core.Path.{_≡_, refl, sym, ap, ap₂, _∙_}
+use mathlib.Core.Bool.{Bool, true, false, _&&_, _||_}
 use mathlib.Core.List.{List, [], _∷_}
-use mathlib.Core.Logic.{_⊎_, inl, inr, ⊎-elim}
+use mathlib.Core.Logic.{⊎-elim}
 use Prim.Native.Nat.{ℕ, zero, suc, _+_, _-_, _*_, _≤_, _<_}
 use native.Mathlib.Omega.{arith}
 use lib.ListN.{length}
-use Rattle.laws.proofs.Tests.{either-way, both-true}
+use Rattle.laws.proofs.Tests.{both-true}
 use Rattle.laws.proofs.Decides.{false-true}
 use Rattle.grammar.specs.File.{u16At}
 use Rattle.written.specs.Lists.{In, Each}

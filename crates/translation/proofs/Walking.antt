@@ -1,9 +1,8 @@
 -- Walks over the rules in place.
 use mathlib.Core.Path.{_≡_, refl, sym, ap, subst, _∙_}
 use mathlib.Core.List.{List, [], _∷_}
-use Prim.Native.Nat.{ℕ, zero, suc, _+_, _-_, _*_, _≤_, _<_}
+use Prim.Native.Nat.{ℕ, zero, suc, _-_, _≤_, _<_}
 use native.Mathlib.Omega.{arith}
-use lib.ListN.{length}
 use Rattle.written.specs.Written.{WrittenRule}
 use Rattle.written.specs.Form.{ruleAt, rulesAt, behind, writtenHeader, countIn, writtenOf, RuleStands, RulesStand, Formed}
 use Rattle.translation.specs.inner.Marks.{walk}

@@ -1,2 +1,3 @@
 -- What the parts of the translator promise, over the definitions of `written`.
+pub mod Conditions
 pub mod inner

@@ -1,11 +1,10 @@
 -- The three examples of docs/TRANSLATION.md, computed: the grammar that the bytes write, and the bytes of the file.
 use mathlib.Core.Path.{_≡_, refl}
-use mathlib.Core.Bool.{Bool, true, false}
-use mathlib.Core.List.{List, [], _∷_, _++_}
+use mathlib.Core.Bool.{Bool, false}
+use mathlib.Core.List.{List, [], _∷_}
 use Prim.Native.Nat.{ℕ}
 use lib.Dec.{ltb, eqb}
 use Rattle.laws.specs.Records.{flat}
-use Rattle.written.specs.Written.{Written}
 use Rattle.written.specs.Form.{symbolsAt, rulesAt, writtenOf}
 use Rattle.written.specs.Split.{given, pair, joined, split}
 use Rattle.written.specs.Order.{has, named, passing, ordered}

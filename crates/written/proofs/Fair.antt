@@ -1,9 +1,9 @@
 -- Every rule that a written rule is split into is fair: it derives as the written rules do, its symbols are in range, and unary rules lead on.
 use mathlib.Core.Path.{_≡_, refl, sym, ap, ap₂, subst, _∙_}
-use mathlib.Core.Bool.{Bool, true, false, _&&_}
+use mathlib.Core.Bool.{Bool, true, _&&_}
 use mathlib.Core.List.{List, [], _∷_, _++_, append-assoc, append-nil}
-use mathlib.Core.Logic.{_⊎_, inl, inr, ⊎-elim}
-use Prim.Native.Nat.{ℕ, zero, suc, _+_, _-_, _≤_, _<_}
+use mathlib.Core.Logic.{_⊎_, inl, inr}
+use Prim.Native.Nat.{ℕ, suc, _+_, _≤_, _<_}
 use native.Mathlib.Omega.{arith}
 use lib.ListN.{length, getD, length-append, List·getD-eq-default}
 use lib.Seq.{getD-at}
@@ -12,15 +12,15 @@ use Rattle.grammar.specs.Rules.{Rule, none}
 use Rattle.written.specs.Lists.{In, Each}
 use Rattle.written.specs.Lists.In.{here, there}
 use Rattle.written.specs.Lists.Each.{end, and}
-use Rattle.written.specs.Written.{WrittenRule, Written, Writes, Becomes, symbolCount}
-use Rattle.written.specs.Split.{rule, given, pair, joined, split}
-use Rattle.written.specs.Translation.{number, places, newSymbols, splits}
+use Rattle.written.specs.Written.{WrittenRule, Writes, Becomes, symbolCount}
+use Rattle.written.specs.Split.{rule, pair, joined, split}
+use Rattle.written.specs.Translation.{places, newSymbols, splits}
 use Rattle.written.proofs.Lists.{each-join, each-in}
 use Rattle.written.proofs.Becoming.{becomes-same, becomes-join, becomes-on}
 use Rattle.written.proofs.Splitting.{each-given}
-use Rattle.written.proofs.Numbers.{singles-at, number-top}
+use Rattle.written.proofs.Numbers.{singles-at}
 use Rattle.written.proofs.Standing.{beginnings, beginningsOf, allBeginnings, of-count, meanings, meanings-count}
-use Rattle.written.proofs.Knowing.{Known, Somewhere, new, first, top, in-writes, rule-becomes, right-places, places-kept, places-in, kept-low, kept-left, number-nonterminal, number-kept-low, tokens-low}
+use Rattle.written.proofs.Knowing.{Known, new, first, top, in-writes, rule-becomes, right-places, places-kept, places-in, kept-low, kept-left, number-nonterminal, number-kept-low, tokens-low}
 
 module _ (c : Known) where
   -- What a symbol of the file stands for.

@@ -1,14 +1,14 @@
 -- A grammar written as bytes is read back as it was, and the bytes are well formed.
 use mathlib.Core.Path.{_≡_, refl, sym, ap, ap₂, subst, _∙_}
-use mathlib.Core.List.{List, [], _∷_, _++_, append-nil}
-use Prim.Native.Nat.{ℕ, zero, suc, _+_, _*_, _/_, _%_, _≤_, _<_}
+use mathlib.Core.List.{List, [], append-nil}
+use Prim.Native.Nat.{ℕ, suc, _+_, _*_, _/_, _%_, _<_}
 use native.Mathlib.Omega.{arith}
 use lib.ListN.{length, getD, length-append}
 use lib.Seq.{ext-getD, getD-append-add}
 use Rattle.laws.specs.Records.{flat}
 use Rattle.laws.proofs.Records.{flat-length, flat-at}
 use Rattle.grammar.specs.Rules.{Rule, Grammar, ruleCount, noRule}
-use Rattle.grammar.specs.File.{u16At, u32At, headerBytes, ruleBytes, versionOf, lengthOf, symbolsOf, tokensOf, ruleCountOf, ruleIn, rulesFrom, grammarOf, Malformed}
+use Rattle.grammar.specs.File.{u16At, headerBytes, ruleBytes, versionOf, lengthOf, symbolsOf, tokensOf, ruleCountOf, ruleIn, rulesFrom, grammarOf, Malformed}
 use Rattle.grammar.specs.File.Malformed.{short, version, real-length, told-length}
 use Rattle.grammar.proofs.Decoding.{of-count, of-rule}
 use Rattle.written.specs.Bytes.{u16Bytes, u32Bytes, bytesOfRule, fileLength, headerOf, bytesOf}

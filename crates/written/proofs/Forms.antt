@@ -1,13 +1,12 @@
 -- Of bytes of the written form: left sides and the start symbol are nonterminals, and no symbol is T+M or above.
-use mathlib.Core.Path.{_≡_, refl, sym, ap, subst, _∙_}
-use mathlib.Core.List.{List, [], _∷_}
-use Prim.Native.Nat.{ℕ, zero, suc, _+_, _≤_, _<_}
-use native.Mathlib.Omega.{arith}
-use lib.ListN.{length, getD}
+use mathlib.Core.Path.{subst}
+use mathlib.Core.List.{List}
+use Prim.Native.Nat.{ℕ, _<_}
+use lib.ListN.{getD}
 use Rattle.written.specs.Lists.{Each}
 use Rattle.written.specs.Lists.Each.{end, and}
-use Rattle.written.specs.Written.{WrittenRule, Written, Writes, noWritten}
-use Rattle.written.specs.Form.{rulesAt, writtenOf, writtenHeader, tokensIn, endIn, countIn, behind, RuleStands, RulesStand, Formed}
+use Rattle.written.specs.Written.{WrittenRule, Writes, noWritten}
+use Rattle.written.specs.Form.{rulesAt, writtenOf, endIn, RulesStand, Formed}
 use Rattle.written.specs.Form.RulesStand.{no-more, one-more}
 use Rattle.written.specs.Refusals.{Nonterminal}
 use Rattle.written.proofs.Lists.{each-at}

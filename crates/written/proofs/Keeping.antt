@@ -1,18 +1,17 @@
 -- Exactly the nonempty sentences: a grammar that has the rules of every split, and no others, derives what the written one derives.
-use mathlib.Core.Path.{_≡_, refl, sym, ap, ap₂, subst, _∙_}
-use mathlib.Core.Bool.{Bool, true, false, _&&_}
-use mathlib.Core.List.{List, [], _∷_, _++_, append-nil, append-assoc, nil≢cons, cons≢nil}
-use mathlib.Core.Logic.{_⊎_, inl, inr, ⊎-elim, _≢_}
-use Prim.Native.Nat.{ℕ, zero, suc, _<_}
+use mathlib.Core.Path.{_≡_, refl, sym, ap, subst, _∙_}
+use mathlib.Core.Bool.{Bool, true, false}
+use mathlib.Core.List.{List, [], _∷_, _++_, append-nil, cons≢nil}
+use mathlib.Core.Logic.{⊎-elim, _≢_}
+use Prim.Native.Nat.{ℕ, _<_}
 use Rattle.laws.proofs.Tests.{either-way}
-use Rattle.laws.proofs.Decides.{false-true, true-false}
-use Rattle.grammar.specs.Rules.{Rule, Grammar, Says, none}
+use Rattle.grammar.specs.Rules.{Grammar, Says, none}
 use Rattle.grammar.specs.Sentences.{Derives}
 use Rattle.written.specs.Written.{Written, Writes, Becomes, Tokens}
 use Rattle.written.specs.Written.Becomes.{nothing, stays, by-rule}
 use Rattle.written.specs.Written.Tokens.{none-left, one-more}
 use Rattle.written.specs.Lists.{Each}
-use Rattle.written.specs.Split.{rule, given, split}
+use Rattle.written.specs.Split.{given, split}
 use Rattle.written.specs.Translation.{places}
 use Rattle.written.proofs.Becoming.{becomes-same, becomes-join, becomes-on}
 use Rattle.written.proofs.Splitting.{Has, Yields, Spelled, split-gives, Ended}

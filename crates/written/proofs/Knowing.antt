@@ -1,15 +1,13 @@
 -- What is known of a written grammar that is translated, and what follows of its symbols.
-use mathlib.Core.Path.{_≡_, refl, sym, ap, subst, _∙_}
+use mathlib.Core.Path.{_≡_, sym, ap, subst}
 use mathlib.Core.Bool.{Bool, true, false}
 use mathlib.Core.List.{List, [], _∷_, _++_, append-nil, cons≢nil}
 use mathlib.Core.Logic.{_⊎_, inl, inr, ⊎-elim}
-use Prim.Native.Nat.{ℕ, zero, suc, _+_, _≤_, _<_}
+use Prim.Native.Nat.{ℕ, _+_, _≤_, _<_}
 use native.Mathlib.Decide.{decLt}
 use native.Mathlib.Omega.{arith}
-use lib.ListN.{length, getD}
 use Rattle.laws.specs.Decides.{Decides}
 use Rattle.laws.proofs.Tests.{either-way}
-use Rattle.laws.proofs.Decides.{true-false, false-true}
 use Rattle.grammar.specs.Rules.{none}
 use Rattle.grammar.specs.Accepted.{maxSymbols}
 use Rattle.written.specs.Lists.{In, Each}
@@ -21,8 +19,8 @@ use Rattle.written.specs.Written.Tokens.{none-left, one-more}
 use Rattle.written.specs.Refusals.{Nonterminal, Fruitful, Stays, Sound}
 use Rattle.written.specs.Split.{given}
 use Rattle.written.specs.Translation.{number, places, wrapperOf, firstNew}
-use Rattle.written.proofs.Lists.{each-in, in-at, none-there, head-or-tail, in-back}
-use Rattle.written.proofs.Becoming.{becomes-same, becomes-join, becomes-on}
+use Rattle.written.proofs.Lists.{in-at, none-there, head-or-tail, in-back}
+use Rattle.written.proofs.Becoming.{becomes-same, becomes-join}
 use Rattle.written.proofs.Keeping.{tokens-join, append-some, some-append}
 use Rattle.written.proofs.Marking.{becomes-places}
 use Rattle.written.proofs.Numbers.{number-lt, number-le, number-same, number-top}

@@ -1,17 +1,17 @@
 -- The order of left sides and the blocks of their rules: nothing stands twice, and of two rules the first one's left side does not stand behind.
 use mathlib.Core.Path.{_≡_, refl, sym, ap, ap₂, subst, _∙_}
-use mathlib.Core.Bool.{Bool, true, false, _&&_, _||_, not}
+use mathlib.Core.Bool.{Bool, true, _&&_, not}
 use mathlib.Core.List.{List, [], _∷_, _++_}
-use mathlib.Core.Logic.{_⊎_, inl, inr, ⊎-elim}
-use Prim.Native.Nat.{ℕ, zero, suc, _+_, _-_, _≤_, _<_}
+use mathlib.Core.Logic.{⊎-elim}
+use Prim.Native.Nat.{ℕ, zero, suc, _+_, _≤_, _<_}
 use native.Mathlib.Decide.{ℕ-discrete}
 use native.Mathlib.Omega.{arith}
 use lib.ListN.{length, getD}
 use lib.Dec.{eqb}
-use borrow.Author.Tests.{eqb-true, eq-eqb, not-true}
+use borrow.Author.Tests.{eqb-true, eq-eqb}
 use Rattle.laws.proofs.Tests.{either-way, both-true}
-use Rattle.laws.proofs.Decides.{false-true, true-false}
-use Rattle.grammar.specs.Rules.{Rule, none, noRule}
+use Rattle.laws.proofs.Decides.{false-true}
+use Rattle.grammar.specs.Rules.{Rule, none}
 use Rattle.written.specs.Lists.{In, Each}
 use Rattle.written.specs.Lists.In.{here, there}
 use Rattle.written.specs.Lists.Each.{end, and}

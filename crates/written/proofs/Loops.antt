@@ -1,6 +1,5 @@
 -- A finite set in which everything has a predecessor has a loop.
-use mathlib.Core.Path.{_≡_, refl, sym, subst}
-use mathlib.Core.List.{List, [], _∷_}
+use mathlib.Core.List.{List, _∷_}
 use Prim.Native.Nat.{ℕ}
 use Rattle.written.specs.Lists.{In}
 use Rattle.written.specs.Lists.In.{here, there}

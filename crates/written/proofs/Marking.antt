@@ -1,12 +1,11 @@
 -- What marks are at rest: exactly the symbols that become a string of the kind asked for.
-use mathlib.Core.Path.{_≡_, refl, sym, ap, subst, _∙_}
-use mathlib.Core.Bool.{Bool, true, false}
+use mathlib.Core.Path.{_≡_, subst}
+use mathlib.Core.Bool.{Bool, false}
 use mathlib.Core.List.{List, [], _∷_, _++_, append-nil}
-use mathlib.Core.Logic.{_⊎_, inl, inr, ⊎-elim}
 use Prim.Native.Nat.{ℕ}
 use Rattle.written.specs.Written.{Written, Writes, Becomes}
 use Rattle.written.specs.Written.Becomes.{nothing, stays, by-rule}
-use Rattle.written.proofs.Becoming.{becomes-same, becomes-join, becomes-on}
+use Rattle.written.proofs.Becoming.{becomes-join}
 use Rattle.written.specs.Lists.{Each}
 use Rattle.written.specs.Lists.Each.{end, and}
 use Rattle.written.specs.Split.{given}

@@ -1,15 +1,13 @@
 -- Numbers of symbols: they rise, tokens keep theirs, and every number below the first new one is some symbol's.
-use mathlib.Core.Path.{_≡_, refl, sym, ap, subst, _∙_}
+use mathlib.Core.Path.{_≡_, refl, sym, ap, _∙_}
 use mathlib.Core.Bool.{Bool, true, false}
-use mathlib.Core.List.{List, [], _∷_, _++_, append-assoc, append-nil}
-use mathlib.Core.Logic.{_⊎_, inl, inr, ⊎-elim}
+use mathlib.Core.List.{List, [], _∷_, _++_, append-assoc}
 use Prim.Native.Nat.{ℕ, zero, suc, _+_, _-_, _≤_, _<_}
 use native.Mathlib.Decide.{decLt, ℕ-discrete}
 use native.Mathlib.Omega.{arith}
 use lib.ListN.{length, getD, length-append}
 use lib.Seq.{getD-at}
 use Rattle.laws.proofs.Tests.{either-way}
-use Rattle.laws.proofs.Decides.{false-true}
 use Rattle.written.specs.Split.{given}
 use Rattle.written.specs.Translation.{staying, number, places}
 

@@ -1,20 +1,18 @@
 -- The order of left sides: a unary rule's left side comes before its right side, and none is left over.
 use mathlib.Core.Path.{_≡_, refl, sym, ap, subst, _∙_}
-use mathlib.Core.Bool.{Bool, true, false, _&&_, _||_, not}
-use mathlib.Core.List.{List, [], _∷_, _++_}
+use mathlib.Core.Bool.{Bool, true, not}
+use mathlib.Core.List.{List, [], _∷_}
 use mathlib.Core.Logic.{_⊎_, inl, inr, ⊎-elim}
 use Prim.Native.Nat.{ℕ, zero, suc, _≤_, _<_}
 use native.Mathlib.Omega.{arith}
 use lib.ListN.{length}
-use lib.Dec.{eqb}
-use borrow.Author.Tests.{eqb-true, eq-eqb}
 use Rattle.laws.proofs.Tests.{either-way}
-use Rattle.laws.proofs.Decides.{false-true, true-false}
-use Rattle.grammar.specs.Rules.{Rule, none}
-use Rattle.written.specs.Order.{has, named, passing, ordered}
+use Rattle.laws.proofs.Decides.{false-true}
+use Rattle.grammar.specs.Rules.{Rule}
+use Rattle.written.specs.Order.{named, passing, ordered}
 use Rattle.written.specs.Lists.{In}
 use Rattle.written.specs.Lists.In.{here, there}
-use Rattle.written.proofs.Loops.{Led, Loop, has-loop}
+use Rattle.written.proofs.Loops.{Led, has-loop}
 use Rattle.written.proofs.Lists.{Before, in-front, in-back, in-either, before-back, before-across, head-or-tail}
 
 -- Passing.

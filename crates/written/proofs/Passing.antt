@@ -1,30 +1,29 @@
 -- The translated grammar is one that the check takes, field by field.
-use mathlib.Core.Path.{_≡_, refl, sym, ap, ap₂, subst, _∙_}
-use mathlib.Core.Bool.{Bool, true, false, _&&_}
+use mathlib.Core.Path.{_≡_, refl, sym, ap, subst, _∙_}
+use mathlib.Core.Bool.{Bool, _&&_}
 use mathlib.Core.List.{List, [], _∷_, _++_}
-use mathlib.Core.Logic.{_⊎_, inl, inr, ⊎-elim, _≢_}
-use Prim.Native.Nat.{ℕ, zero, suc, _+_, _-_, _≤_, _<_}
+use mathlib.Core.Logic.{_⊎_, inl, inr, ⊎-elim}
+use Prim.Native.Nat.{ℕ, zero, suc, _+_, _≤_, _<_}
 use native.Mathlib.Decide.{decLt}
 use native.Mathlib.Omega.{arith}
 use lib.ListN.{length, getD}
-use Rattle.laws.proofs.Tests.{either-way}
 use Rattle.grammar.specs.Rules.{Rule, Grammar, Says, none, noRule, ruleCount, ruleAt, start, wrapper}
 use Rattle.grammar.specs.Sentences.{Derives}
 use Rattle.grammar.specs.Accepted as accepted
 use Rattle.written.specs.Lists.{In, Each}
 use Rattle.written.specs.Lists.In.{here, there}
 use Rattle.written.specs.Lists.Each.{end, and}
-use Rattle.written.specs.Written.{WrittenRule, Written, Writes, Becomes, Tokens, Gives, symbolCount}
-use Rattle.written.specs.Written.Tokens.{none-left, one-more}
+use Rattle.written.specs.Written.{WrittenRule, Tokens, symbolCount}
+use Rattle.written.specs.Written.Tokens.{one-more}
 use Rattle.written.specs.Refusals.{Stays, Reachable}
-use Rattle.written.specs.Split.{rule, pair, joined, split}
+use Rattle.written.specs.Split.{pair, joined, split}
 use Rattle.written.specs.Translation.{number, places, newSymbols, allNew, splits, blocks}
-use Rattle.written.proofs.Lists.{each-in, each-part, in-each, at-in, NoTwice, no-twice-at, Before, before-one-way, before-first, before-second, head-or-tail, none-there}
+use Rattle.written.proofs.Lists.{each-in, each-part, at-in, no-twice-at, Before, before-one-way}
 use Rattle.written.proofs.Splitting.{Has}
 use Rattle.written.proofs.Listing.{blocks-once, in-blocks, rules-parts}
-use Rattle.written.proofs.Leading.{Names, Follows, Pairwise, pairwise-at, blocks-follow}
+use Rattle.written.proofs.Leading.{Names, Follows, pairwise-at, blocks-follow}
 use Rattle.written.proofs.Numbers.{number-onto}
-use Rattle.written.proofs.Knowing.{Known, new, first, top, in-writes, token-kept, token-number, tokens-low, number-nonterminal, number-kept-low, number-no-none, kept-left, places-kept, places-in, in-places, token-or-not}
+use Rattle.written.proofs.Knowing.{Known, new, first, top, in-writes, token-number, number-nonterminal, number-kept-low, number-no-none, kept-left, places-kept, places-in, in-places, token-or-not}
 use Rattle.written.proofs.Fair.{Fair, Kept}
 use Rattle.written.proofs.Translating.{list, order, file, listed-fair, order-once, order-names, list-once, behind-listed, parts-has, start-kept, number-derives, split-there}
 

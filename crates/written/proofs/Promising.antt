@@ -1,30 +1,26 @@
 -- What is promised of a file holds; and the answer, with what it leaves, is the only one.
-use mathlib.Core.Path.{_≡_, refl, sym, ap, ap₂, subst, _∙_}
-use mathlib.Core.Bool.{Bool, true, false, _&&_}
-use mathlib.Core.List.{List, [], _∷_, _++_}
-use Prim.Native.Nat.{ℕ, zero, suc, _+_, _-_, _*_, _≤_, _<_}
+use mathlib.Core.Path.{_≡_, sym, ap, subst}
+use mathlib.Core.Bool.{Bool}
+use mathlib.Core.List.{List, [], _∷_}
+use Prim.Native.Nat.{ℕ, suc, _+_, _*_, _≤_}
 use native.Mathlib.Omega.{arith}
-use lib.ListN.{length, drop, length-append}
-use Rattle.laws.specs.Decides.{Decides}
-use Rattle.laws.proofs.Decides.{decide-alike}
-use Rattle.grammar.specs.Rules.{Rule, Grammar, ruleCount}
+use lib.ListN.{length, length-append}
+use Rattle.grammar.specs.Rules.{Grammar, ruleCount}
 use Rattle.grammar.specs.Sentences.{Sentence}
 use Rattle.grammar.specs.Accepted.{Accepted}
-use Rattle.grammar.specs.File.{Malformed, grammarOf}
-use Rattle.written.specs.Written.{WrittenRule, Written, Gives, symbolCount}
+use Rattle.written.specs.Written.{WrittenRule, Written, symbolCount}
 use Rattle.written.specs.Form.{Formed, writtenOf}
 use Rattle.written.specs.Refusals.{Sound}
-use Rattle.written.specs.Split.{split, joined}
-use Rattle.written.specs.Translation.{number, places, newSymbols, allNew, splits, listing, listOf}
-use Rattle.written.specs.Bytes.{fileLength, bytesOf}
-use Rattle.written.specs.Answers.{Tests, translation, Fits, Answer, Translates, allPlaces, pastSecond, Promised}
-use Rattle.written.specs.Answers.Translates.{malformed, circular, barren, unreachable, no-sentence, no-room, translates}
+use Rattle.written.specs.Split.{split}
+use Rattle.written.specs.Translation.{number, places, newSymbols, allNew, splits, listOf}
+use Rattle.written.specs.Bytes.{bytesOf}
+use Rattle.written.specs.Answers.{Tests, translation, Fits, allPlaces, pastSecond, Promised}
 use Rattle.written.proofs.Keeping.{derives-some}
 use Rattle.written.proofs.Numbers.{number-few, places-few}
 use Rattle.written.proofs.Standing.{few-rules}
 use Rattle.written.proofs.Listing.{listing-few}
 use Rattle.written.proofs.Knowing.{Known}
-use Rattle.written.proofs.Translating.{file, list-count, sentence-sound, number-derives}
+use Rattle.written.proofs.Translating.{list-count, sentence-sound, number-derives}
 use Rattle.written.proofs.Passing.{passes}
 use Rattle.written.proofs.Filing.{bytes-grammar, bytes-formed}
 use Rattle.written.proofs.Forms.{formed-lawful}

@@ -2,19 +2,15 @@
 use mathlib.Core.Path.{_≡_, refl, sym, ap, ap₂, subst, _∙_}
 use mathlib.Core.Bool.{Bool, true, false, _&&_}
 use mathlib.Core.List.{List, [], _∷_, _++_, append-nil, append-assoc}
-use mathlib.Core.Logic.{_⊎_, inl, inr, ⊎-elim, _≢_}
-use Prim.Native.Nat.{ℕ, zero, suc}
-use Rattle.laws.proofs.Tests.{either-way, both-true}
+use mathlib.Core.Logic.{_⊎_, inl, inr, _≢_}
+use Prim.Native.Nat.{ℕ, suc}
 use Rattle.laws.proofs.Decides.{false-true}
 use Rattle.grammar.specs.Rules.{Rule, Grammar, Says, none}
 use Rattle.grammar.specs.Sentences.{Derives}
-use Rattle.written.specs.Written.{Written, Writes, Becomes}
-use Rattle.written.specs.Written.Becomes.{nothing, stays, by-rule}
 use Rattle.written.specs.Lists.{Each}
 use Rattle.written.specs.Lists.Each.{end, and}
 use Rattle.written.specs.Split.{rule, given, pair, joined, split}
-use Rattle.written.proofs.Lists.{each-join, each-part}
-use Rattle.written.proofs.Becoming.{becomes-same, becomes-join, becomes-on}
+use Rattle.written.proofs.Lists.{each-part}
 
 pub each-given : {P : Rule → Type 0} (b : Bool) (r : Rule) → (b ≡ true → P r) → Each P (given b (r ∷ []))
 unfolding given

@@ -1,13 +1,13 @@
 -- What new symbols stand for: places in a list of beginnings, so that numbers are positions. And how many there are.
-use mathlib.Core.Path.{_≡_, refl, sym, ap, ap₂, subst, _∙_}
+use mathlib.Core.Path.{_≡_, refl, sym, ap, ap₂, _∙_}
 use mathlib.Core.Bool.{Bool, true, false, _&&_}
-use mathlib.Core.List.{List, [], _∷_, _++_, append-assoc, append-nil}
-use Prim.Native.Nat.{ℕ, zero, suc, _+_, _-_, _*_, _≤_}
+use mathlib.Core.List.{List, [], _∷_, _++_, append-assoc}
+use Prim.Native.Nat.{ℕ, suc, _+_, _*_, _≤_}
 use native.Mathlib.Omega.{arith}
 use lib.ListN.{length, getD, length-append}
 use lib.Seq.{getD-at}
 use Rattle.grammar.specs.Rules.{Rule, none}
-use Rattle.written.specs.Split.{rule, given, pair, joined, split}
+use Rattle.written.specs.Split.{rule, given, pair, joined}
 use Rattle.written.specs.Written.{WrittenRule, Written, symbolCount}
 use Rattle.written.specs.Translation.{places, newSymbols, allNew, wrapperOf}
 use Rattle.written.proofs.Numbers.{singles, singles-count}

@@ -1,32 +1,30 @@
 -- The translated grammar has the rules of every split and no others but rule 0; its left sides all come in their order; and its sentences are the
 -- nonempty strings that the written start symbol derives.
 use mathlib.Core.Path.{_≡_, refl, sym, ap, ap₂, subst, _∙_}
-use mathlib.Core.Bool.{Bool, true, false}
-use mathlib.Core.List.{List, [], _∷_, _++_, append-nil, cons≢nil}
+use mathlib.Core.Bool.{Bool}
+use mathlib.Core.List.{List, [], _∷_, _++_, append-nil}
 use mathlib.Core.Logic.{_⊎_, inl, inr, ⊎-elim, _≢_}
 use Prim.Native.Nat.{ℕ, zero, suc, _+_, _-_, _≤_, _<_}
 use native.Mathlib.Decide.{decLt}
 use native.Mathlib.Omega.{arith}
 use lib.ListN.{length, getD, List·getD-eq-default}
-use Rattle.grammar.specs.Rules.{Rule, Grammar, Says, none, noRule}
+use Rattle.grammar.specs.Rules.{Rule, Grammar, Says, noRule}
 use Rattle.grammar.specs.Sentences.{Derives, Sentence}
 use Rattle.written.specs.Lists.{In, Each}
 use Rattle.written.specs.Lists.In.{here, there}
-use Rattle.written.specs.Lists.Each.{end, and}
-use Rattle.written.specs.Written.{WrittenRule, Written, Writes, Becomes, Tokens, Gives, symbolCount, noWritten}
-use Rattle.written.specs.Refusals.{Stays, Circular}
+use Rattle.written.specs.Written.{WrittenRule, Writes, Becomes, Gives, symbolCount, noWritten}
 use Rattle.written.specs.Split.{rule, split}
 use Rattle.written.specs.Translation.{number, places, newSymbols, splits, listOf, orderOf, upFrom, blocks, translated}
 use Rattle.written.proofs.Lists.{each-in, in-each, each-part, none-there, in-at, at-in, NoTwice, Before}
 use Rattle.written.proofs.Becoming.{becomes-same, becomes-on}
 use Rattle.written.proofs.Splitting.{Has}
-use Rattle.written.proofs.Keeping.{HasSplit, complete, derives-becomes, derives-tokens, derives-some}
+use Rattle.written.proofs.Keeping.{HasSplit, complete, derives-becomes, derives-tokens}
 use Rattle.written.proofs.Numbers.{singles, singles-count}
 use Rattle.written.proofs.Standing.{meanings, meanings-count, wrapper-stands}
-use Rattle.written.proofs.Listing.{listing-has, listing-only, listing-once, blocks-in, in-blocks, blocks-count, rules-parts}
+use Rattle.written.proofs.Listing.{listing-has, listing-only, listing-once, blocks-in, in-blocks, blocks-count}
 use Rattle.written.proofs.Ordering.{Path⁺, no-loop, path-on, all-come, comes-before}
-use Rattle.written.proofs.Leading.{Names, named-led, led-named, ordered-in, ordered-once, up-in, in-up, up-once, up-count}
-use Rattle.written.proofs.Knowing.{Known, new, first, top, told, token-kept, token-number, tokens-low, kept-low, number-no-none}
+use Rattle.written.proofs.Leading.{Names, named-led, led-named, ordered-in, ordered-once, up-in, up-once, up-count}
+use Rattle.written.proofs.Knowing.{Known, new, first, top, told, token-kept, token-number, tokens-low, number-no-none}
 use Rattle.written.proofs.Fair.{stands, stands-for, nothing-at-none, Kept, Step, Fair, splits-fair}
 
 -- What holds of all rules that are split off holds of those of each written rule.

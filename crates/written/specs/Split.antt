@@ -1,7 +1,7 @@
 -- The rules of one or two symbols that a written rule is split into.
 use mathlib.Core.Bool.{Bool, true, false, _&&_}
 use mathlib.Core.List.{List, [], _∷_, _++_}
-use Prim.Native.Nat.{ℕ, zero, suc}
+use Prim.Native.Nat.{ℕ, suc}
 use Rattle.grammar.specs.Rules.{Rule, none}
 
 abbrev pub rule : ℕ → ℕ → ℕ → Rule

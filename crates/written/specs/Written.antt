@@ -1,7 +1,7 @@
 -- A written grammar: tokens, nonterminals, a start symbol, rules with any number of symbols; and what symbols become by the rules.
 use mathlib.Core.Path.{_≡_}
 use mathlib.Core.List.{List, [], _∷_, _++_}
-use Prim.Native.Nat.{ℕ, _+_, _≤_, _<_}
+use Prim.Native.Nat.{ℕ, _+_, _<_}
 use lib.ListN.{length, getD}
 
 -- A rule `left ::= right`.

@@ -3,7 +3,7 @@ use borrow.Author.Needs.{needs}
 use Rattle.translation.proofs.Dropping.{NoneHeld, none-begins, none-more, none-ends}
 use Rattle.translation.specs.inner.Marks.{mostSymbols}
 use Rattle.laws.proofs.Decides.{says-yes, says-no}
-use Prim.Native.Nat.{_-_, _≤_}
+use Prim.Native.Nat.{_-_}
 use native.Mathlib.Omega.{arith}
 use Rattle.translation.proofs.circular.any_held.Statement.{statement}
 use Rattle.translation.proofs.circular.any_held.Tie as tie

@@ -1,7 +1,6 @@
 -- `translation::circular::circular` meets its contract. The invariant: who leads to itself is held; fewer are held after each round that dropped one.
-use borrow.Author.Needs.{needs}
 use Rattle.translation.proofs.Dropping.{Holding, holding-begins, holding-on, decides-circular}
-use Rattle.translation.proofs.Reading.{Narrow, rules-low}
+use Rattle.translation.proofs.Reading.{rules-low}
 use Rattle.translation.specs.inner.Circles.{heldIn}
 use Rattle.written.specs.Form.{writtenOf}
 use borrow.Author.Tests.{not-true, not-false}

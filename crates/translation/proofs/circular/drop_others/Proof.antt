@@ -3,7 +3,7 @@ use borrow.Author.Needs.{needs}
 use Rattle.translation.proofs.Dropping.{Dropping, dropping-begins, pass-led, pass-unheld, drops, dropping-ends}
 use Rattle.translation.specs.inner.Marks.{mostSymbols}
 use borrow.Author.Tests.{not-true, not-false}
-use Prim.Native.Nat.{_-_, _≤_}
+use Prim.Native.Nat.{_-_}
 use native.Mathlib.Omega.{arith}
 use Rattle.translation.proofs.circular.drop_others.Statement.{statement}
 use Rattle.translation.proofs.circular.drop_others.Tie as tie

@@ -1,7 +1,6 @@
 -- `translation::circular::leads` meets its contract. One case a return.
 use borrow.Author.Needs.{needs}
 use Rattle.translation.proofs.Circling.{leading-zero, leading-empty, leading-filled}
-use native.Mathlib.Omega.{arith}
 use Rattle.translation.proofs.circular.leads.Statement.{statement}
 use Rattle.translation.proofs.circular.leads.Tie as tie
 

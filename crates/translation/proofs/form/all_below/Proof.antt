@@ -1,8 +1,7 @@
 -- `translation::form::all_below` meets its contract.
 use borrow.Author.Needs.{needs}
 use borrow.Author.Count.{below-none, below-more}
-use Prim.Native.Nat.{ℕ, _+_, _-_, _*_, _≤_, _<_}
-use Rattle.grammar.specs.File.{u16At}
+use Prim.Native.Nat.{_-_}
 use Rattle.laws.proofs.Decides.{says-yes, says-no}
 use Rattle.translation.proofs.Reading.{BelowSo, below-all, one-above}
 use native.Mathlib.Omega.{arith}

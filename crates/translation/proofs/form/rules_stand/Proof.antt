@@ -1,10 +1,8 @@
 -- `translation::form::rules_stand` meets its contract. The invariant: all rules stand exactly when the rest do.
 use borrow.Author.Needs.{needs}
-use Prim.Native.Nat.{ℕ}
-use mathlib.Core.Path.{sym, subst}
 use Rattle.translation.proofs.Reading.{Walked, walk-begins, walk-stops, walk-on, walk-ends}
 use Rattle.written.specs.Form.{writtenHeader, countIn}
-use borrow.Author.Tests.{not-true, not-false}
+use borrow.Author.Tests.{not-true}
 use Rattle.laws.proofs.Decides.{says-no, passes}
 use native.Mathlib.Omega.{arith}
 use Rattle.translation.proofs.form.rules_stand.Statement.{statement}

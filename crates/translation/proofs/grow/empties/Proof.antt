@@ -1,7 +1,6 @@
 -- `translation::grow::empties` meets its contract.
 use borrow.Author.Needs.{needs}
 use Rattle.translation.proofs.Exact.{empties-exact}
-use native.Mathlib.Omega.{arith}
 use borrow.Author.Needs.{needs}
 use Rattle.translation.proofs.grow.empties.Statement.{statement}
 use Rattle.translation.proofs.grow.empties.Tie as tie

@@ -1,7 +1,6 @@
 -- `translation::grow::fires` meets its contract. One test a return.
 use borrow.Author.Needs.{needs}
 use Rattle.translation.proofs.Growing.{firing-not, firing-all, firing-some}
-use native.Mathlib.Omega.{arith}
 use borrow.Author.Needs.{needs}
 use Rattle.translation.proofs.grow.fires.Statement.{statement}
 use Rattle.translation.proofs.grow.fires.Tie as tie

@@ -2,7 +2,6 @@
 use borrow.Author.Needs.{needs}
 use Rattle.translation.proofs.Exact.{fruitful-exact}
 use Rattle.translation.proofs.Marked.{only-to}
-use native.Mathlib.Omega.{arith}
 use borrow.Author.Needs.{needs}
 use Rattle.translation.proofs.grow.fruitful.Statement.{statement}
 use Rattle.translation.proofs.grow.fruitful.Tie as tie

@@ -1,7 +1,6 @@
 -- `translation::grow::grow` meets its contract. The invariant: the marks are right so far; fewer are unmarked after each walk that marked something.
-use borrow.Author.Needs.{needs}
 use Rattle.translation.proofs.Growing.{Growth, growth-begins, growth-on, growth-less, grown}
-use Rattle.translation.proofs.Reading.{Narrow, rules-low}
+use Rattle.translation.proofs.Reading.{rules-low}
 use Rattle.written.proofs.Lists.{each-in}
 use Rattle.written.specs.Form.{writtenOf}
 use Rattle.grammar.proofs.Rounds.{unmarked}

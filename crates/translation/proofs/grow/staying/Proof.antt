@@ -3,7 +3,6 @@ use borrow.Author.Needs.{needs}
 use Rattle.written.proofs.Forms.{formed-lawful}
 use Rattle.translation.proofs.Exact.{staying-exact}
 use Rattle.translation.proofs.Marked.{only-to}
-use native.Mathlib.Omega.{arith}
 use borrow.Author.Needs.{needs}
 use Rattle.translation.proofs.grow.staying.Statement.{statement}
 use Rattle.translation.proofs.grow.staying.Tie as tie

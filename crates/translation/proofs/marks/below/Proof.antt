@@ -2,7 +2,6 @@
 use borrow.Author.Needs.{needs}
 use Rattle.translation.proofs.Marked.{only-none, only-more, only-last}
 use Rattle.translation.specs.inner.Marks.{OnlyBelow}
-use mathlib.Core.Path.{subst}
 use Prim.Native.Nat.{_-_, _≤_}
 use native.Mathlib.Omega.{arith}
 use Rattle.translation.proofs.marks.below.Statement.{statement}

@@ -2,7 +2,6 @@
 use borrow.Author.Needs.{needs}
 use Rattle.translation.proofs.Testing.{Testing, testing-begins, some-on, some-stops, some-ends}
 use Rattle.translation.specs.inner.Marks.{marked, someIs}
-use borrow.Author.Tests.{not-true, not-false}
 use native.Mathlib.Omega.{arith}
 use Rattle.translation.proofs.marks.some_marked.Statement.{statement}
 use Rattle.translation.proofs.marks.some_marked.Tie as tie

@@ -3,7 +3,7 @@ use borrow.Author.Needs.{needs}
 use lib.ListN.{length-replicate}
 use mathlib.Core.Bool.{Bool, false}
 use Rattle.translation.proofs.Reaching.{Reach, reach-begins, reach-on, reach-less, reach-exact}
-use Rattle.translation.proofs.Reading.{Narrow, rules-low}
+use Rattle.translation.proofs.Reading.{rules-low}
 use Rattle.written.specs.Form.{writtenOf}
 use Rattle.grammar.proofs.Rounds.{unmarked}
 use borrow.Author.Tests.{not-true, not-false}
