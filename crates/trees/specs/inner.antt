@@ -1,0 +1,2 @@
+-- What only inner contracts cite: the table of numbers of trees.
+pub mod Weights
