@@ -1,0 +1,65 @@
+-- What count answers, from the table's entry at the handle.
+use mathlib.Core.Path.{_≡_, refl, sym, subst, ap}
+use mathlib.Core.List.{List}
+use mathlib.Core.Logic.{_≢_}
+use Prim.Native.Nat.{ℕ, suc, _≤_, _<_}
+use native.Mathlib.Omega.{arith}
+use lib.ListN.{length}
+use Rattle.node.specs.Answers.{noNode}
+use Rattle.forest.specs.Forests.{Product, Node, sum, Under, listed}
+use Rattle.forest.specs.Stores.{nodeAt, treesAt}
+use Rattle.trees.specs.Faults.{Faulty, Below, LowestFault, Sound}
+use Rattle.trees.specs.Answers.{Answer, answer, position, counted, Counts}
+use Rattle.trees.specs.inner.Weights.{entryAt}
+use Rattle.trees.specs.declared.Counted.{Counted}
+use Rattle.trees.specs.declared.Counted.the-variants.{Trees, Faulty as FaultyAt, TooMany}
+use Rattle.trees.specs.declared.Weight.{Weight}
+use Rattle.trees.specs.declared.Weight.the-variants.{Fault, Number, Many}
+use Rattle.trees.specs.declared.Entry.{Entry}
+use Rattle.trees.specs.declared.Entry.the-variants.{Nothing, Weighed}
+use Rattle.trees.proofs.Belows.{below-low, Down, below-down, FactorIn, under-sum}
+use Rattle.trees.proofs.Means.{Means}
+use Rattle.trees.proofs.Weighing.{FaultBelow, Weighs, entry-weighs}
+
+-- A handle at no Sum is the one fault below it.
+pub no-sum-counts : (store : List ℕ) (h : ℕ) → ((ps : List Product) → nodeAt store h ≢ sum ps) → Counts store h (counted (FaultyAt h))
+no-sum-counts store h never = Counts.fault (record { below = Below.itself; faulty = Faulty.no-sum never; lowest = λ q b f. alone (below-down b) })
+  where
+    is-sum : {q : ℕ} {n : Node} {A : Type 0} → Under q n → ((ps : List Product) → n ≡ sum ps → A) → A
+    is-sum (Under.of-product {ps = ps} m f) use-it = use-it ps refl
+
+    alone : {q : ℕ} → Down store h q → h ≤ q
+    alone Down.here = omega arith
+    alone (Down.further u l i b) = absurd (is-sum u never)
+
+-- What is answered of a weight.
+abbrev pub answerOf : Weight → Counted
+answerOf (Fault u) = FaultyAt u
+answerOf (Number n) = Trees n
+answerOf Many = TooMany
+
+-- At a Sum the entry tells the answer.
+pub weight-counts : (store : List ℕ) (h : ℕ) (ps : List Product) (w : Weight) → nodeAt store h ≡ sum ps → entryAt store h ≡ Weighed w
+    → Counts store h (counted (answerOf w))
+weight-counts store h ps w is e = answers w (of-sum (entryAt store h) e (entry-weighs store (suc h) h (omega arith)))
+  where
+    of-sum : (x : Entry) → x ≡ Weighed w → Weighs store (suc h) h x → Means (FaultBelow store h) (length (treesAt store h)) w
+    of-sum x e (Weighs.nothing i) = let z : _≡_ {A = ℕ} 0 1 = cc in absurd (omega arith)
+    of-sum x e (Weighs.leaf i) = let z : _≡_ {A = ℕ} 0 1 = cc in absurd (omega arith)
+    of-sum x e (Weighs.sums {w = v} i m) = let same : v ≡ w = cc in subst (Means (FaultBelow store h) (length (treesAt store h))) same m
+
+    sound : ((v : ℕ) → FaultBelow store h v → ⊥) → Sound store h
+    sound none = record { sound = λ s b f. none s (record { below = b; faulty = f }) }
+
+    answers : (w : Weight) → Means (FaultBelow store h) (length (treesAt store h)) w → Counts store h (counted (answerOf w))
+    answers w (Means.faulty f low) =
+        Counts.fault (record { below = f .below; faulty = f .faulty; lowest = λ q b g. low q (record { below = b; faulty = g }) })
+    answers w (Means.number {k = k} none same small) =
+        subst (λ n. Counts store h (counted (Trees n))) same (Counts.number (sound none) (omega arith))
+    answers w (Means.over none big) = Counts.over (sound none) big
+
+-- Where count tells a number, nothing below the handle is faulty.
+pub counted-sound : {store : List ℕ} {h : ℕ} {a : Answer} (n : ℕ) → Counts store h a → a ≡ counted (Trees n) → Sound store h
+counted-sound n (Counts.fault f) e = let z : _≡_ {A = ℕ} 0 1 = cc in absurd (omega arith)
+counted-sound n (Counts.over s big) e = s
+counted-sound n (Counts.number s small) e = s

@@ -1,0 +1,7 @@
+-- What the table tells of a store, and that the answers of count and tree are settled.
+pub mod Belows
+pub mod Means
+pub mod Weighing
+pub mod Counting
+pub mod Agree
+pub mod Examples
