@@ -1,0 +1,2 @@
+-- The two engines agree.
+pub mod Agreeing

@@ -1,0 +1,2 @@
+-- When the two engines are compared.
+pub mod Compared

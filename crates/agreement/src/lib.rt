@@ -1,0 +1,1 @@
+// The two engines agree. No code: the statement, and its proof.

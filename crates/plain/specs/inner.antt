@@ -1,0 +1,2 @@
+-- What only inner contracts cite: how the table is filled.
+pub mod Filling
