@@ -22,7 +22,7 @@ use Rattle.forest.specs.Stores.{standing, withProduct, productsAt, asNod
 use Rattle.forest.proofs.Rooted.{Store, Onward}
 
 -- Where a node's units stand, it is what is found.
-standing-is : {A : Type 0} (s : List ℕ) (q : ℕ) (n : Written) (found : Written → A) (none : A) → stand s q (unitsAt q n) ≡ true
+pub standing-is : {A : Type 0} (s : List ℕ) (q : ℕ) (n : Written) (found : Written → A) (none : A) → stand s q (unitsAt q n) ≡ true
     → standing s q (spelt s q) found none ≡ found n
 standing-is s q n found none st =
     ap (λ x. standing s q x found none) (units-spell s q n st) ∙ ap (λ b. pick b (found n) none) st

@@ -1,5 +1,5 @@
 -- What count answers, from the table's entry at the handle.
-use mathlib.Core.Path.{_≡_, refl, sym, subst, ap}
+use mathlib.Core.Path.{_≡_, refl, sym, subst, ap, _∙_}
 use mathlib.Core.List.{List}
 use mathlib.Core.Logic.{_≢_}
 use Prim.Native.Nat.{ℕ, suc, _≤_, _<_}
@@ -8,9 +8,9 @@ use lib.ListN.{length}
 use Rattle.node.specs.Answers.{noNode}
 use Rattle.forest.specs.Forests.{Product, Node, sum, Under, listed}
 use Rattle.forest.specs.Stores.{nodeAt, treesAt}
-use Rattle.trees.specs.Faults.{Faulty, Below, LowestFault, Sound}
+use Rattle.trees.specs.Faults.{askedAt, Faulty, Below, LowestFault, Sound}
 use Rattle.trees.specs.Answers.{Answer, answer, position, counted, Counts}
-use Rattle.trees.specs.inner.Weights.{entryAt}
+use Rattle.trees.specs.inner.Weights.{weighNode, entryIn, weights, entryAt, answerOf}
 use Rattle.trees.specs.declared.Counted.{Counted}
 use Rattle.trees.specs.declared.Counted.the-variants.{Trees, Faulty as FaultyAt, TooMany}
 use Rattle.trees.specs.declared.Weight.{Weight}
@@ -32,12 +32,6 @@ no-sum-counts store h never = Counts.fault (record { below = Below.itself; fault
     alone Down.here = omega arith
     alone (Down.further u l i b) = absurd (is-sum u never)
 
--- What is answered of a weight.
-abbrev pub answerOf : Weight → Counted
-answerOf (Fault u) = FaultyAt u
-answerOf (Number n) = Trees n
-answerOf Many = TooMany
-
 -- At a Sum the entry tells the answer.
 pub weight-counts : (store : List ℕ) (h : ℕ) (ps : List Product) (w : Weight) → nodeAt store h ≡ sum ps → entryAt store h ≡ Weighed w
     → Counts store h (counted (answerOf w))
@@ -57,6 +51,14 @@ weight-counts store h ps w is e = answers w (of-sum (entryAt store h) e (entry-w
     answers w (Means.number {k = k} none same small) =
         subst (λ n. Counts store h (counted (Trees n))) same (Counts.number (sound none) (omega arith))
     answers w (Means.over none big) = Counts.over (sound none) big
+
+-- It tells something.
+pub sum-told : (store : List ℕ) (h : ℕ) (ps : List Product) → nodeAt store h ≡ sum ps → entryAt store h ≢ Nothing
+unfolding weighNode
+sum-told store h ps is e =
+    let told : weighNode (entryIn (weights store h)) h (askedAt store h) (sum ps) ≡ Nothing =
+    ap (weighNode (entryIn (weights store h)) h (askedAt store h)) (sym is) ∙ e in
+    let z : _≡_ {A = ℕ} 0 1 = cc in omega arith
 
 -- Where count tells a number, nothing below the handle is faulty.
 pub counted-sound : {store : List ℕ} {h : ℕ} {a : Answer} (n : ℕ) → Counts store h a → a ≡ counted (Trees n) → Sound store h

@@ -5,3 +5,7 @@ pub mod Weighing
 pub mod Counting
 pub mod Agree
 pub mod Examples
+-- What the code reads and stores.
+pub mod Limits
+pub mod Heads
+pub mod Tabled

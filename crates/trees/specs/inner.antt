@@ -1,2 +1,4 @@
--- What only inner contracts cite: the table of numbers of trees.
+-- What only inner contracts cite: what is read of a store, the table of numbers of trees, and the table as rows of numbers.
+pub mod Heads
 pub mod Weights
+pub mod Tables

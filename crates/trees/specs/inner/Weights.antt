@@ -9,6 +9,8 @@ use Rattle.forest.specs.Forests.{Product, alone, paired, Node, token, sum, othe
 use Rattle.forest.specs.Stores.{nodeAt}
 use Rattle.trees.specs.Faults.{askedAt}
 use Rattle.trees.specs.Answers.{treeLimit}
+use Rattle.trees.specs.declared.Counted.{Counted}
+use Rattle.trees.specs.declared.Counted.the-variants.{Trees, Faulty, TooMany}
 use Rattle.trees.specs.declared.Weight.{Weight}
 use Rattle.trees.specs.declared.Weight.the-variants.{Fault, Number, Many}
 use Rattle.trees.specs.declared.Entry.{Entry}
@@ -69,9 +71,12 @@ sumFrom under s w (p ∷ ps) = sumFrom under s (plus w (productWeight under s p)
 unfoldable pub closed : ℕ → ℕ → List Product → Weight → Weight
 closed s count ps w = pick (ltb (length ps) count) (plus w (Fault s)) w
 
+abbrev pub sumWeight : (ℕ → Entry) → ℕ → ℕ → List Product → Weight
+sumWeight under s count ps = closed s count ps (sumFrom under s (Number 0) ps)
+
 unfoldable pub weighNode : (ℕ → Entry) → ℕ → ℕ → Node → Entry
 weighNode under s count (token t) = Weighed (Number 1)
-weighNode under s count (sum ps) = Weighed (closed s count ps (sumFrom under s (Number 0) ps))
+weighNode under s count (sum ps) = Weighed (sumWeight under s count ps)
 weighNode under s count other = Nothing
 
 abbrev pub entryIn : List Entry → ℕ → Entry
@@ -88,3 +93,9 @@ weights store (suc p) = weights store p ++ (weigh store (weights store p) p ∷ 
 
 abbrev pub entryAt : List ℕ → ℕ → Entry
 entryAt store p = weigh store (weights store p) p
+
+-- What count answers of the weight of a Sum.
+abbrev pub answerOf : Weight → Counted
+answerOf (Fault u) = Faulty u
+answerOf (Number n) = Trees n
+answerOf Many = TooMany
