@@ -12,7 +12,7 @@ use Rattle.node.specs.Choice.{pick}
 use Rattle.node.specs.Rows.{unitsAt}
 use Rattle.node.specs.Writing.{usableUnits, usable}
 use Rattle.node.specs.Reading.{filler, headFrom, holds, stand, spelt, readUnits, readAt}
-use Rattle.node.specs.Answers.{Answer, answer, done, node, end, nothing, noNode}
+use Rattle.node.specs.Answers.{Answer, answer, refused, done, node, end, nothing, noNode}
 use Rattle.node.specs.declared.Right.{Right}
 use Rattle.node.specs.declared.Right.the-variants.{At, Nothing as Single}
 use Rattle.node.specs.declared.Node.{Node as Written}
@@ -107,8 +107,8 @@ none-step store p r e never =
 pub end-none : (n : Written) (b : ℕ) → answer done end ≢ answer done (node n b)
 end-none n b e = let z : _≡_ {A = ℕ} 0 1 = cc in omega arith
 
-pub fault-none : (n : Written) (b : ℕ) → answer noNode nothing ≢ answer done (node n b)
-fault-none n b e = let z : _≡_ {A = ℕ} 0 1 = cc in omega arith
+pub fault-none : (unit : ℕ) (n : Written) (b : ℕ) → refused noNode unit nothing ≢ answer done (node n b)
+fault-none unit n b e = let z : _≡_ {A = ℕ} 0 1 = cc in omega arith
 
 -- The Products behind a Sum, one after the other.
 abbrev pub fromStep : ℕ → List ℕ → Step → List Product

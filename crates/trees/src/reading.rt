@@ -50,7 +50,7 @@ pub fn head(store: &[u16], p: usize) -> Head
     match read(store, p) {
         Found::Whole(node, behind) => head_of(node, behind),
         Found::End => Head::Neither,
-        Found::NoNode => Head::Neither,
+        Found::NoNode(_) => Head::Neither,
     }
 }
 
@@ -79,6 +79,6 @@ pub fn step(store: &[u16], p: usize) -> Step
     match read(store, p) {
         Found::Whole(node, behind) => step_of(node, behind),
         Found::End => Step::Ended,
-        Found::NoNode => Step::Ended,
+        Found::NoNode(_) => Step::Ended,
     }
 }

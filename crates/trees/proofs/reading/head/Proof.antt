@@ -34,7 +34,7 @@ returns-3 : tie.Need-returns-3
 returns-3 c = none-head _ _ _ (sym (ap found (c .enum-told .given .1)) ∙ c .before .before .read .ensures .0) end-none
 
 returns-4 : tie.Need-returns-4
-returns-4 c = none-head _ _ _ (sym (ap found (c .enum-told2 .given .1)) ∙ c .before .before .read .ensures .0) fault-none
+returns-4 c = none-head _ _ _ (sym (ap found (c .enum-told2 .given .1)) ∙ c .before .before .read .ensures .0) (fault-none _)
 
 pub head-spec : {M : Type 1} → statement M
 head-spec =

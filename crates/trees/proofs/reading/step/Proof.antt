@@ -28,7 +28,7 @@ returns-2 : tie.Need-returns-2
 returns-2 c = none-step _ _ _ (sym (ap found (c .enum-told .given .1)) ∙ c .before .before .read .ensures .0) end-none
 
 returns-3 : tie.Need-returns-3
-returns-3 c = none-step _ _ _ (sym (ap found (c .enum-told2 .given .1)) ∙ c .before .before .read .ensures .0) fault-none
+returns-3 c = none-step _ _ _ (sym (ap found (c .enum-told2 .given .1)) ∙ c .before .before .read .ensures .0) (fault-none _)
 
 pub step-spec : {M : Type 1} → statement M
 step-spec =
