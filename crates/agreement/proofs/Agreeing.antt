@@ -19,6 +19,7 @@ use Rattle.demands.specs.Calls.{FileFault, CallFault}
 use Rattle.demands.specs.Histories.{History}
 use Rattle.demands.specs.Sentences.{AcceptedOrNoRoom, Judged, RunJudged, FinishedJudged}
 use Rattle.demands.proofs.Lasting.{lasts, no-fault}
+use Rattle.demands.proofs.Telling.{run-tells, finished-tells}
 use Rattle.plain.specs.Calls.{Ordinary, Settles, Tables, Tells}
 use Rattle.agreement.specs.Compared.{Read, Plain}
 
@@ -70,11 +71,11 @@ plain-sentence {file} {ts} {says = says} h p = by-answer (p .tables) (p .tells) 
 
 module _ {file : List ℕ} {s : State} {w : Words} {ts us : List ℕ} {ended : Ended} {finished : Bool} (main : Read file s w ts us ended finished) where
   judged : RunJudged (grammarOf file) ts us (ended .outcome .number) (ended .taken)
-  judged = main .run-tells .sentences ts (main .history)
+  judged = run-tells (main .runs) .sentences ts (main .history)
 
   -- Behind the run, finished is told of the tokens that were taken.
   after : FinishedJudged (grammarOf file) (ts ++ take (ended .taken) us) (main .report) finished
-  after = main .finished-tells .sentences (ts ++ take (ended .taken) us) (History.run (main .history) (main .runs))
+  after = finished-tells (main .finishes) .sentences (ts ++ take (ended .taken) us) (History.run (main .history) (main .runs))
 
   all-taken : ended .taken ≡ length us → ts ++ take (ended .taken) us ≡ ts ++ us
   all-taken e = ap (λ (k : ℕ). ts ++ take k us) e ∙ ap (λ (l : List ℕ). ts ++ l) (take-length us)

@@ -1,7 +1,7 @@
 -- A run of the main engine behind tokens that it accepted, a report on it, and the plain engine on all of these tokens.
 use mathlib.Core.Path.{_≡_}
 use mathlib.Core.Bool.{Bool}
-use mathlib.Core.List.{List, _++_}
+use mathlib.Core.List.{List}
 use Prim.Native.Nat.{ℕ}
 use Rattle.laws.specs.Fills.{tooShort}
 use Rattle.grammar.specs.File.{grammarOf}
@@ -9,21 +9,19 @@ use Rattle.parse.specs.declared.State.{State}
 use Rattle.parse.specs.Words.{Words}
 use Rattle.completion.specs.Pass.{itemsFull, queueFull}
 use Rattle.demands.specs.Steps.{Ended, setsFull}
-use Rattle.demands.specs.Calls.{Runs}
+use Rattle.demands.specs.Calls.{Runs, Finishes}
 use Rattle.demands.specs.Histories.{History}
-use Rattle.demands.specs.Sentences.{RunTells, FinishedTells}
 use Rattle.plain.specs.Calls.{Tables, Tells}
 
 -- A parse over any buffers with any history, in which the tokens `ts` were accepted; then a run of `us`, which no room refusal met, and finished.
 pub record Read (file : List ℕ) (s : State) (w : Words) (ts us : List ℕ) (ended : Ended) (finished : Bool) : Type 0 where
   pub history : History file s w ts
   pub runs : Runs file s w us ended
-  pub run-tells : RunTells file s w us ended
   pub items : ended .outcome .number ≡ itemsFull → ⊥
   pub queue : ended .outcome .number ≡ queueFull → ⊥
   pub sets : ended .outcome .number ≡ setsFull → ⊥
   pub report : ℕ
-  pub finished-tells : FinishedTells file (ended .outcome .state) (ended .outcome .words) report finished
+  pub finishes : Finishes file (ended .outcome .state) (ended .outcome .words) report finished
 
 -- The plain engine, with words enough and no more tokens than it takes.
 pub record Plain (file ts : List ℕ) (yes : Bool) : Type 0 where
