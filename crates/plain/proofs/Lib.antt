@@ -9,3 +9,4 @@ pub mod Falling
 pub mod Firing
 pub mod Lengths
 pub mod Telling
+pub mod Examples

@@ -10,7 +10,7 @@ use Rattle.plain.specs.Table.{maxTokens, rowWords, Stretch, stretchesUpT
 use Rattle.plain.specs.inner.Filling.{Room}
 
 -- Twice the stretches of at most m of n tokens are 2 m n + m - m m.
-twice : (n m : ℕ) → m ≤ n → 2 * stretchesUpTo n m + m * m ≡ 2 * (m * n) + m
+pub twice : (n m : ℕ) → m ≤ n → 2 * stretchesUpTo n m + m * m ≡ 2 * (m * n) + m
 unfolding stretchesUpTo
 twice n zero l = omega (arith, zero-mul n)
 twice n (suc m) l =
