@@ -5,6 +5,8 @@ pub mod Weighing
 pub mod Counting
 pub mod Agree
 pub mod Examples
+-- How a walker chooses.
+pub mod Chosen
 -- What the code reads and stores.
 pub mod Limits
 pub mod Heads
