@@ -1,5 +1,5 @@
 //! Answers calls of the ordinary program, for `bench/compare`. Each line of standard input is one call, as decimal numbers: which call,
-//! then the file's bytes, items, starts, rows, queue and tokens, each led by its length, then the state's set number and item count.
+//! then the file's bytes, items, starts, rows, queue, store and tokens, each led by its length, then the state's set number, item count and used units.
 //! Each line of standard output is the answer: document 01's number, the call's own results, and all lent words.
 
 use std::io::{self, BufRead, Write};
@@ -30,13 +30,15 @@ fn answer(line: &str) -> Vec<u64> {
     let mut starts: Vec<u32> = list(&mut numbers);
     let mut rows: Vec<u64> = list(&mut numbers);
     let mut queue: Vec<u32> = list(&mut numbers);
+    let mut store: Vec<u16> = list(&mut numbers);
     let tokens: Vec<u16> = list(&mut numbers);
     let state = State {
         set: numbers.next().expect("a set number") as usize,
         items: numbers.next().expect("an item count") as usize,
+        used: numbers.next().expect("used units") as usize,
     };
-    let mut words = Words { items: &mut items, starts: &mut starts, rows: &mut rows, queue: &mut queue };
-    let told = |state: State| [state.set as u64, state.items as u64];
+    let mut words = Words { items: &mut items, starts: &mut starts, rows: &mut rows, queue: &mut queue, store: &mut store };
+    let told = |state: State| [state.set as u64, state.items as u64, state.used as u64];
     let mut out = Vec::new();
     match call {
         CHECK => out.push(number(&ordinary::check(&file))),
@@ -59,7 +61,8 @@ fn answer(line: &str) -> Vec<u64> {
         FINISHED => {
             let result = ordinary::finished(&file, state, &mut words);
             out.push(number(&result));
-            out.push(u64::from(result.unwrap_or(false)));
+            let handle = result.unwrap_or(None);
+            out.extend([u64::from(handle.is_some()), handle.map_or(u64::from(u32::MAX), u64::from)]);
         }
         LATEST_SET => {
             let result = ordinary::latest_set(&file, state, &mut words);
@@ -72,6 +75,7 @@ fn answer(line: &str) -> Vec<u64> {
         out.extend(words.iter().map(|&word| u64::from(word)));
     }
     out.extend(rows);
+    out.extend(store.into_iter().map(u64::from));
     out
 }
 

@@ -14,7 +14,7 @@ sys.path.insert(0, os.path.join(os.path.dirname(os.path.abspath(__file__)), ".."
 import model
 
 STRINGS = 20000
-LONG = 30000
+LONG = 5000  # tokens: with a forest no parse reads many more, as its store is full then
 SEED = 1
 DEPTH = 12  # past it a derivation takes each symbol's shortest way
 
@@ -103,7 +103,8 @@ def numbers_joined(count):
 
 
 def inputs(rng):
-    """Name, file, short sentences and a long one. A's is short of 129 tokens, at which the queue is full."""
+    """Name, file, short sentences and a long one, each read whole by a parse at the largest capacities. A's is short of 61 tokens, at which the store
+    is full."""
     routing = read_grammar(ROUTING)
     assert model.check(routing)[1].symbols == 100
     made = Sentences(routing, rng)
@@ -111,7 +112,7 @@ def inputs(rng):
     long_one = []
     while len(long_one) < LONG:
         long_one += rule()
-    yield "a", model.GRAMMAR_A, [numbers_joined(rng.randint(1, 8)) for _ in range(STRINGS)], numbers_joined(44)
+    yield "a", model.GRAMMAR_A, [numbers_joined(rng.randint(1, 8)) for _ in range(STRINGS)], numbers_joined(30)
     yield "b", model.GRAMMAR_B, [[0, 1, 2] * rng.randint(1, 5) for _ in range(STRINGS)], [0, 1, 2] * (LONG // 3)
     yield "routing", routing, [rule() for _ in range(STRINGS)], long_one
 

@@ -15,6 +15,7 @@ import tempfile
 import inputs
 import model
 
+NO_HANDLE = 0  # no search looks at one
 MOST = 10000  # lookups of a mix
 SEED = 13
 
@@ -130,7 +131,7 @@ def write(path, rules, lookups):
         lines.append((first, first + len(found), symbol))
     words = [model.NO_SECOND if word is None else word for rule in rules for word in rule]
     with open(path, "w") as out:
-        for line in [words, [word for item in items for word in item], *lines]:
+        for line in [words, [word for item in items for word in (*item, NO_HANDLE)], *lines]:
             out.write(" ".join(map(str, line)) + "\n")
 
 

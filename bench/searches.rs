@@ -18,7 +18,7 @@ unsafe extern "C" {
     safe fn clock() -> std::ffi::c_long;
 }
 
-/// Decoded rules, three words a rule, and items, two words an item. The seconds of a set's items rise.
+/// Decoded rules, three words a rule, and items, three words an item. The seconds of a set's items rise.
 struct Words {
     rules: Vec<u16>,
     items: Vec<u32>,
@@ -29,7 +29,7 @@ impl Words {
     fn second(&self, place: usize) -> usize {
         // The places of a lookup are those of items, and an item's rule is one of the rules: `read` has seen to it.
         unsafe {
-            let rule = *self.items.get_unchecked(2 * place + 1) as usize;
+            let rule = *self.items.get_unchecked(3 * place + 1) as usize;
             usize::from(*self.rules.get_unchecked(3 * rule + 2))
         }
     }
@@ -164,8 +164,8 @@ fn read(path: &str) -> (Words, Vec<Lookup>) {
         rules: rules.into_iter().map(|word| word.try_into().expect("a word of a rule")).collect(),
         items: items.into_iter().map(|word| word.try_into().expect("a word of an item")).collect(),
     };
-    let items_fit = words.items.chunks(2).all(|item| item.len() == 2 && 3 * item[1] as usize + 2 < words.rules.len());
-    let fits = |lookup: &Lookup| lookup.from <= lookup.to && 2 * lookup.to <= words.items.len();
+    let items_fit = words.items.chunks(3).all(|item| item.len() == 3 && 3 * item[1] as usize + 2 < words.rules.len());
+    let fits = |lookup: &Lookup| lookup.from <= lookup.to && 3 * lookup.to <= words.items.len();
     if !items_fit || !lookups.iter().all(fits) {
         fail(&format!("{path}: not rules, items and lookups"));
     }

@@ -8,7 +8,8 @@
 
 #include "brinesaddle.h"
 
-enum { PAINTED_WORDS = 1 << 16, SYMBOLS = BRINESADDLE_MAX_TOKENS + 3, RULES = 2048, TOKENS = 4096, UNITS = BRINESADDLE_MAX_UNITS };
+enum { PAINTED_WORDS = 1 << 16, SYMBOLS = BRINESADDLE_MAX_TOKENS + 3, RULES = 2048, TOKENS = 4096, UNITS = BRINESADDLE_MAX_UNITS,
+       ITEMS = BRINESADDLE_MAX_ITEM_WORDS / BRINESADDLE_ITEM_WORDS };
 
 static const uint64_t PAINT = 0xA5C3965A3C69F00F;
 
@@ -27,35 +28,37 @@ __attribute__((noinline)) static size_t stack_of(void (*call)(void))
 
 /* What the calls are made with. */
 static uint8_t file[11 + 6 * RULES];
-static size_t file_len, set, held, taken, first, count, position, behind, place;
+static size_t file_len, set, held, used, taken, first, count, position, behind, place;
 static uint32_t items[BRINESADDLE_MAX_ITEM_WORDS], starts[BRINESADDLE_MAX_START_WORDS], queue[BRINESADDLE_MAX_QUEUE_WORDS];
 static uint64_t rows[BRINESADDLE_MAX_ROW_WORDS];
-static uint16_t tokens[TOKENS], store[UNITS];
+static uint16_t tokens[TOKENS], forest[UNITS], store[UNITS];
 static size_t tokens_len;
-static uint32_t yes, node[5], answer;
+static uint32_t yes, handle, node[5], answer;
 
 /* The places of the reports, each at its longest, and whether they are lent or nothing is. */
 static uint16_t expected_tokens[BRINESADDLE_MAX_TOKENS];
-static uint8_t text[BRINESADDLE_MAX_LINE * BRINESADDLE_MAX_ITEM_WORDS / 2];
-static uint32_t words[5 * BRINESADDLE_MAX_ITEM_WORDS / 2];
-static struct brinesaddle_item records[BRINESADDLE_MAX_ITEM_WORDS / 2];
+static uint8_t text[BRINESADDLE_MAX_LINE * ITEMS];
+static uint32_t words[5 * ITEMS];
+static struct brinesaddle_item records[ITEMS];
 static int lent = 1;
 
 #define FILE_LENT file, file_len
 #define LENT(words) words, sizeof(words) / sizeof *(words)
-#define WORDS LENT(items), LENT(starts), LENT(rows), LENT(queue)
+#define STATE &set, &held, &used
+#define READ_STATE set, held, used
+#define WORDS LENT(items), LENT(starts), LENT(rows), LENT(queue), LENT(forest)
 #define PLACE(words) words, lent ? sizeof(words) / sizeof *(words) : 0, &count
 
 static void check(void) { answer = brinesaddle_check(FILE_LENT); }
-static void start(void) { answer = brinesaddle_start(FILE_LENT, &set, &held, WORDS); }
-static void token(void) { answer = brinesaddle_token(FILE_LENT, &set, &held, WORDS, tokens[0]); }
-static void run(void) { answer = brinesaddle_run(FILE_LENT, &set, &held, WORDS, tokens, tokens_len, &taken); }
-static void finished(void) { answer = brinesaddle_finished(FILE_LENT, set, held, WORDS, &yes); }
-static void latest_set(void) { answer = brinesaddle_latest_set(FILE_LENT, set, held, WORDS, &first, &count); }
-static void expected(void) { answer = brinesaddle_expected(FILE_LENT, set, held, WORDS, PLACE(expected_tokens)); }
-static void listing(void) { answer = brinesaddle_listing(FILE_LENT, set, held, WORDS, PLACE(text)); }
-static void latest_words(void) { answer = brinesaddle_latest_words(FILE_LENT, set, held, WORDS, PLACE(words)); }
-static void latest_records(void) { answer = brinesaddle_latest_records(FILE_LENT, set, held, WORDS, PLACE(records)); }
+static void start(void) { answer = brinesaddle_start(FILE_LENT, STATE, WORDS); }
+static void token(void) { answer = brinesaddle_token(FILE_LENT, STATE, WORDS, tokens[0]); }
+static void run(void) { answer = brinesaddle_run(FILE_LENT, STATE, WORDS, tokens, tokens_len, &taken); }
+static void finished(void) { answer = brinesaddle_finished(FILE_LENT, READ_STATE, WORDS, &yes, &handle); }
+static void latest_set(void) { answer = brinesaddle_latest_set(FILE_LENT, READ_STATE, WORDS, &first, &count); }
+static void expected(void) { answer = brinesaddle_expected(FILE_LENT, READ_STATE, WORDS, PLACE(expected_tokens)); }
+static void listing(void) { answer = brinesaddle_listing(FILE_LENT, READ_STATE, WORDS, PLACE(text)); }
+static void latest_words(void) { answer = brinesaddle_latest_words(FILE_LENT, READ_STATE, WORDS, PLACE(words)); }
+static void latest_records(void) { answer = brinesaddle_latest_records(FILE_LENT, READ_STATE, WORDS, PLACE(records)); }
 static void node_write(void) { answer = brinesaddle_node_write(store, UNITS, position, node, &behind, &place); }
 static void node_read(void) { answer = brinesaddle_node_read(store, UNITS, position, node, &behind, &place); }
 static void node_walk(void) { answer = brinesaddle_node_walk(store, UNITS, 0, &count, &behind, &place); }
@@ -241,7 +244,7 @@ int main(void)
     for (tokens_len = 0; tokens_len < TOKENS; tokens_len++)
         tokens[tokens_len] = tokens_len % 2;
     small_grammar();
-    parses(BRINESADDLE_QUEUE_FULL);
+    parses(BRINESADDLE_STORE_FULL);
     memset(tokens, 0, sizeof tokens);
     largest_grammar();
     parses(BRINESADDLE_QUEUE_FULL);

@@ -13,10 +13,14 @@ use std::{env, fs, process};
 const SET_ROW: usize = 8;
 
 /// The largest capacities, in words.
-const ITEM_WORDS: usize = 2 * 4096;
+const ITEM_WORDS: usize = 3 * 4096;
 const START_WORDS: usize = 1024 + 1;
 const ROW_WORDS: usize = SET_ROW * 1024;
-const QUEUE_WORDS: usize = 1024;
+const QUEUE_WORDS: usize = 2 * 1024;
+const UNITS: usize = 32768;
+
+/// A unit that holds nothing.
+const FILLER: u16 = 0xFFFF;
 
 const GRAMMARS: [&str; 3] = ["a", "b", "routing"];
 const ENGINES: [(&str, Engine); 2] = [("ordinary", ordinary_engine::ENGINE), ("proved", proved_engine::ENGINE)];
@@ -35,10 +39,12 @@ unsafe extern "C" {
 struct Parse {
     set: usize,
     held: usize,
+    used: usize,
     items: Vec<u32>,
     starts: Vec<u32>,
     rows: Vec<u64>,
     queue: Vec<u32>,
+    store: Vec<u16>,
 }
 
 /// The calls, answering by document 01's numbers.
@@ -47,7 +53,8 @@ struct Engine {
     check: fn(&[u8]) -> u32,
     start: fn(&[u8], &mut Parse) -> u32,
     run: fn(&[u8], &mut Parse, &[u16]) -> (u32, usize),
-    finished: fn(&[u8], &mut Parse) -> (u32, bool),
+    /// The number, and the handle where the tokens are a sentence.
+    finished: fn(&[u8], &mut Parse) -> (u32, Option<u32>),
 }
 
 mod ordinary_engine {
@@ -61,14 +68,14 @@ mod ordinary_engine {
     }
 
     fn parts(parse: &mut Parse) -> (State, Words<'_>) {
-        let words =
-            Words { items: &mut parse.items, starts: &mut parse.starts, rows: &mut parse.rows, queue: &mut parse.queue };
-        (State { set: parse.set, items: parse.held }, words)
+        let Parse { set, held, used, items, starts, rows, queue, store } = parse;
+        (State { set: *set, items: *held, used: *used }, Words { items, starts, rows, queue, store })
     }
 
     fn keep(parse: &mut Parse, state: State) {
         parse.set = state.set;
         parse.held = state.items;
+        parse.used = state.used;
     }
 
     fn check(file: &[u8]) -> u32 {
@@ -89,10 +96,10 @@ mod ordinary_engine {
         (ran.refusal.map_or(0, |refusal| refusal as u32), ran.taken)
     }
 
-    fn finished(file: &[u8], parse: &mut Parse) -> (u32, bool) {
+    fn finished(file: &[u8], parse: &mut Parse) -> (u32, Option<u32>) {
         let (state, mut words) = parts(parse);
         let result = ordinary::finished(file, state, &mut words);
-        (number(&result), result.unwrap_or(false))
+        (number(&result), result.unwrap_or(None))
     }
 }
 
@@ -106,20 +113,21 @@ mod proved_engine {
     unsafe extern "C" {
         fn brinesaddle_check(file: *const u8, file_len: usize) -> u32;
         fn brinesaddle_start(
-            file: *const u8, file_len: usize, set: &mut usize, held: &mut usize,
+            file: *const u8, file_len: usize, set: &mut usize, held: &mut usize, used: &mut usize,
             items: *mut u32, items_len: usize, starts: *mut u32, starts_len: usize,
-            rows: *mut u64, rows_len: usize, queue: *mut u32, queue_len: usize,
+            rows: *mut u64, rows_len: usize, queue: *mut u32, queue_len: usize, store: *mut u16, store_len: usize,
         ) -> u32;
         fn brinesaddle_run(
-            file: *const u8, file_len: usize, set: &mut usize, held: &mut usize,
+            file: *const u8, file_len: usize, set: &mut usize, held: &mut usize, used: &mut usize,
             items: *mut u32, items_len: usize, starts: *mut u32, starts_len: usize,
-            rows: *mut u64, rows_len: usize, queue: *mut u32, queue_len: usize,
+            rows: *mut u64, rows_len: usize, queue: *mut u32, queue_len: usize, store: *mut u16, store_len: usize,
             tokens: *const u16, tokens_len: usize, taken: &mut usize,
         ) -> u32;
         fn brinesaddle_finished(
-            file: *const u8, file_len: usize, set: usize, held: usize,
+            file: *const u8, file_len: usize, set: usize, held: usize, used: usize,
             items: *const u32, items_len: usize, starts: *const u32, starts_len: usize,
-            rows: *const u64, rows_len: usize, queue: *const u32, queue_len: usize, yes: &mut u32,
+            rows: *const u64, rows_len: usize, queue: *const u32, queue_len: usize, store: *const u16, store_len: usize,
+            yes: &mut u32, handle: &mut u32,
         ) -> u32;
     }
 
@@ -130,25 +138,25 @@ mod proved_engine {
 
     #[rustfmt::skip]
     fn start(file: &[u8], parse: &mut Parse) -> u32 {
-        let Parse { set, held, items, starts, rows, queue } = parse;
+        let Parse { set, held, used, items, starts, rows, queue, store } = parse;
         unsafe {
             brinesaddle_start(
-                file.as_ptr(), file.len(), set, held,
+                file.as_ptr(), file.len(), set, held, used,
                 items.as_mut_ptr(), items.len(), starts.as_mut_ptr(), starts.len(),
-                rows.as_mut_ptr(), rows.len(), queue.as_mut_ptr(), queue.len(),
+                rows.as_mut_ptr(), rows.len(), queue.as_mut_ptr(), queue.len(), store.as_mut_ptr(), store.len(),
             )
         }
     }
 
     #[rustfmt::skip]
     fn run(file: &[u8], parse: &mut Parse, tokens: &[u16]) -> (u32, usize) {
-        let Parse { set, held, items, starts, rows, queue } = parse;
+        let Parse { set, held, used, items, starts, rows, queue, store } = parse;
         let mut taken = 0;
         let number = unsafe {
             brinesaddle_run(
-                file.as_ptr(), file.len(), set, held,
+                file.as_ptr(), file.len(), set, held, used,
                 items.as_mut_ptr(), items.len(), starts.as_mut_ptr(), starts.len(),
-                rows.as_mut_ptr(), rows.len(), queue.as_mut_ptr(), queue.len(),
+                rows.as_mut_ptr(), rows.len(), queue.as_mut_ptr(), queue.len(), store.as_mut_ptr(), store.len(),
                 tokens.as_ptr(), tokens.len(), &mut taken,
             )
         };
@@ -156,17 +164,18 @@ mod proved_engine {
     }
 
     #[rustfmt::skip]
-    fn finished(file: &[u8], parse: &mut Parse) -> (u32, bool) {
-        let Parse { set, held, items, starts, rows, queue } = parse;
-        let mut yes = 0;
+    fn finished(file: &[u8], parse: &mut Parse) -> (u32, Option<u32>) {
+        let Parse { set, held, used, items, starts, rows, queue, store } = parse;
+        let (mut yes, mut handle) = (0, 0);
         let number = unsafe {
             brinesaddle_finished(
-                file.as_ptr(), file.len(), *set, *held,
+                file.as_ptr(), file.len(), *set, *held, *used,
                 items.as_ptr(), items.len(), starts.as_ptr(), starts.len(),
-                rows.as_ptr(), rows.len(), queue.as_ptr(), queue.len(), &mut yes,
+                rows.as_ptr(), rows.len(), queue.as_ptr(), queue.len(), store.as_ptr(), store.len(),
+                &mut yes, &mut handle,
             )
         };
-        (number, yes == 1)
+        (number, (yes == 1).then_some(handle))
     }
 }
 
@@ -175,19 +184,22 @@ impl Parse {
         Parse {
             set: 0,
             held: 0,
+            used: 0,
             items: vec![0; ITEM_WORDS],
             starts: vec![0; START_WORDS],
             rows: vec![0; ROW_WORDS],
             queue: vec![0; QUEUE_WORDS],
+            store: vec![0; UNITS],
         }
     }
 
     /// A fresh parse again, where one token was taken since.
     fn undo_one(&mut self) {
-        self.items[..2 * self.held].fill(0);
+        self.items[..3 * self.held].fill(0);
         self.starts[..3].fill(0);
         self.rows[SET_ROW..2 * SET_ROW].fill(0);
-        (self.set, self.held) = (0, 0);
+        self.store[..self.used].fill(FILLER);
+        (self.set, self.held, self.used) = (0, 0, 0);
     }
 }
 
@@ -241,12 +253,12 @@ const JOBS: [(&str, Job); 7] = [
     ("long", Job::Long),
 ];
 
-fn read_sentence(engine: Engine, input: &Input, parse: &mut Parse, tokens: &[u16]) -> bool {
+fn read_sentence(engine: Engine, input: &Input, parse: &mut Parse, tokens: &[u16]) -> Option<u32> {
     expect((engine.start)(&input.file, parse), 0);
     expect((engine.run)(&input.file, parse, tokens), (0, tokens.len()));
-    let (number, yes) = (engine.finished)(&input.file, parse);
+    let (number, handle) = (engine.finished)(&input.file, parse);
     expect(number, 0);
-    yes
+    handle
 }
 
 /// Does a job `count` times, from a parse that a start or a sentence has left; answers the microseconds.
@@ -268,8 +280,8 @@ fn timed(engine: Engine, input: &Input, job: Job, count: usize, parse: &mut Pars
                 expect((engine.run)(file, parse, &input.short[0][..1]), (0, 1));
                 parse.undo_one();
             }
-            Job::Finished => expect((engine.finished)(file, parse), (0, true)),
-            Job::Reload => expect(read_sentence(engine, input, parse, &input.short[turn % input.short.len()]), true),
+            Job::Finished => expect((engine.finished)(file, parse).1.is_some(), true),
+            Job::Reload => expect(read_sentence(engine, input, parse, &input.short[turn % input.short.len()]).is_some(), true),
             Job::Long => {
                 expect((engine.start)(file, parse), 0);
                 expect((engine.run)(file, parse, &input.long), (0, input.long.len()));
@@ -279,7 +291,7 @@ fn timed(engine: Engine, input: &Input, job: Job, count: usize, parse: &mut Pars
     (clock() - begun) as f64
 }
 
-/// Both leave the same words behind each of the first short sentences, and behind the long one.
+/// Both leave the same words and nodes behind each of the first short sentences, and behind the long one.
 fn agree(input: &Input) {
     let [(_, ordinary), (_, proved)] = ENGINES;
     let (mut theirs, mut ours) = (Parse::new(), Parse::new());

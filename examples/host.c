@@ -1,6 +1,6 @@
-/* A host in C: reads tokens of document 01's grammar A, asks whether they are a sentence, and prints the latest set; tells of a refused
- * token what could have stood there; then writes a node, reads it back and walks over it, and shows where a store is bad. `tests/host` builds
- * and runs it. */
+/* A host in C: reads tokens of document 01's grammar A, asks whether they are a sentence, and prints the latest set and the ways to derive
+ * it; tells of a refused token what could have stood there; then writes a node, reads it back and walks over it, and shows where a store is
+ * bad. `tests/host` builds and runs it. */
 #include <stdio.h>
 
 #include "brinesaddle.h"
@@ -8,31 +8,52 @@
 /* S ::= S P | num, P ::= plus S; num is token 0, plus token 1. */
 static const uint8_t grammar[] = {1, 0, 0, 0, 0x23, 0, 6, 0, 2, 0, 4, 0, 4, 0, 2, 0, 5, 0, 2, 0, 2, 0, 3, 0, 2, 0, 0, 0xFF, 0xFF, 0, 3, 0, 1, 0, 2};
 
-enum { ITEMS = 64, SETS = 16, QUEUE = 16 };
+enum { ITEMS = 64, SETS = 16, QUEUE = 16, UNITS = 256 };
 
 /* A parse: the state, and the words lent to it. */
 struct parse {
-    size_t set, held;
-    uint32_t items[2 * ITEMS], starts[SETS + 1], queue[QUEUE];
+    size_t set, held, used;
+    uint32_t items[BRINESADDLE_ITEM_WORDS * ITEMS], starts[SETS + 1], queue[BRINESADDLE_ENTRY_WORDS * QUEUE];
     uint64_t rows[BRINESADDLE_ROW_WORDS * SETS];
+    uint16_t store[UNITS];
 };
 
-/* The words of a parse, as every call takes them. */
-#define WORDS(p) (p)->items, 2 * ITEMS, (p)->starts, SETS + 1, (p)->rows, BRINESADDLE_ROW_WORDS * SETS, (p)->queue, QUEUE
-#define FILE_OF(bytes) (bytes), sizeof(bytes)
+/* The state of a parse, where a call may change it and where it reads it alone, and its words, as every call takes them. */
+#define STATE(p) &(p)->set, &(p)->held, &(p)->used
+#define READ_STATE(p) (p)->set, (p)->held, (p)->used
+#define SLICE(words) (words), sizeof(words) / sizeof *(words)
+#define WORDS(p) SLICE((p)->items), SLICE((p)->starts), SLICE((p)->rows), SLICE((p)->queue), SLICE((p)->store)
+
+/* The ways to derive what is below a Sum: of each the rule, and the nodes of its symbols. */
+static void ways(const struct parse *p, uint32_t handle)
+{
+    uint32_t node[5] = {0};
+    size_t behind = handle, place = 0;
+    brinesaddle_node_read(p->store, p->used, handle, node, &behind, &place);
+    printf("node %u: symbol %u", handle, node[2]);
+    for (uint32_t left = node[1]; left > 0; left--) {
+        brinesaddle_node_read(p->store, p->used, behind, node, &behind, &place);
+        printf(", by rule %u from node %u", node[1], node[2]);
+        if (node[3])
+            printf(" and node %u", node[4]);
+    }
+    printf("\n");
+}
 
 static void show(struct parse *p, const uint16_t *tokens, size_t count)
 {
     size_t taken = 0, first = 0, words = 0;
-    uint32_t yes = 0;
-    uint32_t started = brinesaddle_start(FILE_OF(grammar), &p->set, &p->held, WORDS(p));
-    uint32_t stopped = brinesaddle_run(FILE_OF(grammar), &p->set, &p->held, WORDS(p), tokens, count, &taken);
-    brinesaddle_finished(FILE_OF(grammar), p->set, p->held, WORDS(p), &yes);
-    brinesaddle_latest_set(FILE_OF(grammar), p->set, p->held, WORDS(p), &first, &words);
+    uint32_t yes = 0, handle = 0;
+    uint32_t started = brinesaddle_start(SLICE(grammar), STATE(p), WORDS(p));
+    uint32_t stopped = brinesaddle_run(SLICE(grammar), STATE(p), WORDS(p), tokens, count, &taken);
+    brinesaddle_finished(SLICE(grammar), READ_STATE(p), WORDS(p), &yes, &handle);
+    brinesaddle_latest_set(SLICE(grammar), READ_STATE(p), WORDS(p), &first, &words);
     printf("start %u, read %zu, stopped %u, finished %s, set %zu:", started, taken, stopped, yes ? "yes" : "no", p->set);
-    for (size_t k = first; k < first + words; k += 2)
-        printf(" (%u, %u)", p->items[k], p->items[k + 1]);
+    for (size_t k = first; k < first + words; k += BRINESADDLE_ITEM_WORDS)
+        printf(" (%u, %u, %u)", p->items[k], p->items[k + 1], p->items[k + 2]);
     printf("\n");
+    if (yes)
+        ways(p, handle);
 }
 
 /* What support tells of a refused token: what could have stood there, and the latest set, as text and for the console as records. */
@@ -42,17 +63,17 @@ static void explain(const struct parse *p)
     static uint8_t text[BRINESADDLE_MAX_LINE * ITEMS];
     static struct brinesaddle_item records[ITEMS];
     size_t count = 0;
-    if (brinesaddle_expected(FILE_OF(grammar), p->set, p->held, WORDS(p), tokens, BRINESADDLE_MAX_TOKENS, &count) == BRINESADDLE_DONE) {
+    if (brinesaddle_expected(SLICE(grammar), READ_STATE(p), WORDS(p), tokens, BRINESADDLE_MAX_TOKENS, &count) == BRINESADDLE_DONE) {
         printf("could have stood here:");
         for (size_t k = 0; k < count; k++)
             printf(" %u", tokens[k]);
         printf("\n");
     }
-    if (brinesaddle_listing(FILE_OF(grammar), p->set, p->held, WORDS(p), text, sizeof text, &count) == BRINESADDLE_DONE)
+    if (brinesaddle_listing(SLICE(grammar), READ_STATE(p), WORDS(p), text, sizeof text, &count) == BRINESADDLE_DONE)
         fwrite(text, 1, count, stdout);
-    uint32_t told = brinesaddle_latest_records(FILE_OF(grammar), p->set, p->held, WORDS(p), records, 1, &count);
+    uint32_t told = brinesaddle_latest_records(SLICE(grammar), READ_STATE(p), WORDS(p), records, 1, &count);
     printf("a place of 1 record: %u, needed %zu\n", told, count);
-    if (brinesaddle_latest_records(FILE_OF(grammar), p->set, p->held, WORDS(p), records, ITEMS, &count) == BRINESADDLE_DONE)
+    if (brinesaddle_latest_records(SLICE(grammar), READ_STATE(p), WORDS(p), records, ITEMS, &count) == BRINESADDLE_DONE)
         for (const struct brinesaddle_item *item = records; item < records + count; item++)
             printf("rule %u, left %u, first %u, second %u, origin %u\n", item->rule, item->left, item->first, item->second, item->origin);
 }
@@ -83,14 +104,15 @@ static void nodes(void)
 int main(void)
 {
     static struct parse p;
-    const uint16_t sentence[] = {0, 1, 0}, no_sentence[] = {0, 0};
-    printf("check %u\n", brinesaddle_check(FILE_OF(grammar)));
+    const uint16_t sentence[] = {0, 1, 0}, two_ways[] = {0, 1, 0, 1, 0}, no_sentence[] = {0, 0};
+    printf("check %u\n", brinesaddle_check(SLICE(grammar)));
     show(&p, sentence, 3);
+    show(&p, two_ways, 5);
     show(&p, no_sentence, 2);
     explain(&p);
-    printf("token 70000: %u\n", brinesaddle_token(FILE_OF(grammar), &p.set, &p.held, WORDS(&p), 70000));
+    printf("token 70000: %u\n", brinesaddle_token(SLICE(grammar), STATE(&p), WORDS(&p), 70000));
     p.starts[0] = 1;
-    printf("damaged: %u\n", brinesaddle_token(FILE_OF(grammar), &p.set, &p.held, WORDS(&p), 1));
+    printf("damaged: %u\n", brinesaddle_token(SLICE(grammar), STATE(&p), WORDS(&p), 1));
     nodes();
     return 0;
 }

@@ -1,17 +1,18 @@
 /* Brinesaddle: the rule reader of the load balancer, for hosts in C.
  *
  * Link target/staticlib/libhost.a (`rt staticlib host`, x86-64 Linux). Nothing is allocated and nothing is kept between calls: a parse
- * is two words of the host, the set number and the item count, and four slices that the host lends.
+ * is three words of the host, the set number, the item count and the number of used units, and five slices that the host lends.
  *
  * Slices. A slice is a pointer and a number of elements. The pointer is not null, even of an empty slice, and is aligned for its
  * elements. Slices and words that a call may write overlap nothing else that the same call takes. A slice that is `const` here is not
  * written. Any contents are taken: no call needs its words prepared but for what a start does.
  *
- * Answers. Each call returns a number: 0 is done; the others are refusals, in this order of precedence. What a refused call leaves is said
- * at each call. In short: a run keeps the tokens before the refused one and tells how many they are; a walk tells the nodes before the
- * units that are none; finished and latest_set put 0 into their words; a call that fills a place tells in `count` how long it must be, or
- * 0 where it is refused for another reason; every other refused call leaves everything as it was. And 10, 11 and 12 tell their place: 10 and
- * 11 the position asked for, 12 the unit at which the fault was seen.
+ * Answers. Each call returns a number: 0 is done; the others are refusals, in this order of precedence but for 7, 8, 9 and 14, of which the
+ * first that is met is told. What a refused call leaves is said at each call. In short: a run keeps the tokens before the refused one and tells
+ * how many they are; a walk tells the nodes before the units that are none; finished and latest_set put 0 into their words, finished's handle
+ * all ones; a call that fills a place tells in `count` how long it must be, or 0 where it is refused for another reason; every other refused
+ * call leaves everything as it was. And 10, 11 and 12 tell their place: 10 and 11 the position asked for, 12 the unit at which the fault was
+ * seen.
  */
 #ifndef BRINESADDLE_H
 #define BRINESADDLE_H
@@ -37,22 +38,29 @@ enum {
     BRINESADDLE_UNFIT = 10,        /* node value unfit */
     BRINESADDLE_NO_ROOM = 11,      /* the node does not fit the store from its position */
     BRINESADDLE_NO_NODE = 12,      /* the units at the position are no node */
-    BRINESADDLE_TOO_SHORT = 13     /* the place lent is too short for what is told */
+    BRINESADDLE_TOO_SHORT = 13,    /* the place lent is too short for what is told */
+    BRINESADDLE_STORE_FULL = 14    /* a token: its nodes do not fit the store */
 };
 
 /* The words that count. More may be lent: words past these are never touched and do not matter.
- *   items   two words an item, origin and rule
+ *   items   three words an item: origin, rule, and the handle of the node of its first symbol
  *   starts  a word a set, and one more
  *   rows    BRINESADDLE_ROW_WORDS a set
- *   queue   a word an entry
- * A row had two words before grammars could have 512 symbols. A host that still lends the 2,048 row words of that time has room for 256
- * sets, where it had 1,024. */
+ *   queue   two words an entry
+ *   store   units of 16 bits: the forest, the nodes of all that was read. Every token adds to it, four units and more where it completes
+ *           something, and only a start empties it. So with a forest a parse ends at some length, with 14: with the largest store a list
+ *           (S ::= S 0 | 0) ends behind 8,192 tokens, S ::= 0 S | 0 behind 97, S ::= S S | 0 behind 31
+ * An item had two words, a queue entry one, and there was no store, before there was a forest. A host that still lends the 8,192 item words and
+ * 1,024 queue words of that time has room for 2,730 items and 512 entries, where it had 4,096 and 1,024. And a row had two words before grammars
+ * could have 512 symbols: 2,048 row words are 256 sets, where they were 1,024. */
 enum {
-    BRINESADDLE_MAX_ITEM_WORDS = 8192,
+    BRINESADDLE_ITEM_WORDS = 3,
+    BRINESADDLE_MAX_ITEM_WORDS = 12288,
     BRINESADDLE_MAX_START_WORDS = 1025,
     BRINESADDLE_ROW_WORDS = 8,
     BRINESADDLE_MAX_ROW_WORDS = 8192,
-    BRINESADDLE_MAX_QUEUE_WORDS = 1024,
+    BRINESADDLE_ENTRY_WORDS = 2,
+    BRINESADDLE_MAX_QUEUE_WORDS = 2048,
     BRINESADDLE_MAX_UNITS = 32768 /* of a node store */
 };
 
@@ -69,37 +77,45 @@ enum {
  * is 2; files with one were accepted once. */
 uint32_t brinesaddle_check(const uint8_t *file, size_t file_len);
 
-/* Starts a parse. `set` and `held` hold an old state, of any value.
- * Answers 0, 1, 2 or 3. Done: the state is fresh (both words 0), the words within capacity are cleared and row 0 holds what the wrapper
- * begins with. Refused: words and old state as they were. */
-uint32_t brinesaddle_start(const uint8_t *file, size_t file_len, size_t *set, size_t *held, uint32_t *items, size_t items_len,
-                           uint32_t *starts, size_t starts_len, uint64_t *rows, size_t rows_len, uint32_t *queue, size_t queue_len);
+/* Starts a parse. `set`, `held` and `used` hold an old state, of any value.
+ * Answers 0, 1, 2 or 3. Done: the state is fresh (its three words 0), the words within capacity are cleared, row 0 holds what the wrapper
+ * begins with, and the usable units of the store are 0xFFFF. A store of no units is taken; tokens then meet 14. Refused: words, units and old
+ * state as they were. */
+uint32_t brinesaddle_start(const uint8_t *file, size_t file_len, size_t *set, size_t *held, size_t *used, uint32_t *items,
+                           size_t items_len, uint32_t *starts, size_t starts_len, uint64_t *rows, size_t rows_len, uint32_t *queue,
+                           size_t queue_len, uint16_t *store, size_t store_len);
 
 /* Reads one token. Any number is taken; T and above is answered 5.
- * Answers 0, 1, 2, 4, 5, 6, 7, 8 or 9. Done: the state and the words are those after the token. Refused: state and words as they were. */
-uint32_t brinesaddle_token(const uint8_t *file, size_t file_len, size_t *set, size_t *held, uint32_t *items, size_t items_len,
-                           uint32_t *starts, size_t starts_len, uint64_t *rows, size_t rows_len, uint32_t *queue, size_t queue_len,
-                           uint32_t token);
+ * Answers 0, 1, 2, 4, 5, 6, 7, 8, 9 or 14; of the four for want of room the one that is met first, 9 last. Done: state, words and store are those
+ * after the token. Refused: all as it was. */
+uint32_t brinesaddle_token(const uint8_t *file, size_t file_len, size_t *set, size_t *held, size_t *used, uint32_t *items,
+                           size_t items_len, uint32_t *starts, size_t starts_len, uint64_t *rows, size_t rows_len, uint32_t *queue,
+                           size_t queue_len, uint16_t *store, size_t store_len, uint32_t token);
 
 /* Reads tokens up to the first that is refused. The same as one call a token, but grammar and state are checked once; they are checked
  * for an empty run too.
  * Answers as a token does, for the first refusal. Done or refused, `taken` is the number of tokens that were taken, and state and words are
  * those after them: a run that is refused at a later token has moved on. With 1, 2 and 4 none was taken, and all is as it was. */
-uint32_t brinesaddle_run(const uint8_t *file, size_t file_len, size_t *set, size_t *held, uint32_t *items, size_t items_len,
-                         uint32_t *starts, size_t starts_len, uint64_t *rows, size_t rows_len, uint32_t *queue, size_t queue_len,
-                         const uint16_t *tokens, size_t tokens_len, size_t *taken);
+uint32_t brinesaddle_run(const uint8_t *file, size_t file_len, size_t *set, size_t *held, size_t *used, uint32_t *items,
+                         size_t items_len, uint32_t *starts, size_t starts_len, uint64_t *rows, size_t rows_len, uint32_t *queue,
+                         size_t queue_len, uint16_t *store, size_t store_len, const uint16_t *tokens, size_t tokens_len,
+                         size_t *taken);
 
-/* Whether the tokens taken since the start are a sentence.
- * Answers 0, 1, 2 or 4. Done: `yes` is 1 or 0. Refused: `yes` is 0. */
-uint32_t brinesaddle_finished(const uint8_t *file, size_t file_len, size_t set, size_t held, const uint32_t *items, size_t items_len,
-                              const uint32_t *starts, size_t starts_len, const uint64_t *rows, size_t rows_len, const uint32_t *queue,
-                              size_t queue_len, uint32_t *yes);
+/* Whether the tokens taken since the start are a sentence; and the handle of all its derivations, the position in the store of the start symbol's
+ * Sum.
+ * Answers 0, 1, 2 or 4. Done: `yes` is 1 or 0. Refused: `yes` is 0. Where `yes` is 0, `handle` is 0xFFFFFFFF. A handle stays good until the next
+ * start: tokens that are read later write behind it. */
+uint32_t brinesaddle_finished(const uint8_t *file, size_t file_len, size_t set, size_t held, size_t used, const uint32_t *items,
+                              size_t items_len, const uint32_t *starts, size_t starts_len, const uint64_t *rows, size_t rows_len,
+                              const uint32_t *queue, size_t queue_len, const uint16_t *store, size_t store_len, uint32_t *yes,
+                              uint32_t *handle);
 
-/* Where the latest set stands: items[first] up to items[first + count - 1], two words an item. At the start the set is empty.
+/* Where the latest set stands: items[first] up to items[first + count - 1], three words an item. At the start the set is empty.
  * Answers 0, 1, 2 or 4. Refused: `first` and `count` are 0. */
-uint32_t brinesaddle_latest_set(const uint8_t *file, size_t file_len, size_t set, size_t held, const uint32_t *items, size_t items_len,
-                                const uint32_t *starts, size_t starts_len, const uint64_t *rows, size_t rows_len, const uint32_t *queue,
-                                size_t queue_len, size_t *first, size_t *count);
+uint32_t brinesaddle_latest_set(const uint8_t *file, size_t file_len, size_t set, size_t held, size_t used, const uint32_t *items,
+                                size_t items_len, const uint32_t *starts, size_t starts_len, const uint64_t *rows, size_t rows_len,
+                                const uint32_t *queue, size_t queue_len, const uint16_t *store, size_t store_len, size_t *first,
+                                size_t *count);
 
 /* Four calls tell of a parse in a place that the host lends: what could stand next, and the latest set as text, as words and as records.
  * They only read the parse, and write the whole list or nothing. Each answers 0, 1, 2, 4 or 13, and `count` is written always; lengths and
@@ -115,12 +131,13 @@ enum {
 };
 
 /* The ordinary tokens that could stand next, rising: exactly those below T that a token call on the same state and words would not answer
- * 6. One that would meet 7, 8 or 9 is among them. Of a parse from a start these are the tokens that go on with some sentence behind those
+ * 6. One that would meet 7, 8, 9 or 14 is among them. Of a parse from a start these are the tokens that go on with some sentence behind those
  * taken; there is none where only the end can follow.
  * T tokens of place always suffice. */
-uint32_t brinesaddle_expected(const uint8_t *file, size_t file_len, size_t set, size_t held, const uint32_t *items, size_t items_len,
-                              const uint32_t *starts, size_t starts_len, const uint64_t *rows, size_t rows_len, const uint32_t *queue,
-                              size_t queue_len, uint16_t *tokens, size_t tokens_len, size_t *count);
+uint32_t brinesaddle_expected(const uint8_t *file, size_t file_len, size_t set, size_t held, size_t used, const uint32_t *items,
+                              size_t items_len, const uint32_t *starts, size_t starts_len, const uint64_t *rows, size_t rows_len,
+                              const uint32_t *queue, size_t queue_len, const uint16_t *store, size_t store_len, uint16_t *tokens,
+                              size_t tokens_len, size_t *count);
 
 /* The latest set as ASCII text, a line an item in the order of the set: left side, first, second and origin, as in
  *   2 ::= 2 * 3 @ 0
@@ -128,9 +145,10 @@ uint32_t brinesaddle_expected(const uint8_t *file, size_t file_len, size_t set, 
  * mark too; numbers are decimal without leading zeros, parted by single blanks; every line ends with a newline (0x0A). No NUL is written.
  * At the start the set is empty, and so is the text.
  * BRINESADDLE_MAX_LINE bytes of place for each of the `held` items always suffice. */
-uint32_t brinesaddle_listing(const uint8_t *file, size_t file_len, size_t set, size_t held, const uint32_t *items, size_t items_len,
-                             const uint32_t *starts, size_t starts_len, const uint64_t *rows, size_t rows_len, const uint32_t *queue,
-                             size_t queue_len, uint8_t *text, size_t text_len, size_t *count);
+uint32_t brinesaddle_listing(const uint8_t *file, size_t file_len, size_t set, size_t held, size_t used, const uint32_t *items,
+                             size_t items_len, const uint32_t *starts, size_t starts_len, const uint64_t *rows, size_t rows_len,
+                             const uint32_t *queue, size_t queue_len, const uint16_t *store, size_t store_len, uint8_t *text,
+                             size_t text_len, size_t *count);
 
 /* An item of the latest set with the symbols of its rule. */
 struct brinesaddle_item {
@@ -139,17 +157,25 @@ struct brinesaddle_item {
 
 /* The latest set as words, five an item in the order of the set: rule, left side, first, second, origin.
  * Five words of place for each of the `held` items always suffice. */
-uint32_t brinesaddle_latest_words(const uint8_t *file, size_t file_len, size_t set, size_t held, const uint32_t *items, size_t items_len,
-                                  const uint32_t *starts, size_t starts_len, const uint64_t *rows, size_t rows_len, const uint32_t *queue,
-                                  size_t queue_len, uint32_t *words, size_t words_len, size_t *count);
+uint32_t brinesaddle_latest_words(const uint8_t *file, size_t file_len, size_t set, size_t held, size_t used, const uint32_t *items,
+                                  size_t items_len, const uint32_t *starts, size_t starts_len, const uint64_t *rows,
+                                  size_t rows_len, const uint32_t *queue, size_t queue_len, const uint16_t *store, size_t store_len,
+                                  uint32_t *words, size_t words_len, size_t *count);
 
 /* The same as records, one an item.
  * One record of place for each of the `held` items always suffices. */
-uint32_t brinesaddle_latest_records(const uint8_t *file, size_t file_len, size_t set, size_t held, const uint32_t *items, size_t items_len,
-                                    const uint32_t *starts, size_t starts_len, const uint64_t *rows, size_t rows_len, const uint32_t *queue,
-                                    size_t queue_len, struct brinesaddle_item *records, size_t records_len, size_t *count);
+uint32_t brinesaddle_latest_records(const uint8_t *file, size_t file_len, size_t set, size_t held, size_t used,
+                                    const uint32_t *items, size_t items_len, const uint32_t *starts, size_t starts_len,
+                                    const uint64_t *rows, size_t rows_len, const uint32_t *queue, size_t queue_len,
+                                    const uint16_t *store, size_t store_len, struct brinesaddle_item *records, size_t records_len,
+                                    size_t *count);
 
-/* A node of a forest is five numbers: its kind, and
+/* The store of a parse holds, for each token, an Evaluated with the token; and for each nonterminal that it completes over some stretch, a Sum
+ * of all the ways, and right behind it a Product a way: the rule number as its action, the nodes of the rule's symbols as its factors. Factors lie
+ * before their Sum. Read it as any store, its first `used` units; what a host writes into it itself is no part of the parse, and a state may then
+ * be answered 4.
+ *
+ * A node of a forest is five numbers: its kind, and
  *   Sum          count, nonterminal, 0, 0
  *   Product      action, left factor, flag, right factor
  *   NullingLeaf  symbol, 0, 0, 0

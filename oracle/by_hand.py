@@ -1,5 +1,6 @@
 """What the tables share whose wanted numbers are written out by hand: a parse on the built library, and (expecting.py) what came of the rows."""
 
+import forest_model as forest
 import library
 import model
 from expecting import expect, passed  # noqa: F401
@@ -8,14 +9,14 @@ AS_IT_WAS = 0xBAD  # what library.py puts into a word that a call may leave
 
 
 class Parse:
-    """A started parse in words of the capacities I, E and Q."""
+    """A started parse in words of the capacities I, E, Q and U."""
 
-    def __init__(self, file, items=20, sets=8, queue=8):
-        self.file, self.lent = library.File(file), library.Lent(model.Buffers.zeroed(items, sets, queue))
+    def __init__(self, file, items=20, sets=8, queue=8, units=200):
+        self.file, self.lent = library.File(file), library.Lent(forest.Buffers.spare(items, sets, queue, units))
         self.start()
 
     def start(self):
-        expect("start", library.begin(self.file, self.lent.state(), self.lent), (0, (0, 0)))
+        expect("start", library.begin(self.file, self.lent.state(), self.lent), (0, (0, 0, 0)))
 
     def token(self, token):
         return library.token(self.file, self.lent.state(), self.lent, token)[0]
@@ -28,8 +29,9 @@ class Parse:
         return library.finished(self.file, self.lent.state(), self.lent)
 
     def items(self):
+        """Origin, rule and handle of each."""
         words = self.lent.words()[0]
-        return [(words[2 * place], words[2 * place + 1]) for place in range(self.lent.state().item_count)]
+        return [tuple(words[3 * place:3 * place + 3]) for place in range(self.lent.state().item_count)]
 
     def sets(self):
         starts, items = self.lent.words()[1], self.items()

@@ -1,7 +1,7 @@
-"""The parse with the forest (02, C-17) in plain Python, and the trees of a store (C-20): for comparing, before the proved code has it.
+"""The parse with the forest (02, C-17) in plain Python, beside which the library is run; and the trees of a store (C-20).
 
-All that the forest leaves as it was is model.py's, run over these lent words: token, run, latest_set and the reports are its functions. Nodes are
-written and read by node_model.py.
+All that the forest leaves as it was is model.py's, run over these lent words: begin, token, run, latest_set and the reports are its functions. Nodes
+are written and read by node_model.py.
 """
 
 from collections import namedtuple
@@ -69,7 +69,15 @@ class Buffers(model.Buffers):
         return cls([0] * (3 * items), words.starts, words.rows, [0] * (2 * queue), [FILLER] * units)
 
     def copy(self):
-        return Buffers(self.items[:], self.starts[:], self.rows[:], self.queue[:], self.store[:])
+        return Buffers(*(words[:] for words in self.words()))
+
+    def words(self):
+        return [*super().words(), self.store]
+
+    def clear(self):
+        super().clear()
+        self.store[:self.unit_room] = [FILLER] * self.unit_room
+        return FRESH
 
     @property
     def unit_room(self):
@@ -90,14 +98,6 @@ class Buffers(model.Buffers):
 
     def step(self, grammar, state):
         return Step(grammar, state, self)
-
-
-def begin(file, state, buffers):
-    answer, _ = model.begin(file, state, buffers)
-    if answer:
-        return answer, state
-    buffers.store[:buffers.unit_room] = [FILLER] * buffers.unit_room
-    return 0, FRESH
 
 
 class Step(model.Step):
@@ -147,13 +147,18 @@ class Step(model.Step):
         return State(*state, self.used)
 
 
-take, token, run, latest_set = model.take, model.token, model.run, model.latest_set
+begin, take, token, run, latest_set = model.begin, model.take, model.token, model.run, model.latest_set
+expected, listing, latest_words, latest_records = model.expected, model.listing, model.latest_words, model.latest_records
 
 
 def finished(file, state, buffers):
     """The answer, whether it is finished, and the handle of S's Sum, all ones where it is not or refused."""
     answer, yes = model.finished(file, state, buffers)
     return answer, yes, buffers.item(state.item_count - 1).handle if yes else ALL_ONES
+
+
+def driver(data):
+    return model.driver(data, Buffers.spare(sets=model.DRIVER_SETS))
 
 
 # --------------------------------------------------------------------------------------------------- Trees of a store

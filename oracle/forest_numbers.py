@@ -1,5 +1,6 @@
 #!/usr/bin/env python3
-"""The inputs of the readings of C-17 and of what C-20 says of a store, row by row, on forest_model.py. What is wanted is written out by hand.
+"""The inputs of the readings of C-17, row by row, on the built library and on forest_model.py; and of what C-20 says of a store, on the latter. What is
+wanted is written out by hand.
 
 Each row is named by its reading. A and B are 01's grammars; units are hexadecimal.
 """
@@ -7,9 +8,11 @@ Each row is named by its reading. A and B are 01's grammars; units are hexadecim
 import sys
 from math import comb
 
+import expecting
 import forest_model as forest
+import library
 import model
-from expecting import expect, passed
+from expecting import passed
 from forest_model import Buffers, FRESH, State
 from model import GRAMMAR_A as A, GRAMMAR_B as B, RIGHT
 
@@ -24,6 +27,15 @@ FORTY = model.make_file(44, 1, [(42, 1, 43)] + [(1, x, None) for x in range(2, 4
 DOUBLING = model.make_file(7, 1, [(5, 1, 6), (1, 1, 2), (1, 2, None), (2, 3, None), (2, 4, None), (3, 0, None), (4, 0, None)])
 
 
+# Whose calls the rows are of, by name.
+ENGINES = {"library": library.OnBuffers(), "model": forest}
+engine, engine_name = None, None
+
+
+def expect(what, got, wanted):
+    expecting.expect(f"{engine_name}, {what}", got, wanted)
+
+
 def units(text):
     return [int(unit, 16) for unit in text.split()]
 
@@ -33,11 +45,11 @@ class Parse:
 
     def __init__(self, file, items=20, sets=8, queue=8, store=40):
         self.file, self.buffers = file, Buffers.spare(items, sets, queue, store)
-        answer, self.state = forest.begin(file, FRESH, self.buffers)
+        answer, self.state = engine.begin(file, FRESH, self.buffers)
         assert answer == 0
 
     def token(self, token):
-        answer, self.state = forest.token(self.file, self.state, self.buffers, token)
+        answer, self.state = engine.token(self.file, self.state, self.buffers, token)
         return answer
 
     def after(self, *tokens):
@@ -46,7 +58,7 @@ class Parse:
         return self
 
     def finished(self):
-        return forest.finished(self.file, self.state, self.buffers)
+        return engine.finished(self.file, self.state, self.buffers)
 
     def used(self):
         return self.buffers.store[:self.state.used]
@@ -62,35 +74,35 @@ def words_and_capacities():
     parse = Parse(A).after(0)
     expect("17.1 A 0: items", parse.buffers.items[:6], [0, 1, 1, 0, 0, 1])
     expect("17.1 A 0: state", parse.state, (1, 2, 3))
-    expect("17.1 A 0: the set's part", forest.latest_set(A, parse.state, parse.buffers), (0, [0, 1, 1, 0, 0, 1]))
+    expect("17.1 A 0: the set's part", engine.latest_set(A, parse.state, parse.buffers), (0, [0, 1, 1, 0, 0, 1]))
     short = Buffers([0] * 8, [], [], [0] * 3, [])
     expect("17.1 eight item words, three queue words", (short.item_room, short.queue_room), (2, 1))
     text = [0] * 32
-    answer, count = model.listing(A, parse.state, parse.buffers, text)
+    answer, count = engine.listing(A, parse.state, parse.buffers, text)
     expect("17.1 A 0: the listing", (answer, bytes(text[:count])), (0, b"2 ::= 2 * 3 @ 0\n4 ::= 2 * 5 @ 0\n"))
-    records = [0] * 2
-    expect("17.1 A 0: the records", (model.latest_records(A, parse.state, parse.buffers, records), records),
+    records = [(0, 0, 0, 0, 0)] * 2
+    expect("17.1 A 0: the records", (engine.latest_records(A, parse.state, parse.buffers, records), records),
            ((0, 2), [(1, 2, 2, 3, 0), (0, 4, 2, 5, 0)]))
 
 
 def starts():
     words = [Buffers([7] * 9, [7] * 3, [7] * 16, [7] * 4, [7] * 5), Buffers([7] * 9, [7] * 3, [7] * 16, [7] * 4, [])]
     for lent in words:
-        expect("17.2 a start", forest.begin(A, State(5, 5, 5), lent), (0, (0, 0, 0)))
+        expect("17.2 a start", engine.begin(A, State(5, 5, 5), lent), (0, (0, 0, 0)))
         expect("17.2 its words", lent.items + lent.starts + lent.rows + lent.queue, [0] * 9 + [0] * 3 + [0x15] + [0] * 15 + [0] * 4)
     expect("17.2 its units", words[0].store, units("FFFF FFFF FFFF FFFF FFFF"))
-    expect("17.2 no units: the token", forest.token(A, FRESH, words[1], 0), (14, (0, 0, 0)))
+    expect("17.2 no units: the token", engine.token(A, FRESH, words[1], 0), (14, (0, 0, 0)))
     zeros = Parse(A)
     zeros.buffers.store = [0] * 40
     expect("17.2 a store of zeros is not as a start leaves it", zeros.token(0), 4)
     no_sets = Buffers([7] * 9, [7], [7] * 16, [7] * 4, [7] * 5)
     before = no_sets.copy()
-    expect("17.2 no sets", forest.begin(A, State(5, 5, 5), no_sets), (3, (5, 5, 5)))
+    expect("17.2 no sets", engine.begin(A, State(5, 5, 5), no_sets), (3, (5, 5, 5)))
     expect("17.2 no sets: words", vars(no_sets), vars(before))
     long = Buffers.spare(3, 2, 1, 0)
     long.store = [7] * 32770
-    expect("17.2 32,770 units", (forest.begin(A, FRESH, long), long.store), ((0, (0, 0, 0)), [0xFFFF] * 32768 + [7, 7]))
-    expect("17.2 32,770 units: the token", forest.token(A, FRESH, long, 0), (0, (1, 2, 3)))
+    expect("17.2 32,770 units", (engine.begin(A, FRESH, long), long.store), ((0, (0, 0, 0)), [0xFFFF] * 32768 + [7, 7]))
+    expect("17.2 32,770 units: the token", engine.token(A, FRESH, long, 0), (0, (1, 2, 3)))
     expect("17.2 32,770 units: after it", long.store, units("8000 0102 2202") + [0xFFFF] * 32765 + [7, 7])
 
 
@@ -113,6 +125,8 @@ def order_of_refusals():
         parse = Parse(A, store=store)
         expect(f"17.4 A 0 1 0 in {store} units", [parse.token(token) for token in (0, 1, 0)],
                [14, 6, 14] if store < 3 else [0, 14, 6] if store < 4 else [0, 0, 14] if store < 13 else [0, 0, 0])
+        if 4 <= store < 13:
+            expect(f"17.4 what is left of {store} units", parse.buffers.store, units("8000 0102 2202 8001") + [0xFFFF] * (store - 4))
 
 
 def what_is_written():
@@ -138,7 +152,7 @@ def well_formed():
         for place, handle in enumerate(handles or []):
             parse.buffers.items[3 * place + 2] = handle
         state = parse.state._replace(used=state)
-        return forest.run(file, state, parse.buffers, [])[0]
+        return engine.run(file, state, parse.buffers, [])[0]
 
     expect("17.7 cut off by the used units", answer(2, "8000 4001 FFFF", after=()), 4)
     expect("17.7 not cut off", answer(3, "8000 4001 FFFF", after=()), 0)
@@ -173,22 +187,25 @@ def finished():
 
 
 def figures():
-    """At the largest capacities; where it is quick, with 256 sets too, which is as many as the driver lends."""
-    both = (model.MAX_SETS, model.DRIVER_SETS)
-    for name, file, tokens, lent, taken in [
-            ("A", A, [0, 1] * 70, both, 60),
-            ("S ::= 0 S | 0", RIGHT, [0] * 1100, both, 97),
-            ("S ::= S S | 0", DOUBLE, [0] * 100, both, 31),
-            ("B", B, [0, 1, 2] * 3000, [model.MAX_SETS], 8192),
-            ("S ::= S 0 | 0", LEFT, [0] * 9000, [model.MAX_SETS], 8192)]:
-        for sets in lent:
+    """At the largest capacities, and with 256 sets, as many as the driver lends. The model reads only those that it reads quickly."""
+    for name, file, tokens, taken in [
+            ("A", A, [0, 1] * 70, 60),
+            ("S ::= 0 S | 0", RIGHT, [0] * 1100, 97),
+            ("S ::= S S | 0", DOUBLE, [0] * 100, 31),
+            ("B", B, [0, 1, 2] * 3000, 8192),
+            ("S ::= S 0 | 0", LEFT, [0] * 9000, 8192)]:
+        for sets in (model.MAX_SETS, model.DRIVER_SETS) if engine is not forest or taken < 100 else ():
             parse = Parse(file, model.MAX_ITEMS, sets, model.MAX_QUEUE, forest.USABLE)
-            expect(f"17.14 {name}, {sets} sets", forest.run(file, parse.state, parse.buffers, tokens)[::2], (14, taken))
+            expect(f"17.14 {name}, {sets} sets", engine.run(file, parse.state, parse.buffers, tokens)[::2], (14, taken))
     triples = Parse(B, 7, 5, 1, 4799)
-    answer, state, taken = forest.run(B, triples.state, triples.buffers, [0, 1, 2] * 400)
+    answer, state, taken = engine.run(B, triples.state, triples.buffers, [0, 1, 2] * 400)
     expect("17.14 B, 400 triples, five sets, seven items, one queued", (answer, taken, state), (0, 1200, (2, 3, 4799)))
+    for sentence in range(3):  # with a start between them, without end
+        answer, state = engine.begin(B, triples.state, triples.buffers)
+        expect(f"17.14 B, a start, sentence {sentence}", (answer, state, set(triples.buffers.store)), (0, (0, 0, 0), {0xFFFF}))
+        expect(f"17.14 B, sentence {sentence} behind it", engine.run(B, state, triples.buffers, [0, 1, 2] * 400), (0, (2, 3, 4799), 1200))
     short = Parse(B, 7, 5, 1, 4798)
-    expect("17.14 B, a unit less", forest.run(B, short.state, short.buffers, [0, 1, 2] * 400)[::2], (14, 1199))
+    expect("17.14 B, a unit less", engine.run(B, short.state, short.buffers, [0, 1, 2] * 400)[::2], (14, 1199))
 
 
 def how_many_summands():
@@ -251,8 +268,8 @@ def trees():
         parse = Parse(DOUBLING, 400, 100, 50, 4000).after(*[0] * tokens)
         expect(f"20.9 doubling, {tokens} tokens", forest.count(parse.buffers.store, parse.finished()[2]), wanted)
     parse = Parse(A, 2000, 64, 1000, forest.USABLE)
-    forest_run = forest.run(A, parse.state, parse.buffers, [0, 1] * 29 + [0])
-    handle = forest.finished(A, forest_run[1], parse.buffers)[2]
+    forest_run = engine.run(A, parse.state, parse.buffers, [0, 1] * 29 + [0])
+    handle = engine.finished(A, forest_run[1], parse.buffers)[2]
     expect("02 A, 30 numbers", (forest_run[::2], forest.count(parse.buffers.store, handle)), ((0, 59), (0, comb(58, 29) // 30)))
     parse = Parse(A, 100, 20, 50, 400).after(0, 1, 0)
     older, listed = parse.finished()[2], parse.trees()
@@ -261,8 +278,11 @@ def trees():
 
 
 def main():
-    for part in (words_and_capacities, starts, order_of_refusals, what_is_written, well_formed, finished, figures, how_many_summands, forged_rows, trees):
-        part()
+    global engine, engine_name
+    for engine_name, engine in ENGINES.items():
+        for part in (words_and_capacities, starts, order_of_refusals, what_is_written, well_formed, finished, figures, how_many_summands, forged_rows):
+            part()
+    trees()
     return 0 if passed() else 1
 
 

@@ -17,7 +17,7 @@ import generate
 import model
 import node_model
 import streams
-from forest_model import Buffers, State
+from forest_model import Buffers
 from streams import Case, NO_NODE
 
 # Room for all that is read here.
@@ -42,37 +42,15 @@ def same(what, got, wanted):
 
 # ------------------------------------------------------------------------------------------------------------ Parses
 
-def random_store(rng):
-    """Units that read without a 12, and the heads of their nodes. Factors lie anywhere before."""
-    store, heads = [], []
-    for _ in range(rng.randint(1, 12)):
-        store += [node_model.FILLER] * rng.choice([0, 0, 0, 1, 3])
-        position = len(store)
-        factor = lambda: rng.randrange(position)
-        kinds = [("Evaluated", rng.randrange(5000)), ("NullingLeaf", rng.randrange(9)), ("Sum", rng.randrange(40), rng.randrange(300))]
-        if position:
-            kinds += [("Product", rng.randrange(300), factor(), rng.choice([None, factor()]))] * 3
-        heads.append(position)
-        store += node_model.units(position, rng.choice(kinds))
-    return store + [node_model.FILLER] * rng.choice([0, 0, 2]), heads
-
-
 def beginning(case, rng=None, items=ITEMS, sets=SETS, queue=QUEUE, units=UNITS):
     """The state and words at which a case begins. Without rng each item of a forged state has the leaf with its own number for a node."""
     in_hand[:] = [case.file.hex(), case.chart, case.tokens]
+    if case.chart is not None:
+        return generate.rooms_with_store(case.chart, rng, items, sets, queue, units)
     buffers = Buffers.spare(items, sets, queue, units)
-    if case.chart is None:
-        answer, state = forest.begin(case.file, forest.FRESH, buffers)
-        same("start", answer, 0)
-        return state, buffers
-    places = range(len(case.chart.items))
-    store, heads = random_store(rng) if rng else ([0x8000 for _ in places], places)
-    handles = [rng.choice(heads) if rng else place for place in places]
-    item_words = streams.flat((*item, handle) for item, handle in zip(case.chart.items, handles))
-    contents = [item_words, case.chart.starts, streams.row_words(case.chart.rows), store]
-    for words, content in zip([buffers.items, buffers.starts, buffers.rows, buffers.store], contents):
-        words[:len(content)] = content
-    return State(case.chart.set_number, len(case.chart.items), len(store)), buffers
+    answer, state = forest.begin(case.file, forest.FRESH, buffers)
+    same("start", answer, 0)
+    return state, buffers
 
 
 def some_cases(rng, forged):

@@ -9,7 +9,9 @@ More or other inputs: change the seeds or numbers in main(), or import the maker
 import os
 import random
 
+import forest_model as forest
 import model
+import node_model
 import streams
 from streams import Case, Chart, HeapCase, POP, PUSH
 
@@ -106,6 +108,33 @@ def rooms(chart, items=model.MAX_ITEMS, sets=model.MAX_SETS, queue=model.MAX_QUE
     for words, content in zip([buffers.items, buffers.starts, buffers.rows], contents):
         words[:len(content)] = content
     return model.State(chart.set_number, len(chart.items)), buffers
+
+
+def any_store(rng):
+    """Units that read without a 12, and the heads of their nodes. Factors lie anywhere before."""
+    store, heads = [], []
+    for _ in range(rng.randint(1, 12)):
+        store += [node_model.FILLER] * rng.choice([0, 0, 0, 1, 3])
+        position = len(store)
+        factor = lambda: rng.randrange(position)
+        kinds = [("Evaluated", rng.randrange(5000)), ("NullingLeaf", rng.randrange(9)), ("Sum", rng.randrange(40), rng.randrange(300))]
+        if position:
+            kinds += [("Product", rng.randrange(300), factor(), rng.choice([None, factor()]))] * 3
+        heads.append(position)
+        store += node_model.units(position, rng.choice(kinds))
+    return store + [node_model.FILLER] * rng.choice([0, 0, 2]), heads
+
+
+def rooms_with_store(chart, rng=None, items=model.MAX_ITEMS, sets=model.MAX_SETS, queue=model.MAX_QUEUE, units=node_model.USABLE):
+    """Lent words that hold a chart, with so many units to spare, and its state. Without rng each item has the leaf with its own number for a node."""
+    places = range(len(chart.items))
+    store, heads = any_store(rng) if rng else ([0x8000 for _ in places], places)
+    handles = [rng.choice(heads) if rng else place for place in places]
+    buffers = forest.Buffers.spare(items, sets, queue, len(store) + units)
+    item_words = streams.flat((*item, handle) for item, handle in zip(chart.items, handles))
+    for words, content in zip([buffers.items, buffers.starts, buffers.rows, buffers.store], [item_words, chart.starts, streams.row_words(chart.rows), store]):
+        words[:len(content)] = content
+    return forest.State(chart.set_number, len(chart.items), len(store)), buffers
 
 
 def chart_of(state, buffers):

@@ -5,11 +5,12 @@ written out by hand. The driver's inputs (12.4 to 12.7) are in tests/driver.
 
 import sys
 
+import forest_model as forest
 import library
 import model
 from by_hand import Parse, expect, passed
 
-A, RIGHT, ALL_TOKENS, CHAIN = model.GRAMMAR_A, model.RIGHT, model.ALL_TOKENS, model.CHAIN
+A, NESTED, ALL_TOKENS, CHAIN = model.GRAMMAR_A, model.NESTED, model.ALL_TOKENS, model.CHAIN
 
 
 def checks():
@@ -31,8 +32,8 @@ def rows():
 
 def started(starts, row_words):
     """What a start in words of 7 answers, and its words."""
-    lent = library.Lent(model.Buffers([7] * 8, [7] * starts, [7] * row_words, [7] * 4))
-    answer, _ = library.begin(library.File(A), model.FRESH, lent)
+    lent = library.Lent(forest.Buffers([7] * 8, [7] * starts, [7] * row_words, [7] * 4, [7] * 5))
+    answer, _ = library.begin(library.File(A), forest.FRESH, lent)
     return answer, lent
 
 
@@ -43,15 +44,15 @@ def sets():
     answer, lent = started(10, 23)
     expect("12.3 10 starts, 23 row words", (answer, lent.words()[1], lent.words()[2][16:]), (0, [0] * 3 + [7] * 7, [7] * 7))
     answer, lent = started(10, 7)
-    expect("12.3 7 row words", (answer, lent.words()), (3, [[7] * 8, [7] * 10, [7] * 7, [7] * 4]))
+    expect("12.3 7 row words", (answer, lent.words()), (3, [[7] * 8, [7] * 10, [7] * 7, [7] * 4, [7] * 5]))
 
 
 def longest_runs():
     for sets_lent, row_words, read in [("1,024 sets", 8192, 1023), ("2,048 row words", 2048, 255)]:
-        lent = library.Lent(model.Buffers([0] * 8192, [0] * 1025, [0] * row_words, [0] * 1024))
-        library.begin(library.File(RIGHT), model.FRESH, lent)
-        answer, state, taken = library.run(library.File(RIGHT), lent.state(), lent, [0] * 1100)
-        expect(f"12.8 S ::= 0 S | 0, {sets_lent}", (answer, taken, state.set_number), (9, read, read))
+        lent = library.Lent(forest.Buffers([0] * 12288, [0] * 1025, [0] * row_words, [0] * 2048, [0] * 32768))
+        library.begin(library.File(NESTED), forest.FRESH, lent)
+        answer, state, taken = library.run(library.File(NESTED), lent.state(), lent, [0] * 1100)
+        expect(f"12.8 S ::= 0 S | 1, {sets_lent}", (answer, taken, tuple(state)), (9, read, (read, read, read)))
 
 
 def reports():
@@ -63,7 +64,7 @@ def reports():
     expect("12.9 what goes on", (library.expected(parse.file, parse.lent.state(), parse.lent, tokens), tokens), ((0, 1), [208]))
     parse, tokens = Parse(ALL_TOKENS), [0] * 509
     expect("12.9 509 tokens", (library.expected(parse.file, parse.lent.state(), parse.lent, tokens), tokens), ((0, 509), list(range(509))))
-    expect("12.9 the last of them", (parse.token(508), parse.finished()), (0, (0, True)))
+    expect("12.9 the last of them", (parse.token(508), parse.finished()), (0, (0, True, 1)))
     line = b"510 ::= 509 * 511 @ 0\n"
     text = [0] * len(line)
     expect("12.9 its listing", (library.listing(parse.file, parse.lent.state(), parse.lent, text), bytes(text)), ((0, len(line)), line))

@@ -1,12 +1,12 @@
 """The built library, as Python calls: the exported functions of crate `host`, over a shared object made of the static library.
 
-Words are ctypes arrays with the length that the host lends; a state is a model.State. Each call answers as its namesake in model.py.
+Words are ctypes arrays with the length that the host lends; a state is a forest_model.State. Each call answers as its namesake in forest_model.py.
 """
 
 import ctypes
 import os
 
-import model
+import forest_model as forest
 
 HERE = os.path.dirname(os.path.abspath(__file__))
 SHARED = os.environ.get("BRINESADDLE_LIBRARY", os.path.join(os.path.dirname(HERE), "target", "staticlib", "libhost.so"))
@@ -19,8 +19,8 @@ def slice_of(word):
     return [ctypes.POINTER(word), size]
 
 
-FILE, STATE, STATE_BY_VALUE = slice_of(u8), [ctypes.POINTER(size)] * 2, [size] * 2
-WORDS = slice_of(u32) + slice_of(u32) + slice_of(u64) + slice_of(u32)
+FILE, STATE, STATE_BY_VALUE = slice_of(u8), [ctypes.POINTER(size)] * 3, [size] * 3
+WORDS = slice_of(u32) + slice_of(u32) + slice_of(u64) + slice_of(u32) + slice_of(u16)
 OUT = [ctypes.POINTER(size)]
 NODE = [ctypes.POINTER(u32)]
 
@@ -35,7 +35,7 @@ for name, parameters in {
     "start": FILE + STATE + WORDS,
     "token": FILE + STATE + WORDS + [u32],
     "run": FILE + STATE + WORDS + slice_of(u16) + OUT,
-    "finished": FILE + STATE_BY_VALUE + WORDS + [ctypes.POINTER(u32)],
+    "finished": FILE + STATE_BY_VALUE + WORDS + [ctypes.POINTER(u32)] * 2,
     "latest_set": FILE + STATE_BY_VALUE + WORDS + OUT + OUT,
     "expected": FILE + STATE_BY_VALUE + WORDS + slice_of(u16) + OUT,
     "listing": FILE + STATE_BY_VALUE + WORDS + slice_of(u8) + OUT,
@@ -56,11 +56,11 @@ def array(word, numbers):
 
 
 class Lent:
-    """The words lent to a parse, and the host's two words of its state."""
+    """The words lent to a parse, and the host's three words of its state."""
 
     def __init__(self, buffers):
-        self.parts = [array(u32, buffers.items), array(u32, buffers.starts), array(u64, buffers.rows), array(u32, buffers.queue)]
-        self.set, self.held = size(0), size(0)
+        self.parts = [array(word, words) for word, words in zip((u32, u32, u64, u32, u16), buffers.words())]
+        self.set, self.held, self.used = size(0), size(0), size(0)
 
     def words(self):
         return [made[:length] for made, length in self.parts]
@@ -69,10 +69,10 @@ class Lent:
         return [argument for part in self.parts for argument in part]
 
     def buffers(self):
-        return model.Buffers(*self.words())
+        return forest.Buffers(*self.words())
 
     def state(self):
-        return model.State(self.set.value, self.held.value)
+        return forest.State(self.set.value, self.held.value, self.used.value)
 
 
 class File:
@@ -87,8 +87,8 @@ def check(file):
 
 
 def by_reference(state, lent):
-    lent.set.value, lent.held.value = state
-    return ctypes.byref(lent.set), ctypes.byref(lent.held)
+    lent.set.value, lent.held.value, lent.used.value = state
+    return [ctypes.byref(word) for word in (lent.set, lent.held, lent.used)]
 
 
 def begin(file, state, lent):
@@ -108,10 +108,11 @@ def run(file, state, lent, tokens):
 
 
 def finished(file, state, lent):
-    yes = u32(0xBAD)
-    answer = library.brinesaddle_finished(*file.lent, *state, *lent.lent(), ctypes.byref(yes))
+    """The answer, whether it is finished, and the handle."""
+    yes, handle = u32(0xBAD), u32(0xBAD)
+    answer = library.brinesaddle_finished(*file.lent, *state, *lent.lent(), ctypes.byref(yes), ctypes.byref(handle))
     assert yes.value in (0, 1), f"finished says {yes.value}"
-    return answer, yes.value == 1
+    return answer, yes.value == 1, handle.value
 
 
 def latest_set(file, state, lent):
@@ -119,6 +120,25 @@ def latest_set(file, state, lent):
     first, count = size(0xBAD), size(0xBAD)
     answer = library.brinesaddle_latest_set(*file.lent, *state, *lent.lent(), ctypes.byref(first), ctypes.byref(count))
     return answer, first.value, count.value
+
+
+class OnBuffers:
+    """The same calls as forest_model.py has them: over a file's bytes and the model's words, which are left as the library leaves them."""
+
+    @staticmethod
+    def call(function, file, state, buffers, *more):
+        lent = Lent(buffers)
+        answer = function(File(file), state, lent, *more)
+        for words, left in zip(buffers.words(), lent.words()):
+            words[:] = left
+        return answer
+
+    def __getattr__(self, name):
+        return lambda *arguments: self.call(globals()[name], *arguments)
+
+    def latest_set(self, file, state, buffers):
+        answer, first, count = self.call(latest_set, file, state, buffers)
+        return answer, buffers.items[first:first + count]
 
 
 BEHIND = 8  # elements behind a place, which are not lent

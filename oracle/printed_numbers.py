@@ -15,7 +15,7 @@ SUM, PRODUCT, NULLING_LEAF = 0, 1, 2
 
 
 def ran(file, tokens, **rooms):
-    """What a run answers and how many tokens it took, whether it is finished, and the state."""
+    """What a run answers and how many tokens it took, whether it is finished, and the state: its set, items and units."""
     parse = Parse(file, **rooms)
     answer, state, taken = library.run(parse.file, parse.lent.state(), parse.lent, tokens)
     return answer, taken, parse.finished()[1], tuple(state)
@@ -23,20 +23,20 @@ def ran(file, tokens, **rooms):
 
 def numbers_of_a():
     one = Parse(A)
-    expect("A 0", (one.tokens([0]), one.finished(), one.items(), one.lent.set.value), ([0], (0, True), [(0, 1), (0, 0)], 1))
-    expect("A 0 1", ran(A, [0, 1]), (0, 2, False, (2, 3)))
-    expect("A 0 1 0", ran(A, [0, 1, 0]), (0, 3, True, (3, 6)))
-    expect("A 1", ran(A, [1]), (6, 0, False, (0, 0)))
-    expect("A 0 0", ran(A, [0, 0]), (6, 1, True, (1, 2)))
-    expect("A, token 2", ran(A, [2]), (5, 0, False, (0, 0)))
-    expect("A 0, I = 2", ran(A, [0], items=2), (7, 0, False, (0, 0)))
-    expect("A 0, I = 3", ran(A, [0], items=3), (0, 1, True, (1, 2)))
+    expect("A 0", (one.tokens([0]), one.finished(), one.items(), one.lent.set.value), ([0], (0, True, 1), [(0, 1, 1), (0, 0, 1)], 1))
+    expect("A 0 1", ran(A, [0, 1]), (0, 2, False, (2, 3, 4)))
+    expect("A 0 1 0", ran(A, [0, 1, 0]), (0, 3, True, (3, 6, 13)))
+    expect("A 1", ran(A, [1]), (6, 0, False, (0, 0, 0)))
+    expect("A 0 0", ran(A, [0, 0]), (6, 1, True, (1, 2, 3)))
+    expect("A, token 2", ran(A, [2]), (5, 0, False, (0, 0, 0)))
+    expect("A 0, I = 2", ran(A, [0], items=2), (7, 0, False, (0, 0, 0)))
+    expect("A 0, I = 3", ran(A, [0], items=3), (0, 1, True, (1, 2, 3)))
 
 
 def numbers_of_b():
-    expect("B 0 1 2, E = 3", ran(B, TRIPLE, sets=3), (0, 3, True, (2, 3)))
-    expect("B 0 1 2 0, E = 3", ran(B, TRIPLE + [0], sets=3), (9, 3, True, (2, 3)))
-    expect("B, 400 triples, E = 5", ran(B, TRIPLE * 400, sets=5), (0, 1200, True, (2, 3)))
+    expect("B 0 1 2, E = 3", ran(B, TRIPLE, sets=3), (0, 3, True, (2, 3, 11)))
+    expect("B 0 1 2 0, E = 3", ran(B, TRIPLE + [0], sets=3), (9, 3, True, (2, 3, 11)))
+    expect("B, 400 triples, E = 5", ran(B, TRIPLE * 400, sets=5, units=4799), (0, 1200, True, (2, 3, 4799)))
 
 
 def numbers_of_nodes():
@@ -72,7 +72,7 @@ def wide_values_read_back():
 
 
 def set_number_is_no_token_count():
-    expect("B 0 1 2: three tokens, set 2", ran(B, TRIPLE), (0, 3, True, (2, 3)))
+    expect("B 0 1 2: three tokens, set 2", ran(B, TRIPLE), (0, 3, True, (2, 3, 11)))
 
 
 def distance_above_the_position():
@@ -85,10 +85,10 @@ def no_item_twice():
     twice = model.make_file(6, 2, [(4, 2, 5), (2, 2, 3), (2, 0, None), (2, 0, None), (3, 1, 2)])
     expect("a rule twice", library.check(library.File(twice)), 2)
     ambiguous = model.make_file(4, 1, [(2, 1, 3), (1, 1, 1), (1, 0, None)])  # S ::= S S | 0
-    parse = Parse(ambiguous, items=400, sets=16, queue=200)
+    parse = Parse(ambiguous, items=400, sets=16, queue=200, units=2000)
     expect("S ::= S S | 0, ten tokens", parse.tokens([0] * 10), [0] * 10)
     for number, items in enumerate(parse.sets()):
-        expect(f"no item twice in set {number}", len(set(items)), len(items))
+        expect(f"no item twice in set {number}", len({item[:2] for item in items}), len(items))
 
 
 def main():

@@ -1,22 +1,24 @@
 #!/usr/bin/env python3
 """Replays the recorded states of the Rust on the built library, word by word: tests/replayed.
 
-After the start and after each token, accepted or not: the answer, the state, finished, where the latest set stands, and every word of
-items, starts, rows and queue, at the largest capacities. Prints for each file how many records, tokens and words were compared and how
-many words differed; fails where one of the first three is 0 or the last is not. The room and the sums of a record are left out, as the
-library does not tell them: compare.py holds the model to those.
+After the start and after each token, accepted or not: the answer, the set and the item count, finished, where the latest set stands, and every
+word of origins, rules, starts, rows and queue, at the largest capacities. Prints for each file how many records, tokens and words were compared and
+how many words differed; fails where one of the first three is 0 or the last is not. The room and the sums of a record are left out, as the
+library does not tell them: compare.py holds the model to those. Handles and units are not recorded: forests.py and differential.py compare them.
 """
 
 import os
 import sys
 from array import array
 
+import forest_model as forest
+import generate
 import library
-import model
 import streams
 
 FILES = ["states_small.txt", "states_large.txt", "states_forged.txt"]
-WORDS = [("items", "I"), ("starts", "I"), ("rows", "Q"), ("queue", "I")]  # each with its type code
+WORDS = [("origins", "I"), ("rules", "I"), ("starts", "I"), ("rows", "Q"), ("queue", "I")]  # each with its type code
+ITEM = forest.Buffers.ITEM_WORDS
 
 
 def records(name):
@@ -31,14 +33,20 @@ def records(name):
 
 def chart_words(chart):
     """The words that a chart tells, of each kind; those behind them are 0."""
-    return [streams.flat(chart.items), chart.starts, streams.row_words(chart.rows), []]
+    return [[origin for origin, _ in chart.items], [rule for _, rule in chart.items], chart.starts, streams.row_words(chart.rows), []]
+
+
+def lent_words(lent):
+    """The same of the lent words."""
+    (items, length), *others, _ = lent.parts
+    return [(array("I", items[word:length:ITEM]), length // ITEM) for word in (0, 1)] + others
 
 
 class Replay:
     """The replay of a file: the words of a parse, which serve every record, and the counts."""
 
     def __init__(self, name):
-        self.name, self.lent = name, library.Lent(model.Buffers.zeroed())
+        self.name, self.lent = name, library.Lent(forest.Buffers.spare())
         self.records = self.tokens = self.words = self.different = 0
 
     def same(self, what, words, recorded):
@@ -54,10 +62,10 @@ class Replay:
         """Compares the whole parse with a recorded chart."""
         state = self.lent.state()
         first, behind = chart.starts[-2:]
-        self.same("state", state, (chart.set_number, len(chart.items)))
-        self.same("finished", library.finished(file, state, self.lent), (0, chart.finished))
-        self.same("latest set", library.latest_set(file, state, self.lent), (0, 2 * first, 2 * (behind - first)))
-        for (what, code), (words, length), told in zip(WORDS, self.lent.parts, chart_words(chart)):
+        self.same("state", state[:2], (chart.set_number, len(chart.items)))
+        self.same("finished", library.finished(file, state, self.lent)[:2], (0, chart.finished))
+        self.same("latest set", library.latest_set(file, state, self.lent), (0, ITEM * first, ITEM * (behind - first)))
+        for (what, code), (words, length), told in zip(WORDS, lent_words(self.lent), chart_words(chart)):
             recorded = array(code, told + [0] * (length - len(told)))
             if bytes(words) == recorded.tobytes():
                 self.words += length
@@ -65,13 +73,14 @@ class Replay:
                 self.same(what, words[:length], recorded)
 
     def begin(self, file, chart):
-        """Starts a parse; where the record has a chart of its own, puts that into the cleared words."""
-        answer, _ = library.begin(file, model.FRESH, self.lent)
+        """Starts a parse; where the record has a chart of its own, puts that into the cleared words, with a leaf for each item's node."""
+        answer, _ = library.begin(file, forest.FRESH, self.lent)
         self.same("start", [answer], [0])
         if chart is not None:
-            for (words, _), told in zip(self.lent.parts, chart_words(chart)):
+            state, buffers = generate.rooms_with_store(chart, None, units=0)
+            for (words, _), told in zip(self.lent.parts, buffers.words()):
                 words[:len(told)] = told
-            self.lent.set.value, self.lent.held.value = chart.set_number, len(chart.items)
+            self.lent.set.value, self.lent.held.value, self.lent.used.value = state
 
     def record(self, case, chart, answers):
         """Replays a record: the chart before its tokens, then the answer to each. A refused token leaves the chart before it."""

@@ -27,7 +27,7 @@ def after(file, tokens, answers, **rooms):
 
 
 def with_word(parse, kind, place, word):
-    """The parse with another word among its items (0), starts (1), rows (2) or queue (3)."""
+    """The parse with another word among its items (0), starts (1), rows (2) or queue (3), or another unit (4)."""
     parse.lent.parts[kind][0][place] = word
     return parse
 
@@ -52,6 +52,7 @@ def parses():
         "A, I = 2": after(A, [0], [7], items=2),
         "A, Q = 0": after(A, [0], [8], queue=0),
         "A, E = 1": after(A, [0], [9], sets=1),
+        "A, U = 2": after(A, [0], [14], units=2),
         "ONE": Parse(ONE),
         "ONE 0": after(ONE, [0], [0]),
         "TWO": Parse(TWO),
@@ -75,6 +76,7 @@ ROWS = [
     ("11.2 no room for it", "A, I = 2", EXPECTED, 2, 0, 1, [0]),
     ("11.2 no room to queue it", "A, Q = 0", EXPECTED, 2, 0, 1, [0]),
     ("11.2 no room for a set", "A, E = 1", EXPECTED, 2, 0, 1, [0]),
+    ("11.2 no room for a node", "A, U = 2", EXPECTED, 2, 0, 1, [0]),
     ("11.3 forged", "A, row {0}", EXPECTED, 2, 0, 1, [0]),
     ("11.3 forged, a token later", "A, row {0}, 0", EXPECTED, 2, 0, 0, []),
     ("11.3 forged, the empty set", "A, row {0}, 0", LISTING, 20, 0, 0, []),
@@ -125,8 +127,8 @@ def around_the_rows(named):
     for name, row in [("A", [0, 2, 4]), ("A 0", [1, 3, 5]), ("ONE 0", [3]), ("A, row {0}", [0]), ("A, row {2, 4}", [2, 4])]:
         expect(f"row of {name}", named[name].row(), row)
     expect("11.3: A, row {2, 4}, token 0", named["A, row {2, 4}"].token(0), 6)
-    expect("11.3: A, row {0}, token 0: an empty set", named["A, row {0}, 0"].lent.state(), (1, 0))
-    expect("11.4: 0 1 0 is a sentence that goes on so", named["A 0 1 0"].finished(), (0, True))
+    expect("11.3: A, row {0}, token 0: an empty set", named["A, row {0}, 0"].lent.state(), (1, 0, 1))
+    expect("11.4: 0 1 0 is a sentence that goes on so", named["A 0 1 0"].finished(), (0, True, 10))
     expect("11.8: B after 0 1 2 is pruned", named["B 0 1 2"].lent.set.value, 2)
 
 

@@ -75,7 +75,7 @@ class Reported(Both):
 def a_parse(rng):
     """A parse from the start, in words of any size, reported on the way and behind refusals."""
     file, grammar = differential.random_file(rng)
-    parse = Reported(file, model.State(rng.randrange(5), rng.randrange(5)), differential.small_words(rng))
+    parse = Reported(file, differential.any_state(rng), differential.small_words(rng))
     if parse.begin():
         parse.filled(rng)
         return
@@ -158,7 +158,7 @@ def a_refused_file(rng):
 KINDS = [(a_parse, 41), (a_forged_state, 25), (an_ended_state, 5), (a_wide_state, 1), (a_damaged_state, 13), (a_refused_file, 15)]
 PLACES = ["empty place, too short", "empty place, nothing to tell", "empty place, refused", "one short", "exact", "longer", "longer, refused"]
 ASKED = [f"{report} {answer}" for report in REPORTS for answer in (0, 1, 2, 4, 13)] + \
-        [f"{report}: {kind}" for report in REPORTS for kind in PLACES] + [f"offered, answered {answer}" for answer in (0, 6, 7, 8, 9)]
+        [f"{report}: {kind}" for report in REPORTS for kind in PLACES] + [f"offered, answered {answer}" for answer in (0, 6, *differential.ROOM_REFUSALS)]
 RARER = ["lines of 25 bytes", "4,096 items"] + [f"damaged: {way}" for way in differential.WAYS]
 
 

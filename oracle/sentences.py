@@ -9,16 +9,18 @@ here knows of sets, items or predictions: a string is derived by taking it apart
 listed, and the listing agrees. Then large grammars, in which a string goes on with few of the tokens.
 """
 
+import ctypes
 import itertools
 import random
 import sys
 
+import forest_model as forest
 import generate
 import library
 import model
 
 # Room for all that is read here, so that no token meets a room refusal.
-ITEMS, SETS, QUEUE = 1500, 12, 300
+ITEMS, SETS, QUEUE, UNITS = 1500, 12, 300, 8000
 
 # Large grammars: of so many symbols, with up to so many rules. So many tokens are tried behind a string that are expected there, and as many
 # others.
@@ -99,8 +101,8 @@ class Library:
 
     def __init__(self, file):
         self.file = library.File(file)
-        self.lent = library.Lent(model.Buffers.zeroed(ITEMS, SETS, QUEUE))
-        answer, self.state = library.begin(self.file, model.FRESH, self.lent)
+        self.lent = library.Lent(forest.Buffers.spare(ITEMS, SETS, QUEUE, UNITS))
+        answer, self.state = library.begin(self.file, forest.FRESH, self.lent)
         assert answer == 0
 
     def mark(self):
@@ -109,14 +111,14 @@ class Library:
     def back_to(self, mark):
         self.state, words = mark
         for (part, _), content in zip(self.lent.parts, words):
-            part[:] = type(part).from_buffer_copy(content)[:]
+            ctypes.memmove(part, content, len(content))
 
     def token(self, token):
         answer, self.state = library.token(self.file, self.state, self.lent, token)
         return answer
 
     def finished(self):
-        answer, yes = library.finished(self.file, self.state, self.lent)
+        answer, yes, _ = library.finished(self.file, self.state, self.lent)
         assert answer == 0
         return yes
 

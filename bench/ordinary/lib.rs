@@ -1,9 +1,10 @@
-//! The rule reader as an ordinary Rust program: document 01's grammar check and calls on a parse, over lent words, with the same limits
-//! and refusals as the proved library. It is what that library's speed is measured against, and `bench/compare` holds it to the model.
+//! The rule reader as an ordinary Rust program: document 01's grammar check and calls on a parse, with document 02's forest, over lent words, with
+//! the same limits and refusals as the proved library. It is what that library's speed is measured against, and `bench/compare` holds it to the model.
 #![forbid(unsafe_code)]
 
 mod chart;
 mod grammar;
+mod nodes;
 mod queue;
 mod step;
 
@@ -22,13 +23,15 @@ pub enum Refusal {
     ItemsFull = 7,
     QueueFull = 8,
     SetsFull = 9,
+    StoreFull = 14,
 }
 
-/// A parse by value: the number of the latest set, and the number of items in all sets.
+/// A parse by value: the number of the latest set, the number of items in all sets, and the number of used units of the store.
 #[derive(Clone, Copy, Debug, Default, PartialEq, Eq)]
 pub struct State {
     pub set: usize,
     pub items: usize,
+    pub used: usize,
 }
 
 /// The words that the caller lends.
@@ -37,6 +40,7 @@ pub struct Words<'a> {
     pub starts: &'a mut [u32],
     pub rows: &'a mut [u64],
     pub queue: &'a mut [u32],
+    pub store: &'a mut [u16],
 }
 
 /// What a run answers: the state as it is now, the number of tokens taken, and the refusal of the next one, if any.
@@ -51,7 +55,7 @@ pub fn check(file: &[u8]) -> Result<(), Refusal> {
     Grammar::read(file).map(|_| ())
 }
 
-/// Starts a parse: clears the words, and predicts what the wrapper begins with.
+/// Starts a parse: clears the words, fills the store, and predicts what the wrapper begins with.
 pub fn start(file: &[u8], words: &mut Words) -> Result<State, Refusal> {
     let grammar = Grammar::read(file)?;
     let mut chart = Chart::within(words).ok_or(Refusal::NoSets)?;
@@ -84,17 +88,17 @@ pub fn run(file: &[u8], state: State, words: &mut Words, tokens: &[u16]) -> Ran 
     Ran { state: now, taken: tokens.len(), refusal: None }
 }
 
-/// Whether the tokens so far are a sentence.
-pub fn finished(file: &[u8], state: State, words: &mut Words) -> Result<bool, Refusal> {
+/// The handle of the start symbol's node, where the tokens so far are a sentence.
+pub fn finished(file: &[u8], state: State, words: &mut Words) -> Result<Option<u32>, Refusal> {
     let (_, chart) = open(file, state, words)?;
-    Ok(chart.set(state.set).last().is_some_and(|&[_, rule]| rule == 0))
+    Ok(chart.set(state.set).last().filter(|&&[_, rule, _]| rule == 0).map(|&[_, _, handle]| handle))
 }
 
 /// The part of the item words that holds the latest set.
 pub fn latest_set<'a>(file: &[u8], state: State, words: &'a mut Words) -> Result<&'a [u32], Refusal> {
     let (_, chart) = open(file, state, words)?;
     let places = chart.places(state.set);
-    Ok(&words.items[2 * places.start..2 * places.end])
+    Ok(&words.items[3 * places.start..3 * places.end])
 }
 
 /// The checks that every call on a running parse makes first.

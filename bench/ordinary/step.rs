@@ -1,7 +1,8 @@
 //! One token, by document 01's steps.
 
-use crate::chart::{set_order, Chart, Item};
+use crate::chart::{set_order, Chart, Entry, Item};
 use crate::grammar::{holds, unite, ByFirst, Grammar, Row, MAX_SYMBOLS, NONE, ROW_WORDS};
+use crate::nodes::{self, Units, FILLER, NO_FACTOR};
 use crate::{queue, Refusal, State};
 
 /// A token on a well-formed state. A refusal leaves the words as they were.
@@ -19,24 +20,26 @@ pub fn step(
     if !holds(&chart.rows[state.set], token) {
         return Err(Refusal::NotPredicted);
     }
-    let mut pass = Pass { grammar, by_first, chart, stored: state.items, queued: 0 };
-    let completed = pass.complete(state.set, token).and_then(|()| pass.complete_sums());
-    let Pass { stored, queued, .. } = pass;
-    let advanced = completed.and_then(|()| advance(grammar, table, chart, state, stored));
+    let mut pass = Pass { grammar, by_first, chart, stored: state.items, queued: 0, used: state.used };
+    let completed = pass.complete_token(state.set, token).and_then(|()| pass.complete_sums());
+    let Pass { stored, queued, used, .. } = pass;
+    let advanced = completed.and_then(|()| advance(grammar, table, chart, State { used, ..state }, stored));
     if advanced.is_err() {
-        chart.items[state.items..stored].fill([0; 2]);
-        chart.queue[..queued].fill(0);
+        chart.items[state.items..stored].fill([0; 3]);
+        chart.queue[..queued].fill([0; 2]);
+        chart.store[state.used..used].fill(FILLER);
     }
     advanced
 }
 
-/// Steps 2 and 3: items are stored behind those of the sets, and completed ones queued.
+/// Steps 2 and 3: items are stored behind those of the sets, completed ones queued, and nodes written behind the used units.
 struct Pass<'p, 'c> {
     grammar: &'p Grammar,
     by_first: &'p ByFirst,
     chart: &'p mut Chart<'c>,
     stored: usize,
     queued: usize,
+    used: usize,
 }
 
 impl Pass<'_, '_> {
@@ -46,16 +49,30 @@ impl Pass<'_, '_> {
         Ok(())
     }
 
-    fn enqueue(&mut self, place: usize) -> Result<(), Refusal> {
+    /// Writes a node, and answers its handle.
+    fn append(&mut self, (units, length): Units) -> Result<u32, Refusal> {
+        let (at, end) = (self.used, self.used + length);
+        self.chart.store.get_mut(at..end).ok_or(Refusal::StoreFull)?.copy_from_slice(&units[..length]);
+        self.used = end;
+        Ok(at as u32)
+    }
+
+    fn enqueue(&mut self, place: usize, right: u32) -> Result<(), Refusal> {
         if self.queued == self.chart.queue.len() {
             return Err(Refusal::QueueFull);
         }
-        queue::push(self.chart.queue, self.queued, place as u32, self.chart.items);
+        queue::push(self.chart.queue, self.queued, [place as u32, right], self.chart.items);
         self.queued += 1;
         Ok(())
     }
 
-    fn complete(&mut self, k: usize, symbol: usize) -> Result<(), Refusal> {
+    fn complete_token(&mut self, k: usize, token: usize) -> Result<(), Refusal> {
+        let link = self.append(nodes::evaluated(token as u16))?;
+        self.complete(k, token, link)
+    }
+
+    /// Completes a symbol whose node is `link`.
+    fn complete(&mut self, k: usize, symbol: usize, link: u32) -> Result<(), Refusal> {
         let row = self.chart.rows[k];
         if !holds(&row, symbol) {
             return Ok(());
@@ -67,18 +84,18 @@ impl Pass<'_, '_> {
         let count = set[from..].iter().take_while(|item| second(item) == symbol).count();
         let first = places.start + from;
         for place in first..first + count {
-            self.enqueue(place)?;
+            self.enqueue(place, link)?;
         }
         let predicted = |number: u16| holds(&row, usize::from(self.grammar.rules[usize::from(number)].left));
         for &number in self.by_first.unary(symbol) {
             if predicted(number) {
-                self.store([k as u32, u32::from(number)])?;
-                self.enqueue(self.stored - 1)?;
+                self.store([k as u32, u32::from(number), link])?;
+                self.enqueue(self.stored - 1, NO_FACTOR)?;
             }
         }
         for &number in self.by_first.binary(symbol) {
             if predicted(number) {
-                self.store([k as u32, u32::from(number)])?;
+                self.store([k as u32, u32::from(number), link])?;
             }
         }
         Ok(())
@@ -89,18 +106,27 @@ impl Pass<'_, '_> {
         if self.queued == 0 {
             return None;
         }
-        let [origin, rule] = self.chart.items[self.chart.queue[0] as usize];
-        Some((origin, self.grammar.rules[rule as usize].left))
+        Some(self.sum_of(self.chart.queue[0]))
+    }
+
+    fn sum_of(&self, [place, _]: Entry) -> (u32, u16) {
+        let [origin, rule, _] = self.chart.items[place as usize];
+        (origin, self.grammar.rules[rule as usize].left)
     }
 
     fn complete_sums(&mut self) -> Result<(), Refusal> {
         while let Some(sum) = self.next_sum() {
-            while self.next_sum() == Some(sum) {
+            let (origin, left) = sum;
+            let summands = self.chart.queue[..self.queued].iter().filter(|&&entry| self.sum_of(entry) == sum).count();
+            let link = self.append(nodes::sum(summands as u32, u32::from(left)))?;
+            for _ in 0..summands {
+                let [place, right] = self.chart.queue[0];
+                let [_, rule, handle] = self.chart.items[place as usize];
                 queue::pop(self.chart.queue, self.queued, self.chart.items);
                 self.queued -= 1;
+                self.append(nodes::product(self.used as u32, rule, handle, right))?;
             }
-            let (origin, left) = sum;
-            self.complete(origin as usize, usize::from(left))?;
+            self.complete(origin as usize, usize::from(left), link)?;
         }
         Ok(())
     }
@@ -116,8 +142,8 @@ fn advance(
 ) -> Result<State, Refusal> {
     let new = &mut chart.items[state.items..stored];
     new.sort_unstable_by_key(|&item| set_order(grammar, item));
-    let count = new.partition_point(|&[_, rule]| grammar.rules[rule as usize].second != NONE);
-    let greatest = new[..count].iter().map(|&[origin, _]| origin as usize).max().unwrap_or(state.set);
+    let count = new.partition_point(|&[_, rule, _]| grammar.rules[rule as usize].second != NONE);
+    let greatest = new[..count].iter().map(|&[origin, ..]| origin as usize).max().unwrap_or(state.set);
     let pruned = state.set - greatest > 1;
     let kept = if pruned { greatest + 1 } else { state.set };
     if kept + 1 >= chart.rows.len() {
@@ -131,10 +157,10 @@ fn advance(
         chart.rows[kept..=state.set].fill([0; ROW_WORDS]);
     }
     let end = begin + count;
-    chart.items[end..stored].fill([0; 2]);
+    chart.items[end..stored].fill([0; 3]);
     chart.starts[kept + 2] = end as u32;
-    for &[_, rule] in &chart.items[begin..end] {
+    for &[_, rule, _] in &chart.items[begin..end] {
         unite(&mut chart.rows[kept + 1], &table[usize::from(grammar.rules[rule as usize].second)]);
     }
-    Ok(State { set: kept + 1, items: end })
+    Ok(State { set: kept + 1, items: end, used: state.used })
 }

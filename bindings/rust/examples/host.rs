@@ -1,5 +1,5 @@
 //! A host in Rust: what examples/host.c does, through the safe wrapper. `tests/host` builds and runs it.
-use brinesaddle::{check, read_node, walk_nodes, write_node, Item, Node, Parse, Refusal, State, Unwritten, Words, MAX_LINE, MAX_TOKENS};
+use brinesaddle::{check, read_node, walk_nodes, write_node, Item, Node, Parse, Refusal, State, Unwritten, Words, ITEM_WORDS, MAX_LINE, MAX_TOKENS};
 use std::error::Error;
 
 /// Document 01's grammar A: S ::= S P | num, P ::= plus S.
@@ -11,13 +11,31 @@ fn number(answer: Result<(), Refusal>) -> u32 {
     answer.map_or_else(Refusal::number, |()| 0)
 }
 
-fn show(words: &mut Words, tokens: &[u16]) -> Result<State, Refusal> {
+fn show(words: &mut Words, tokens: &[u16]) -> Result<State, Box<dyn Error>> {
     let mut parse = Parse::start(&GRAMMAR, words.lend())?;
     let ran = parse.run(tokens);
-    let finished = if parse.finished()? { "yes" } else { "no" };
-    let items: String = parse.latest_set()?.chunks(2).map(|item| format!(" ({}, {})", item[0], item[1])).collect();
+    let node = parse.finished()?;
+    let finished = if node.is_some() { "yes" } else { "no" };
+    let items: String = parse.latest_set()?.chunks(ITEM_WORDS).map(|item| format!(" ({}, {}, {})", item[0], item[1], item[2])).collect();
     println!("start 0, read {}, stopped {}, finished {finished}, set {}:{items}", ran.taken, number(ran.answer), parse.state().set);
+    if let Some(handle) = node {
+        ways(parse.nodes(), handle)?;
+    }
     Ok(parse.state())
+}
+
+/// The ways to derive what is below a Sum: of each the rule, and the nodes of its symbols.
+fn ways(nodes: &[u16], handle: u32) -> Result<(), Box<dyn Error>> {
+    let Some((Node::Sum { count, nonterminal }, mut behind)) = read_node(nodes, handle as usize)? else { Err("no Sum is there")? };
+    print!("node {handle}: symbol {nonterminal}");
+    for _ in 0..count {
+        let Some((Node::Product { action, left, right }, next)) = read_node(nodes, behind)? else { Err("no Product is there")? };
+        let other = right.map_or(String::new(), |right| format!(" and node {right}"));
+        print!(", by rule {action} from node {left}{other}");
+        behind = next;
+    }
+    println!();
+    Ok(())
 }
 
 /// What support tells of a refused token: what could have stood there, and the latest set, as text and for the console as records.
@@ -35,8 +53,9 @@ fn explain(parse: &Parse) -> Result<(), Box<dyn Error>> {
 
 fn main() -> Result<(), Box<dyn Error>> {
     println!("check {}", number(check(&GRAMMAR)));
-    let mut words = Words::new(64, 16, 16);
+    let mut words = Words::new(64, 16, 16, 256);
     show(&mut words, &[0, 1, 0])?;
+    show(&mut words, &[0, 1, 0, 1, 0])?;
     let state = show(&mut words, &[0, 0])?;
     explain(&Parse::resume(&GRAMMAR, words.lend(), state))?;
     println!("token 70000: {}", number(Parse::resume(&GRAMMAR, words.lend(), state).token(70000)));

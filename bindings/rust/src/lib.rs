@@ -2,14 +2,15 @@
 //! not take. Nothing is allocated but by the caller. A call needs up to 80 KiB of stack, the one for records 120 KiB, one on nodes 512 bytes (include/brinesaddle.h).
 //!
 //! ```
-//! use brinesaddle::{Parse, Refusal, Words, MAX_TOKENS};
+//! use brinesaddle::{read_node, Node, Parse, Refusal, Words, MAX_TOKENS};
 //!
 //! // S ::= S P | num, P ::= plus S; num is token 0, plus token 1.
 //! let grammar = [1, 0, 0, 0, 35, 0, 6, 0, 2, 0, 4, 0, 4, 0, 2, 0, 5, 0, 2, 0, 2, 0, 3, 0, 2, 0, 0, 255, 255, 0, 3, 0, 1, 0, 2];
 //! let mut words = Words::largest();
 //! let mut parse = Parse::start(&grammar, words.lend())?;
 //! parse.run(&[0, 1, 0]).answer?;
-//! assert!(parse.finished()?);
+//! let node = parse.finished()?.expect("a sum is a sentence");
+//! assert_eq!(read_node(parse.nodes(), node as usize)?, Some((Node::Sum { count: 1, nonterminal: 2 }, 11)));
 //! assert_eq!(parse.token(0), Err(Refusal::NotPredicted));
 //! assert_eq!(parse.expected(&mut [0; MAX_TOKENS])?, [1]); // a plus could have stood there
 //! # Ok::<(), Box<dyn std::error::Error>>(())
@@ -23,7 +24,7 @@ mod raw;
 use std::error::Error;
 use std::{fmt, str};
 
-/// Why a call was refused: document 01's numbers 1 to 12. A refused run has taken the tokens before the refused one, and a refused walk
+/// Why a call was refused: document 01's numbers 1 to 12, and 14. A refused run has taken the tokens before the refused one, and a refused walk
 /// tells the nodes before; every other refused call leaves all as it was.
 #[derive(Clone, Copy, Debug, PartialEq, Eq)]
 #[repr(u32)]
@@ -40,10 +41,11 @@ pub enum Refusal {
     Unfit = 10,
     NoRoom = 11,
     NoNode = 12,
+    StoreFull = 14,
 }
 
 impl Refusal {
-    const ALL: [Refusal; 12] = [
+    const ALL: [Refusal; 13] = [
         Refusal::Malformed,
         Refusal::Broken,
         Refusal::NoSets,
@@ -56,6 +58,7 @@ impl Refusal {
         Refusal::Unfit,
         Refusal::NoRoom,
         Refusal::NoNode,
+        Refusal::StoreFull,
     ];
 
     /// The number of document 01.
@@ -77,6 +80,7 @@ impl Refusal {
             Refusal::Unfit => "a value is unfit for a node at its position",
             Refusal::NoRoom => "the node does not fit the store from its position",
             Refusal::NoNode => "the units at the position are no node",
+            Refusal::StoreFull => "there is no room for another node",
         }
     }
 }
@@ -91,9 +95,12 @@ impl fmt::Display for Refusal {
 impl Error for Refusal {}
 
 fn answer(number: u32) -> Result<(), Refusal> {
-    match number.checked_sub(1) {
-        None => Ok(()),
-        Some(place) => Err(Refusal::ALL[place as usize]),
+    match Refusal::ALL.into_iter().find(|refusal| refusal.number() == number) {
+        Some(refusal) => Err(refusal),
+        None => {
+            assert_eq!(number, 0, "every other answer is a refusal");
+            Ok(())
+        }
     }
 }
 
@@ -173,13 +180,22 @@ pub fn check(file: &[u8]) -> Result<(), Refusal> {
 /// The words of a row: each set has one.
 pub const ROW_WORDS: usize = 8;
 
-/// The words that a parse lives in: two an item; one a set and one more; [`ROW_WORDS`] a set; one a queue entry. More may be lent than
-/// count; words past the capacities are never touched.
+/// The words of an item: origin, rule, and the position of the node of its first symbol.
+pub const ITEM_WORDS: usize = 3;
+
+/// The words of a queue entry.
+pub const ENTRY_WORDS: usize = 2;
+
+/// The words that a parse lives in: [`ITEM_WORDS`] an item; one a set and one more; [`ROW_WORDS`] a set; [`ENTRY_WORDS`] a queue entry; and the
+/// units of its nodes. More may be lent than count; words and units past the capacities are never touched.
+///
+/// The store of nodes only grows until the next start: with a forest a parse ends at some length, refused [`Refusal::StoreFull`].
 pub struct Lent<'a> {
     pub items: &'a mut [u32],
     pub starts: &'a mut [u32],
     pub rows: &'a mut [u64],
     pub queue: &'a mut [u32],
+    pub store: &'a mut [u16],
 }
 
 /// Words of one's own.
@@ -188,21 +204,28 @@ pub struct Words {
     pub starts: Vec<u32>,
     pub rows: Vec<u64>,
     pub queue: Vec<u32>,
+    pub store: Vec<u16>,
 }
 
 impl Words {
-    /// Room for so many items, sets and queue entries.
-    pub fn new(items: usize, sets: usize, queue: usize) -> Words {
-        Words { items: vec![0; 2 * items], starts: vec![0; sets + 1], rows: vec![0; ROW_WORDS * sets], queue: vec![0; queue] }
+    /// Room for so many items, sets, queue entries and units.
+    pub fn new(items: usize, sets: usize, queue: usize, units: usize) -> Words {
+        Words {
+            items: vec![0; ITEM_WORDS * items],
+            starts: vec![0; sets + 1],
+            rows: vec![0; ROW_WORDS * sets],
+            queue: vec![0; ENTRY_WORDS * queue],
+            store: vec![0; units],
+        }
     }
 
     /// The largest capacities.
     pub fn largest() -> Words {
-        Words::new(4096, 1024, 1024)
+        Words::new(4096, 1024, 1024, 32768)
     }
 
     pub fn lend(&mut self) -> Lent<'_> {
-        Lent { items: &mut self.items, starts: &mut self.starts, rows: &mut self.rows, queue: &mut self.queue }
+        Lent { items: &mut self.items, starts: &mut self.starts, rows: &mut self.rows, queue: &mut self.queue, store: &mut self.store }
     }
 }
 
@@ -212,6 +235,7 @@ impl Words {
 pub struct State {
     pub set: usize,
     pub items: usize,
+    pub used: usize,
 }
 
 /// What a run came to: how many tokens were taken, and the first refusal if there was one. The parse stands behind the tokens taken either
@@ -249,19 +273,20 @@ pub struct Parse<'a> {
 /// A call that may write the words: grammar, state and words as all of them take these, then what is its own.
 macro_rules! write_call {
     ($call:ident, $parse:ident $(, $own:expr)*) => {{
-        let Parse { file, words: Lent { items, starts, rows, queue }, state } = $parse;
-        let (set, held) = (&mut state.set, &mut state.items);
-        let (i, s, r, q) = (items.as_mut_ptr(), starts.as_mut_ptr(), rows.as_mut_ptr(), queue.as_mut_ptr());
-        unsafe { raw::$call(file.as_ptr(), file.len(), set, held, i, items.len(), s, starts.len(), r, rows.len(), q, queue.len() $(, $own)*) }
+        let Parse { file, words: Lent { items, starts, rows, queue, store }, state: State { set, items: held, used } } = $parse;
+        let (i, s, r, q, n) = (items.as_mut_ptr(), starts.as_mut_ptr(), rows.as_mut_ptr(), queue.as_mut_ptr(), store.as_mut_ptr());
+        let (is, ss, rs, qs, ns) = (items.len(), starts.len(), rows.len(), queue.len(), store.len());
+        unsafe { raw::$call(file.as_ptr(), file.len(), set, held, used, i, is, s, ss, r, rs, q, qs, n, ns $(, $own)*) }
     }};
 }
 
 /// The same of a call that only reads them.
 macro_rules! read_call {
     ($call:ident, $parse:ident $(, $own:expr)*) => {{
-        let Parse { file, words: Lent { items, starts, rows, queue }, state } = $parse;
-        let (i, s, r, q) = (items.as_ptr(), starts.as_ptr(), rows.as_ptr(), queue.as_ptr());
-        unsafe { raw::$call(file.as_ptr(), file.len(), state.set, state.items, i, items.len(), s, starts.len(), r, rows.len(), q, queue.len() $(, $own)*) }
+        let Parse { file, words: Lent { items, starts, rows, queue, store }, state: State { set, items: held, used } } = $parse;
+        let (i, s, r, q, n) = (items.as_ptr(), starts.as_ptr(), rows.as_ptr(), queue.as_ptr(), store.as_ptr());
+        let (is, ss, rs, qs, ns) = (items.len(), starts.len(), rows.len(), queue.len(), store.len());
+        unsafe { raw::$call(file.as_ptr(), file.len(), *set, *held, *used, i, is, s, ss, r, rs, q, qs, n, ns $(, $own)*) }
     }};
 }
 
@@ -295,14 +320,21 @@ impl<'a> Parse<'a> {
         Ran { taken, answer: answer(number) }
     }
 
-    /// Whether the tokens taken since the start are a sentence.
-    pub fn finished(&self) -> Result<bool, Refusal> {
-        let mut yes = 0;
-        answer(read_call!(brinesaddle_finished, self, &mut yes))?;
-        Ok(yes == 1)
+    /// Where the tokens taken since the start are a sentence, the position of the start symbol's node: all their derivations. It stays good
+    /// until the next start.
+    pub fn finished(&self) -> Result<Option<u32>, Refusal> {
+        let (mut yes, mut handle) = (0, 0);
+        answer(read_call!(brinesaddle_finished, self, &mut yes, &mut handle))?;
+        Ok((yes == 1).then_some(handle))
     }
 
-    /// The item words of the latest set: origin and rule of each item.
+    /// The units of the nodes of all that was read since the start, for [`read_node`] and [`walk_nodes`]: as many as the state tells, or all
+    /// that there are where a forged state tells more.
+    pub fn nodes(&self) -> &[u16] {
+        &self.words.store[..self.state.used.min(self.words.store.len())]
+    }
+
+    /// The item words of the latest set: origin, rule and node of each item.
     pub fn latest_set(&self) -> Result<&[u32], Refusal> {
         let (mut first, mut count) = (0, 0);
         answer(read_call!(brinesaddle_latest_set, self, &mut first, &mut count))?;

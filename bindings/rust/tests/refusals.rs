@@ -8,8 +8,8 @@ const GRAMMAR: [u8; 35] = [
 ];
 
 /// The error of a run from the start in words of this size, and how many tokens were taken before it.
-fn run(items: usize, sets: usize, queue: usize, tokens: &[u16]) -> (usize, Refusal) {
-    let mut words = Words::new(items, sets, queue);
+fn run(items: usize, sets: usize, queue: usize, units: usize, tokens: &[u16]) -> (usize, Refusal) {
+    let mut words = Words::new(items, sets, queue, units);
     let ran = Parse::start(&GRAMMAR, words.lend()).expect("there is room for a set").run(tokens);
     (ran.taken, ran.answer.expect_err("the run is refused"))
 }
@@ -29,25 +29,37 @@ fn of_a_grammar() {
 
 #[test]
 fn of_a_parse() {
-    let none = Parse::start(&GRAMMAR, Words::new(8, 0, 8).lend()).err().expect("there is no room");
+    let none = Parse::start(&GRAMMAR, Words::new(8, 0, 8, 40).lend()).err().expect("there is no room");
     assert_eq!(text(none), "there is no room for a set (refusal 3)");
-    let mut words = Words::new(8, 8, 8);
-    let forged = Parse::resume(&GRAMMAR, words.lend(), State { set: 3, items: 9 }).finished().unwrap_err();
+    let mut words = Words::new(8, 8, 8, 40);
+    let forged = Parse::resume(&GRAMMAR, words.lend(), State { set: 3, items: 9, used: 0 }).finished().unwrap_err();
     assert_eq!(text(forged), "the state is not well formed in these words under this grammar (refusal 4)");
-    assert_eq!(text(run(8, 8, 8, &[2]).1), "the grammar has no such token (refusal 5)");
-    assert_eq!(text(run(8, 8, 8, &[1]).1), "no sentence goes on with this token (refusal 6)");
-    assert_eq!(text(run(2, 8, 8, &[0]).1), "there is no room for another item (refusal 7)");
-    assert_eq!(text(run(8, 8, 0, &[0]).1), "there is no room for another queue entry (refusal 8)");
-    assert_eq!(text(run(8, 1, 8, &[0]).1), "there is no room for another set (refusal 9)");
+    assert_eq!(text(run(8, 8, 8, 40, &[2]).1), "the grammar has no such token (refusal 5)");
+    assert_eq!(text(run(8, 8, 8, 40, &[1]).1), "no sentence goes on with this token (refusal 6)");
+    assert_eq!(text(run(2, 8, 8, 40, &[0]).1), "there is no room for another item (refusal 7)");
+    assert_eq!(text(run(8, 8, 0, 40, &[0]).1), "there is no room for another queue entry (refusal 8)");
+    assert_eq!(text(run(8, 1, 8, 40, &[0]).1), "there is no room for another set (refusal 9)");
+    assert_eq!(text(run(8, 8, 8, 2, &[0]).1), "there is no room for another node (refusal 14)");
 }
 
 #[test]
 fn a_run_keeps_the_tokens_before_the_refused_one() {
-    let mut words = Words::new(64, 16, 16);
+    let mut words = Words::new(64, 16, 16, 256);
     let mut parse = Parse::start(&GRAMMAR, words.lend()).expect("there is room");
     let ran = parse.run(&[0, 1, 0, 0]);
     assert_eq!((ran.taken, ran.answer), (3, Err(Refusal::NotPredicted)));
-    assert_eq!((parse.state().set, parse.finished()), (3, Ok(true)));
+    assert_eq!((parse.state().set, parse.finished()), (3, Ok(Some(10))));
+}
+
+#[test]
+fn a_store_that_is_full_keeps_the_tokens_before() {
+    let mut words = Words::new(64, 16, 16, 12);
+    let mut parse = Parse::start(&GRAMMAR, words.lend()).expect("there is room");
+    let ran = parse.run(&[0, 1, 0]);
+    assert_eq!((ran.taken, ran.answer, parse.finished()), (2, Err(Refusal::StoreFull), Ok(None)));
+    assert_eq!((parse.nodes(), parse.state().used), ([0x8000, 0x0102, 0x2202, 0x8001].as_slice(), 4));
+    parse.restart().expect("a start empties the store");
+    assert_eq!((parse.nodes().len(), parse.run(&[0]).answer, parse.finished()), (0, Ok(()), Ok(Some(1))));
 }
 
 /// Grammar A after "0": a plus could stand next, and the latest set has two items.
@@ -59,7 +71,7 @@ const ITEMS: [Item; 2] = [
 
 #[test]
 fn a_place_too_short_is_left_and_its_length_told() {
-    let mut words = Words::new(64, 16, 16);
+    let mut words = Words::new(64, 16, 16, 256);
     let mut parse = Parse::start(&GRAMMAR, words.lend()).expect("there is room");
     assert_eq!(parse.token(0), Ok(()));
     let too_short = |needed| Unwritten::TooShort { needed };
@@ -75,7 +87,7 @@ fn a_place_too_short_is_left_and_its_length_told() {
 
 #[test]
 fn a_place_is_filled_in_front() {
-    let mut words = Words::new(64, 16, 16);
+    let mut words = Words::new(64, 16, 16, 256);
     let mut parse = Parse::start(&GRAMMAR, words.lend()).expect("there is room");
     assert_eq!((parse.listing(&mut []), parse.latest_records(&mut [])), (Ok(""), Ok([].as_slice())));
     assert_eq!(parse.run(&[0, 0]).answer, Err(Refusal::NotPredicted));
@@ -89,8 +101,8 @@ fn a_place_is_filled_in_front() {
 
 #[test]
 fn a_report_on_a_forged_state_is_refused() {
-    let mut words = Words::new(8, 8, 8);
-    let parse = Parse::resume(&GRAMMAR, words.lend(), State { set: 3, items: 9 });
+    let mut words = Words::new(8, 8, 8, 40);
+    let parse = Parse::resume(&GRAMMAR, words.lend(), State { set: 3, items: 9, used: 0 });
     let refused = Unwritten::Refused(Refusal::IllFormed);
     assert_eq!((parse.expected(&mut []), parse.listing(&mut [])), (Err(refused), Err(refused)));
     assert_eq!((parse.latest_words(&mut []), parse.latest_records(&mut [])), (Err(refused), Err(refused)));

@@ -96,7 +96,7 @@ ending-over w from base is js l fits =
 
 -- What the steps answer and leave, where there is room and where there is none.
 module _ (rs : List Rule) (table : List (List ℕ)) (s : State) (v : Words) (to : ℕ) where
-  pub answer-done : hasRoom rs s v to ≡ true → advanceAnswer rs s v to ≡ Advanced.Done (nextState (keptOf rs s v to) v (newOf rs s v to))
+  pub answer-done : hasRoom rs s v to ≡ true → advanceAnswer rs s v to ≡ Advanced.Done (nextState (s .used) (keptOf rs s v to) v (newOf rs s v to))
   unfolding advanceAnswer
   answer-done e = rw (advanceAnswer, e) refl
 
@@ -167,7 +167,7 @@ module _ (rules : List ℕ) (count : ℕ) (table : List (List ℕ)) (s : State) 
 
         -- Where there is no room the new items are cleared.
         pub refuses : length (v .rows) / rowWords ≤ kept + 1 → {items₂ : List ℕ} → items₂ ≡ padded (length items₁) (take (itemWords * s .items) items₁)
-            → Advances rs table s v to Advanced.Refused (record { items = items₂; starts = v .starts; rows = v .rows; queue = [] })
+            → Advances rs table s v to Advanced.Refused (record { items = items₂; starts = v .starts; rows = v .rows; queue = []; store = [] })
         unfolding records.flat
         refuses l q = record {
           answer-is = sym (answer-refused rs table s v to full);
@@ -219,7 +219,7 @@ module _ (rules : List ℕ) (count : ℕ) (table : List (List ℕ)) (s : State) 
 
         -- Then they are done.
         pub advances : kept + 1 < length (v .rows) / rowWords → {t : State} {v′ : Words}
-            → Follows (s .set) m (record { items = items₁; starts = v .starts; rows = v .rows; queue = [] }) (itemsFrom items₁ (s .items) (end - s .items))
+            → Follows (s .used) (s .set) m (record { items = items₁; starts = v .starts; rows = v .rows; queue = []; store = [] }) (itemsFrom items₁ (s .items) (end - s .items))
             (predictions rs table (itemsFrom items₁ (s .items) (end - s .items))) t v′
             → Advances rs table s v to (Advanced.Done t) v′
         advances l f = record {
@@ -233,10 +233,10 @@ module _ (rules : List ℕ) (count : ℕ) (table : List (List ℕ)) (s : State) 
             some = lt-ltb (keptOf rs s v to + 1) (length (v .rows) / rowWords) (omega (arith, kept-of))
 
             v₁ : Words
-            v₁ = record { items = items₁; starts = v .starts; rows = v .rows; queue = [] }
+            v₁ = record { items = items₁; starts = v .starts; rows = v .rows; queue = []; store = [] }
 
-            state : nextState (lastKept (s .set) m) v₁ (itemsFrom items₁ (s .items) (end - s .items)) ≡ nextState (keptOf rs s v to) v new
-            state = ap₂ (λ (k : ℕ) (is : List Item). nextState k v is) (ap (lastKept (s .set)) reach) now-new
+            state : nextState (s .used) (lastKept (s .set) m) v₁ (itemsFrom items₁ (s .items) (end - s .items)) ≡ nextState (s .used) (keptOf rs s v to) v new
+            state = ap₂ (λ (k : ℕ) (is : List Item). nextState (s .used) k v is) (ap (lastKept (s .set)) reach) now-new
 
             low : startOf v (lastKept (s .set) m + 1) ≤ s .items
             low =

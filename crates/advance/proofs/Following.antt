@@ -36,11 +36,11 @@ module _ (w : List ℕ) (base : ℕ) (is : List Item) (fits : itemWords * (base 
   front : length (take (itemWords * base) w) ≡ itemWords * base
   front = length-take-le (itemWords * base) w (omega arith)
 
-  used : length (take (itemWords * base) w ++ flat is) ≡ itemWords * (base + length is)
-  used = omega (arith, length-append (take (itemWords * base) w) (flat is), front, flat-length is)
+  taken : length (take (itemWords * base) w ++ flat is) ≡ itemWords * (base + length is)
+  taken = omega (arith, length-append (take (itemWords * base) w) (flat is), front, flat-length is)
 
   pub ending-length : length (ending w base is) ≡ length w
-  ending-length = padded-length (length w) (take (itemWords * base) w ++ flat is) (omega (arith, used))
+  ending-length = padded-length (length w) (take (itemWords * base) w ++ flat is) (omega (arith, taken))
 
   -- They stand at their places ..
   pub ending-at : (q : ℕ) → q < length is → itemAt (ending w base is) (base + q) ≡ getD is q noItem
@@ -48,6 +48,7 @@ module _ (w : List ℕ) (base : ℕ) (is : List Item) (fits : itemWords * (base 
       item-eq (ending w base is) (take (itemWords * base) w ++ flat is) (base + q) (base + q)
       (padded-word (length w) (take (itemWords * base) w ++ flat is) (itemWords * (base + q)))
       (padded-word (length w) (take (itemWords * base) w ++ flat is) (itemWords * (base + q) + 1))
+      (padded-word (length w) (take (itemWords * base) w ++ flat is) (itemWords * (base + q) + 2))
       ∙ behind-words (take (itemWords * base) w) (flat is) base q front
       ∙ ap (λ (x : List ℕ). itemAt x q) (sym (append-nil (flat is)))
       ∙ item-of-flat is [] q noItem l
@@ -63,7 +64,7 @@ module _ (w : List ℕ) (base : ℕ) (is : List Item) (fits : itemWords * (base 
       ∙ getD-take (itemWords * base) w i 0 l
 
   pub ending-behind : (i : ℕ) → itemWords * (base + length is) ≤ i → getD (ending w base is) i 0 ≡ 0
-  ending-behind i l = padded-word (length w) (take (itemWords * base) w ++ flat is) i ∙ List·getD-eq-default (take (itemWords * base) w ++ flat is) 0 {n = i} (omega (arith, used))
+  ending-behind i l = padded-word (length w) (take (itemWords * base) w ++ flat is) i ∙ List·getD-eq-default (take (itemWords * base) w ++ flat is) 0 {n = i} (omega (arith, taken))
 
 -- A row put behind rows that have 0 behind them.
 module _ (width size : ℕ) (rows : List ℕ) (k : ℕ) (long : length rows ≡ width * k) (fits : width * k + width ≤ size) where
@@ -126,7 +127,7 @@ module _ (rules : List ℕ) (count : ℕ) (table : List (List ℕ)) (e : ℕ) (i
   new = itemsFrom items from (to - from)
 
   abbrev v : Words
-  v = record { items = items; starts = starts; rows = rows; queue = [] }
+  v = record { items = items; starts = starts; rows = rows; queue = []; store = [] }
 
   many : length new ≡ to - from
   many = items-count items from (to - from)
@@ -180,11 +181,11 @@ module _ (rules : List ℕ) (count : ℕ) (table : List (List ℕ)) (e : ℕ) (i
     starts-long = ap length (p .starts-are) ∙ padded-length (length starts) (take (lastKept e m + 2) starts) (omega (arith, length-take (lastKept e m + 2) starts))
 
     -- So they follow the sets that are kept.
-    pub follows : {rows₂ : List ℕ} → rows₂ ≡ withRow rowWords rows₁ (kept + 1) (predictions rs table (itemsFrom items₁ start (start + (to - from) - start)))
-        → Follows e m v new (predictions rs table new) (record { set = kept + 1; items = start + (to - from) })
-        (record { items = items₁; starts = set starts₁ (kept + 2) (start + (to - from)); rows = rows₂; queue = [] })
-    follows r = record {
-      state-is = λ i. record { set = sets i; items = counts i };
+    pub follows : (used : ℕ) {rows₂ : List ℕ} → rows₂ ≡ withRow rowWords rows₁ (kept + 1) (predictions rs table (itemsFrom items₁ start (start + (to - from) - start)))
+        → Follows used e m v new (predictions rs table new) (record { set = kept + 1; items = start + (to - from); used = used })
+        (record { items = items₁; starts = set starts₁ (kept + 2) (start + (to - from)); rows = rows₂; queue = []; store = [] })
+    follows used r = record {
+      state-is = λ i. record { set = sets i; items = counts i; used = used };
       items-are = p .items-are ∙ ap (λ (b : ℕ). ending items b new) (p .start-is);
       starts-are =
           ap₂ (λ (x : List ℕ) (n : ℕ). set x n (start + (to - from))) (p .starts-are) at

@@ -9,11 +9,12 @@ use Rattle.laws.specs.Bits.{wordBits, bit, Below, rowOf}
 use Rattle.laws.proofs.Bits.{zeros-hold}
 use Rattle.laws.proofs.Lists.{zeros-word}
 use Rattle.bits.specs.Width.{rowWords}
-use Rattle.item.specs.Item.{Item, itemWords, itemAt}
+use Rattle.item.specs.Item.{Item, itemWords, itemAt, handleAt}
 use Rattle.grammar.specs.Rules.{Rule, none}
 use Rattle.parse.specs.declared.State.{State}
 use Rattle.parse.specs.Words.{Words, startOf}
-use Rattle.parse.specs.WellFormed.{secondOf, placing, Fits, InSet, WellFormed}
+use Rattle.parse.specs.Heads.{Meets}
+use Rattle.parse.specs.WellFormed.{secondOf, placing, Fits, InSet, usedUnits, WellFormed}
 use Rattle.advance.specs.inner.Order.{All}
 use Rattle.advance.specs.inner.Advances.{withoutNew}
 use Rattle.advance.specs.Advance.{highest, greatestOrigin, lastKept, nextState, nextWords}
@@ -47,11 +48,12 @@ unfolding greatestOrigin
 greatest-above e [] = All.empty
 greatest-above e (i ∷ is) = highest-above (i ∷ is)
 
--- An item that may become one of the set behind set `e`.
-pub record Newcomer (rs : List Rule) (e : ℕ) (i : Item) : Type 0 where
+-- An item that may become one of the set behind set `e`, its handle the head of a node that reading the units meets.
+pub record Newcomer (rs : List Rule) (e : ℕ) (units : List ℕ) (i : Item) : Type 0 where
   pub origin-low : i .origin ≤ e
   pub is-rule : i .rule < length rs
   pub has-second : secondOf rs i ≡ none → ⊥
+  pub met : Meets units (i .handle) 0
 
 -- What is asked of new items, and of their row.
 pub record Keepable (n : ℕ) (rs : List Rule) (s : State) (v : Words) (new : List Item) (row : List ℕ) : Type 0 where
@@ -59,7 +61,7 @@ pub record Keepable (n : ℕ) (rs : List Rule) (s : State) (v : Words) (new : Li
   pub starts-fit : length (v .starts) ≡ length (v .rows) / rowWords + 1
   pub items-fit : itemWords * (s .items + length new) ≤ length (v .items)
   pub set-fits : lastKept (s .set) (greatestOrigin (s .set) new) + 1 < length (v .rows) / rowWords
-  pub new-fit : All (Newcomer rs (s .set)) new
+  pub new-fit : All (Newcomer rs (s .set) (usedUnits s v)) new
   pub new-rise : Rises rs new
   pub row-wide : length row ≡ rowWords
   pub row-below : Below n row
@@ -78,13 +80,13 @@ module _ (n : ℕ) (rs : List Rule) (s : State) (v : Words) (new : List Item) (r
   base = startOf v (kept + 1)
 
   abbrev t : State
-  t = nextState kept v new
+  t = nextState (s .used) kept v new
 
   abbrev u : Words
   u = nextWords e m v new row
 
   m-low : m ≤ e
-  m-low = greatest-below e (all-map (λ (i : Item) (f : Newcomer rs e i). f .origin-low) (h .new-fit))
+  m-low = greatest-below e (all-map (λ (i : Item) (f : Newcomer rs e (usedUnits s v) i). f .origin-low) (h .new-fit))
 
   m-below : m ≤ kept
   m-below = elim (decLt 1 (e - m)) [ yes a ↦ omega (arith, kept-pruned e m a) | no a ↦ omega (arith, kept-all e m (omega arith), m-low) ]
@@ -109,7 +111,7 @@ module _ (n : ℕ) (rs : List Rule) (s : State) (v : Words) (new : List Item) (r
   item-before : (p : ℕ) → p < base → itemAt (u .items) p ≡ itemAt (withoutNew s v .items) p
   item-before p l =
       item-kept movable p l
-      ∙ sym (item-eq (withoutNew s v .items) (v .items) p p (word (itemWords * p) (omega arith)) (word (itemWords * p + 1) (omega arith)))
+      ∙ sym (item-eq (withoutNew s v .items) (v .items) p p (word (itemWords * p) (omega arith)) (word (itemWords * p + 1) (omega arith)) (word (itemWords * p + 2) (omega arith)))
     where
       word : (i : ℕ) → i < itemWords * base → getD (withoutNew s v .items) i 0 ≡ getD (v .items) i 0
       word i b = ending-before (v .items) (s .items) [] (omega (arith, h .items-fit)) i (omega (arith, base-low))
@@ -179,11 +181,21 @@ module _ (n : ℕ) (rs : List Rule) (s : State) (v : Words) (new : List Item) (r
         rises-at rs (h .new-rise) (p - base) (omega (arith, in-new k (p + 1) l j .1)),
       )
 
+  -- The handle of an item of a kept set was met before, and that of a new one is.
+  handle-old : (p : ℕ) → p < base → Meets (usedUnits s v) (handleAt (u .items) p) 0
+  handle-old p l =
+      subst (λ (i : Item). Meets (usedUnits s v) (i .handle) 0) (sym (item-before p l)) (h .sets .handles p (omega (arith, base-low)))
+
+  handle-new : (p : ℕ) → base ≤ p → p < base + length new → Meets (usedUnits s v) (handleAt (u .items) p) 0
+  handle-new p a b =
+      subst (λ (i : Item). Meets (usedUnits s v) (i .handle) 0) (sym (new-at p a b)) (all-at (h .new-fit) (p - base) (omega arith) .met)
+
   -- The state is well formed again.
   pub well-formed-again : WellFormed n rs t u
   well-formed-again = record {
     set-fits = omega (arith, h .set-fits, moved-sizes movable .rows);
     items-fit = omega (arith, room, moved-sizes movable .items);
+    units-fit = h .sets .units-fit;
     first-start = start-kept movable 0 (omega arith) ∙ h .sets .first-start;
     second-start = start-kept movable 1 (omega arith) ∙ h .sets .second-start;
     never-falls = λ k l. elim (decLt k (kept + 1)) [
@@ -212,4 +224,7 @@ module _ (n : ℕ) (rs : List Rule) (s : State) (v : Words) (new : List Item) (r
     spare-starts = λ i l. start-spare movable i (omega arith);
     spare-rows = λ i l. row-spare movable i (omega arith);
     spare-queue = λ i. zeros-word (length (v .queue)) i;
+    spare-units = h .sets .spare-units;
+    reads = h .sets .reads;
+    handles = λ p l. elim (decLt p base) [ yes a ↦ handle-old p a | no a ↦ handle-new p (omega arith) l ];
   }

@@ -1,5 +1,5 @@
 -- The words behind a step: what steps 5 and 6 keep of them, and where the new set stands.
-use mathlib.Core.Path.{_≡_, sym, ap, ap₂, _∙_}
+use mathlib.Core.Path.{_≡_, refl, sym, ap, ap₂, _∙_}
 use mathlib.Core.List.{List, [], _∷_, _++_}
 use Prim.Native.Nat.{ℕ, _+_, _-_, _*_, _/_, _≤_, _<_}
 use native.Mathlib.Decide.{decLt}
@@ -67,6 +67,7 @@ module _ {s : State} {v : Words} {m : ℕ} {new : List Item} {row : List ℕ} (h
       item-eq (u .items) (v .items) p p
       (ending-before (v .items) base new (h .items-fit) (itemWords * p) (omega arith))
       (ending-before (v .items) base new (h .items-fit) (itemWords * p + 1) (omega arith))
+      (ending-before (v .items) base new (h .items-fit) (itemWords * p + 2) (omega arith))
 
   -- and the new items stand behind them.
   pub item-new : (q : ℕ) → q < length new → itemAt (u .items) (base + q) ≡ getD new q noItem
@@ -151,4 +152,5 @@ module _ {s : State} {v : Words} {m : ℕ} {new : List Item} {row : List ℕ} (h
         padded-length (length (v .rows)) (keptRows e m (v .rows) ++ row)
         (omega (arith, rows-used, h .set-fits));
     queue = length-replicate (length (v .queue)) 0;
+    store = refl;
   }

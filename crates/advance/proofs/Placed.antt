@@ -6,13 +6,13 @@ use native.Mathlib.Decide.{decLt, ℕ-discrete}
 use native.Mathlib.Omega.{arith}
 use lib.ListN.{length, getD, set, take, drop, length-append, length-drop, length-set, List·getD-append}
 use lib.Seq.{ext-getD, length-take-le, getD-take, getD-drop, getD-append-add, getD-set-same, getD-set-other, getD-at, take-at}
-use Rattle.item.specs.Item.{Item, itemWords, itemAt, originAt, ruleAt, flat, stored}
+use Rattle.item.specs.Item.{Item, itemWords, itemAt, originAt, ruleAt, handleAt, flat, stored}
 use Rattle.item.proofs.Words.{flat-length, item-of-flat, stored-length, stored-other, stored-item, stored-item-other}
 use Rattle.advance.specs.NewItems.{itemsFrom, placed}
 
 -- What stands for an item where there is none.
 abbrev pub noItem : Item
-noItem = record { origin = 0; rule = 0 }
+noItem = record { origin = 0; rule = 0; handle = 0 }
 
 -- As many as the count says.
 pub items-count : (words : List ℕ) (from n : ℕ) → length (itemsFrom words from n) ≡ n
@@ -35,12 +35,14 @@ items-are words from is h =
     (λ q l. items-at words from (length is) q (omega (arith, items-count words from (length is))) ∙ h q (omega (arith, items-count words from (length is))))
 
 -- An item is its words.
-pub item-eq : (words words′ : List ℕ) (p p′ : ℕ) → originAt words p ≡ originAt words′ p′ → ruleAt words p ≡ ruleAt words′ p′ → itemAt words p ≡ itemAt words′ p′
-item-eq words words′ p p′ a b = λ k. record { origin = a k; rule = b k }
+pub item-eq : (words words′ : List ℕ) (p p′ : ℕ) → originAt words p ≡ originAt words′ p′ → ruleAt words p ≡ ruleAt words′ p′
+    → handleAt words p ≡ handleAt words′ p′ → itemAt words p ≡ itemAt words′ p′
+item-eq words words′ p p′ a b c = λ k. record { origin = a k; rule = b k; handle = c k }
 
 -- Behind other words the places go on.
 pub behind-words : (front words : List ℕ) (from q : ℕ) → length front ≡ itemWords * from → itemAt (front ++ words) (from + q) ≡ itemAt words q
-behind-words front words from q e = item-eq (front ++ words) words (from + q) q (at (itemWords * q) (omega arith)) (at (itemWords * q + 1) (omega arith))
+behind-words front words from q e =
+    item-eq (front ++ words) words (from + q) q (at (itemWords * q) (omega arith)) (at (itemWords * q + 1) (omega arith)) (at (itemWords * q + 2) (omega arith))
   where
     at : (j : ℕ) {i : ℕ} → i ≡ length front + j → getD (front ++ words) i 0 ≡ getD words j 0
     at j e′ = ap (λ (k : ℕ). getD (front ++ words) k 0) e′ ∙ getD-append-add front words j 0
@@ -87,19 +89,24 @@ module _ (words : List ℕ) (from to : ℕ) (is : List Item) (runs : from ≤ to
       inside : (q : ℕ) → q < length is → itemAt words′ (from + q) ≡ itemAt (placed words from to is) (from + q)
       inside q l = at q l ∙ sym (placed-at q l)
 
-      half : (i : ℕ) → itemWords * from ≤ i → i < itemWords * to → Dec (i % 2 ≡ 0) → getD words′ i 0 ≡ getD (placed words from to is) i 0
-      half i a b (yes even) =
-          let q : ℕ = i / 2 - from in
+      -- A word of the stretch is the first, the second or the third of an item.
+      part : (i : ℕ) → itemWords * from ≤ i → i < itemWords * to → Dec (i % itemWords ≡ 0) → Dec (i % itemWords ≡ 1) → getD words′ i 0 ≡ getD (placed words from to is) i 0
+      part i a b (yes first) d =
+          let q : ℕ = i / itemWords - from in
           let i-is : i ≡ itemWords * (from + q) = omega arith in
           ap (λ (k : ℕ). getD words′ k 0) i-is ∙ ap (λ (j : Item). j .origin) (inside q (omega arith)) ∙ ap (λ (k : ℕ). getD (placed words from to is) k 0) (sym i-is)
-      half i a b (no odd) =
-          let q : ℕ = i / 2 - from in
+      part i a b (no n) (yes second) =
+          let q : ℕ = i / itemWords - from in
           let i-is : i ≡ itemWords * (from + q) + 1 = omega arith in
           ap (λ (k : ℕ). getD words′ k 0) i-is ∙ ap (λ (j : Item). j .rule) (inside q (omega arith)) ∙ ap (λ (k : ℕ). getD (placed words from to is) k 0) (sym i-is)
+      part i a b (no n) (no m) =
+          let q : ℕ = i / itemWords - from in
+          let i-is : i ≡ itemWords * (from + q) + 2 = omega arith in
+          ap (λ (k : ℕ). getD words′ k 0) i-is ∙ ap (λ (j : Item). j .handle) (inside q (omega arith)) ∙ ap (λ (k : ℕ). getD (placed words from to is) k 0) (sym i-is)
 
       word : (i : ℕ) → Dec (i < itemWords * from) → Dec (i < itemWords * to) → getD words′ i 0 ≡ getD (placed words from to is) i 0
       word i (yes l) d = below i l ∙ sym (placed-below i l)
-      word i (no n) (yes l) = half i (omega arith) l (ℕ-discrete (i % 2) 0)
+      word i (no n) (yes l) = part i (omega arith) l (ℕ-discrete (i % itemWords) 0) (ℕ-discrete (i % itemWords) 1)
       word i (no n) (no m) = above i (omega arith) ∙ sym (placed-above i (omega arith))
 
   -- The items of the stretch are they.
@@ -112,8 +119,8 @@ pub placed-stored : (words : List ℕ) (from to : ℕ) (is : List Item) → from
 placed-stored words from to is runs there long q i l =
     placed-ext words from to (set is q i) runs there (length-set is q i ∙ long) (stored old (from + q) i)
     (stored-length old (from + q) i ∙ whole)
-    (λ k h. stored-other old (from + q) i k (λ e. omega arith) (λ e. omega arith) ∙ placed-below words from to is runs there long k h)
-    (λ k h. stored-other old (from + q) i k (λ e. omega arith) (λ e. omega arith) ∙ placed-above words from to is runs there long k h)
+    (λ k h. stored-other old (from + q) i k (λ e. omega arith) (λ e. omega arith) (λ e. omega arith) ∙ placed-below words from to is runs there long k h)
+    (λ k h. stored-other old (from + q) i k (λ e. omega arith) (λ e. omega arith) (λ e. omega arith) ∙ placed-above words from to is runs there long k h)
     (λ r h. at r h (ℕ-discrete r q))
   where
     old : List ℕ
@@ -165,8 +172,8 @@ pub placed-more : (words : List ℕ) (from to : ℕ) (is : List Item) (i : Item)
 placed-more words from to is i runs there long =
     placed-ext words from (to + 1) (is ++ (i ∷ [])) (omega arith) there (omega (arith, length-append is (i ∷ []))) (stored old to i)
     (stored-length old to i ∙ whole)
-    (λ k h. stored-other old to i k (λ e. omega arith) (λ e. omega arith) ∙ placed-below words from to is runs (omega arith) long k h)
-    (λ k h. stored-other old to i k (λ e. omega arith) (λ e. omega arith) ∙ placed-above words from to is runs (omega arith) long k (omega arith))
+    (λ k h. stored-other old to i k (λ e. omega arith) (λ e. omega arith) (λ e. omega arith) ∙ placed-below words from to is runs (omega arith) long k h)
+    (λ k h. stored-other old to i k (λ e. omega arith) (λ e. omega arith) (λ e. omega arith) ∙ placed-above words from to is runs (omega arith) long k (omega arith))
     (λ q h. at q (decLt q (length is)) (omega (arith, length-append is (i ∷ []))))
   where
     old : List ℕ

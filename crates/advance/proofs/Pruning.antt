@@ -109,7 +109,7 @@ module _ (w : List ℕ) (from to base : ℕ) (low : base ≤ from) (runs : from 
       are =
           e
           ∙ ap₂ (λ (x : List ℕ) (i : Item). stored x (base + q) i) (s .are)
-          (item-eq words w (from + q) (from + q) (behind (itemWords * (from + q)) (omega arith)) (behind (itemWords * (from + q) + 1) (omega arith)))
+          (item-eq words w (from + q) (from + q) (behind (itemWords * (from + q)) (omega arith)) (behind (itemWords * (from + q) + 1) (omega arith)) (behind (itemWords * (from + q) + 2) (omega arith)))
           ∙ placed-more w base (base + q) (itemsFrom w from q) (itemAt w (from + q)) (omega arith) (omega (arith, s .few)) long
           ∙ ap₂ (placed w base) at (sym (items-more w from q) ∙ ap (itemsFrom w from) one);
     }

@@ -11,8 +11,8 @@ use Rattle.laws.specs.Bits.{Below}
 use Rattle.laws.specs.Records as records
 use Rattle.laws.proofs.Bits.{union-below}
 use Rattle.bits.specs.Width.{rowWords}
-use Rattle.item.specs.Item.{Item, itemWords, itemAt, originAt}
-use Rattle.item.proofs.Order.{Words as U32}
+use Rattle.item.specs.Item.{Item, itemWords, itemAt, originAt, ruleAt, handleAt}
+use Rattle.item.proofs.Order.{Words as U32, Alike}
 use Rattle.grammar.specs.Rules.{Rule, none}
 use Rattle.grammar.specs.Accepted.{maxSymbols}
 use Rattle.grammar.specs.inner.Decoded.{secondIn, rulesIn}
@@ -20,7 +20,8 @@ use Rattle.grammar.proofs.Decoding.{in-count}
 use Rattle.parse.specs.declared.State.{State}
 use Rattle.parse.specs.inner.Parts.{Clear}
 use Rattle.parse.specs.Words.{Words, maxItems, maxSets, padded}
-use Rattle.parse.specs.WellFormed.{secondOf, WellFormed}
+use Rattle.parse.specs.Heads.{Meets}
+use Rattle.parse.specs.WellFormed.{secondOf, usedUnits, WellFormed}
 use Rattle.advance.specs.declared.Advanced.{Advanced}
 use Rattle.advance.specs.NewItems.{itemsFrom, sorted, binary}
 use Rattle.advance.specs.inner.Order.{All, Stored}
@@ -69,7 +70,25 @@ ready n rules count table s v to w fit held room origins c seconds shape = recor
   shape = shape;
 }
 
--- The steps touch no queue: what they ask and leave of the words without it says all of the words with an empty one.
+-- The used units are not asked for.
+pub ready-used : (rules : List ℕ) (count : ℕ) (table : List (List ℕ)) (s : State) (used : ℕ) (v : Words) (to : ℕ) → Advanceable rules count table s v to
+    → Advanceable rules count table (record { set = s .set; items = s .items; used = used }) v to
+ready-used rules count table s used v to h = record {
+  set-fits = h .set-fits;
+  starts-fit = h .starts-fit;
+  never-falls = h .never-falls;
+  last-start = h .last-start;
+  new = h .new;
+  room = h .room;
+  origins = h .origins;
+  spare-items = h .spare-items;
+  spare-starts = h .spare-starts;
+  spare-rows = h .spare-rows;
+  seconds = h .seconds;
+  shape = h .shape;
+}
+
+-- The steps touch neither queue nor store: what they ask and leave of the words without them says all of the words with an empty queue.
 module _ (rules : List ℕ) (count : ℕ) (table : List (List ℕ)) (s : State) (v : Words) (to : ℕ) where
   abbrev part : Words
   part = lent (v .items) (v .starts) (v .rows)
@@ -93,7 +112,7 @@ module _ (rules : List ℕ) (count : ℕ) (table : List (List ℕ)) (s : State) 
   pub advances-whole : (r : Advanced) (items starts rows : List ℕ) → Clear (v .queue) 0
       → Advances (rulesIn rules count) table s part to r (lent items starts rows)
       → (r ≡ advanceAnswer (rulesIn rules count) s v to)
-      × (_≡_ {A = Words} (record { items = items; starts = starts; rows = rows; queue = v .queue }) (advanceWords (rulesIn rules count) table s v to))
+      × (_≡_ {A = Words} (record { items = items; starts = starts; rows = rows; queue = v .queue; store = v .store }) (advanceWords (rulesIn rules count) table s v to))
   advances-whole r items starts rows c a = by-room (hasRoom rs s v to) refl
     where
       rs : List Rule
@@ -104,21 +123,21 @@ module _ (rules : List ℕ) (count : ℕ) (table : List (List ℕ)) (s : State) 
           let whole : length (v .queue) - 0 ≡ length (v .queue) = omega arith in
           clear-padded (v .queue) 0 (omega arith) c ∙ ap (λ (n : ℕ). replicate n 0) whole
 
-      words : {x y : Words} → x .items ≡ y .items → x .starts ≡ y .starts → x .rows ≡ y .rows → x .queue ≡ y .queue → x ≡ y
-      words p q i j = λ k. record { items = p k; starts = q k; rows = i k; queue = j k }
+      words : {x y : Words} → x .items ≡ y .items → x .starts ≡ y .starts → x .rows ≡ y .rows → x .queue ≡ y .queue → x .store ≡ y .store → x ≡ y
+      words p q i j o = λ k. record { items = p k; starts = q k; rows = i k; queue = j k; store = o k }
 
       by-room : (b : Bool) → hasRoom rs s v to ≡ b
-          → (r ≡ advanceAnswer rs s v to) × (_≡_ {A = Words} (record { items = items; starts = starts; rows = rows; queue = v .queue }) (advanceWords rs table s v to))
+          → (r ≡ advanceAnswer rs s v to) × (_≡_ {A = Words} (record { items = items; starts = starts; rows = rows; queue = v .queue; store = v .store }) (advanceWords rs table s v to))
       by-room true e =
           let same = words-done rs table s part to e in (
             a .answer-is ∙ answer-done rs table s part to e ∙ sym (answer-done rs table s v to e),
-            words (a .items-are ∙ ap (λ (x : Words). x .items) same) (a .starts-are ∙ ap (λ (x : Words). x .starts) same) (a .rows-are ∙ ap (λ (x : Words). x .rows) same) empty
+            words (a .items-are ∙ ap (λ (x : Words). x .items) same) (a .starts-are ∙ ap (λ (x : Words). x .starts) same) (a .rows-are ∙ ap (λ (x : Words). x .rows) same) empty refl
                 ∙ sym (words-done rs table s v to e),
           )
       by-room false e =
           let same = words-refused rs table s part to e in (
             a .answer-is ∙ answer-refused rs table s part to e ∙ sym (answer-refused rs table s v to e),
-            words (a .items-are ∙ ap (λ (x : Words). x .items) same) (a .starts-are ∙ ap (λ (x : Words). x .starts) same) (a .rows-are ∙ ap (λ (x : Words). x .rows) same) refl
+            words (a .items-are ∙ ap (λ (x : Words). x .items) same) (a .starts-are ∙ ap (λ (x : Words). x .starts) same) (a .rows-are ∙ ap (λ (x : Words). x .rows) same) refl refl
                 ∙ sym (words-refused rs table s v to e),
           )
 
@@ -139,17 +158,18 @@ unfolding binary
 binary-rises rs Rises.empty = Rises.empty
 binary-rises rs (Rises.also {i} {is} a r) = binary-cases rs (Rises rs) i is (λ e. binary-rises rs r) (λ n. Rises.also (binary-all rs a) (binary-rises rs r))
 
--- What step 3 gives beside that: the new items are distinct.
+-- What step 3 gives beside that: the new items differ in origin or rule.
 pub record Distinct (w : List ℕ) (from to : ℕ) : Type 0 where
-  pub differ : (p q : ℕ) → from ≤ p → p < q → q < to → itemAt w p ≡ itemAt w q → ⊥
+  pub differ : (p q : ℕ) → from ≤ p → p < q → q < to → originAt w p ≡ originAt w q → ruleAt w p ≡ ruleAt w q → ⊥
 
--- The items of a stretch whose places hold different items differ.
+-- The items of such a stretch differ.
 items-differ : (w : List ℕ) (from n : ℕ) → Distinct w from (from + n) → Differ (itemsFrom w from n)
 unfolding itemsFrom
 items-differ w from zero h = Differ.empty
 items-differ w from (suc n) h =
     Differ.also
-    (items-all (λ (j : Item). itemAt w from ≡ j → ⊥) w (from + 1) n (λ q a b. h .differ from q (omega arith) (omega arith) (omega arith)))
+    (items-all (λ (j : Item). Alike (itemAt w from) j → ⊥) w (from + 1) n
+    (λ q a b e. h .differ from q (omega arith) (omega arith) (omega arith) (e .origins) (e .rules)))
     (items-differ w (from + 1) n (record { differ = λ p q a b c. h .differ p q (omega arith) b (omega arith) }))
 
 -- The new row has no bit that the table's rows have not.
@@ -163,6 +183,7 @@ predictions-below n rs table h (All.also {i} {is} l ls) =
 module _ (n : ℕ) (rules : List ℕ) (count : ℕ) (table : List (List ℕ)) (s : State) (v : Words) (to : ℕ)
     (sets : WellFormed n (rulesIn rules count) s (withoutNew s v)) (h : Advanceable rules count table s v to)
     (few : length (v .rows) / rowWords ≤ maxSets) (distinct : Distinct (v .items) (s .items) to)
+    (met : (p : ℕ) → s .items ≤ p → p < to → Meets (usedUnits s v) (handleAt (v .items) p) 0)
     (bits : (k : ℕ) → k < maxSymbols → Below n (getD table k [])) where
   abbrev rs : List Rule
   rs = rulesIn rules count
@@ -202,11 +223,15 @@ module _ (n : ℕ) (rules : List ℕ) (count : ℕ) (table : List (List ℕ)) (s
   low : All (λ (i : Item). i .origin ≤ s .set) new
   low = new-all rs {P = λ (i : Item). i .origin ≤ s .set} (v .items) (s .items) to (h .origins)
 
-  newcomers : All (Newcomer rs (s .set)) new
+  handled : All (λ (i : Item). Meets (usedUnits s v) (i .handle) 0) new
+  handled = new-all rs {P = λ (i : Item). Meets (usedUnits s v) (i .handle) 0} (v .items) (s .items) to met
+
+  newcomers : All (Newcomer rs (s .set) (usedUnits s v)) new
   newcomers =
-      all-both (λ (i : Item) (f : i .origin ≤ s .set) (g : (i .rule < count) × (secondOf rs i ≡ none → ⊥)).
-      record { origin-low = f; is-rule = omega (arith, g .0, many); has-second = g .1 })
-      low (all-both (λ (i : Item) (r : i .rule < count) (x : secondOf rs i ≡ none → ⊥). (r, x)) ruled seconds)
+      all-both (λ (i : Item) (f : (i .origin ≤ s .set) × Meets (usedUnits s v) (i .handle) 0) (g : (i .rule < count) × (secondOf rs i ≡ none → ⊥)).
+      record { origin-low = f .0; is-rule = omega (arith, g .0, many); has-second = g .1; met = f .1 })
+      (all-both (λ (i : Item) (o : i .origin ≤ s .set) (x : Meets (usedUnits s v) (i .handle) 0). (o, x)) low handled)
+      (all-both (λ (i : Item) (r : i .rule < count) (x : secondOf rs i ≡ none → ⊥). (r, x)) ruled seconds)
 
   symbols : All (λ (i : Item). secondOf rs i < maxSymbols) new
   symbols =
@@ -216,7 +241,7 @@ module _ (n : ℕ) (rules : List ℕ) (count : ℕ) (table : List (List ℕ)) (s
 
   -- The state after steps 4 to 6 is well formed.
   pub steps-keep : hasRoom rs s v to ≡ true
-      → WellFormed n rs (nextState (keptOf rs s v to) v new) (nextWords (s .set) (reachOf rs s v to) v new (predictions rs table new))
+      → WellFormed n rs (nextState (s .used) (keptOf rs s v to) v new) (nextWords (s .set) (reachOf rs s v to) v new (predictions rs table new))
   steps-keep room =
       well-formed-again n rs s v new (predictions rs table new)
       (record {

@@ -43,15 +43,17 @@ predictions rs table (i ∷ is) = union (predictions rs table is) (getD table (s
 abbrev pub ending : List ℕ → ℕ → List Item → List ℕ
 ending words from is = padded (length words) (take (itemWords * from) words ++ flat is)
 
--- The state and the words when `new` is the latest set, behind the sets up to `kept`, with the row `row`.
-abbrev pub nextState : ℕ → Words → List Item → State
-nextState kept v new = record { set = kept + 1; items = startOf v (kept + 1) + length new }
+-- The state and the words when `new` is the latest set, behind the sets up to `kept`, with the row `row`. The used units are those that steps 2
+-- and 3 left; sets that are dropped leave their nodes.
+abbrev pub nextState : ℕ → ℕ → Words → List Item → State
+nextState used kept v new = record { set = kept + 1; items = startOf v (kept + 1) + length new; used = used }
 
 abbrev pub nextWords : ℕ → ℕ → Words → List Item → List ℕ → Words
 nextWords e m v new row =
     record {
       items = ending (v .items) (startOf v (lastKept e m + 1)) new;
-      starts = padded (length (v .starts)) (take (lastKept e m + 2) (v .starts) ++ (nextState (lastKept e m) v new .items ∷ []));
+      starts = padded (length (v .starts)) (take (lastKept e m + 2) (v .starts) ++ ((startOf v (lastKept e m + 1) + length new) ∷ []));
       rows = padded (length (v .rows)) (keptRows e m (v .rows) ++ row);
       queue = replicate (length (v .queue)) 0;
+      store = v .store;
     }

@@ -34,6 +34,7 @@ fn next_set(
     count: usize,
     table: &Table,
     e: usize,
+    used: usize,
     items: &mut [u32],
     starts: &mut [u32],
     rows: &mut [u64],
@@ -42,7 +43,7 @@ fn next_set(
     m: usize,
 ) -> State
     requires { ⌜ Followable (now rules) count (now table) e (now items) (now starts) (now rows) from to m ⌝ }
-    ensures { λ r. ⌜ Follows e m (lent (now (items .entry)) (now (starts .entry)) (now (rows .entry)))
+    ensures { λ r. ⌜ Follows used e m (lent (now (items .entry)) (now (starts .entry)) (now (rows .entry)))
         (itemsFrom (now (items .entry)) from (to - from))
         (predictions (rulesIn (now (rules .entry)) count) (now (table .entry)) (itemsFrom (now (items .entry)) from (to - from)))
         r (lent (now (items .exit)) (now (starts .exit)) (now (rows .exit))) ⌝ }
@@ -55,10 +56,11 @@ fn next_set(
     State {
         set: kept + 1,
         items: end,
+        used: used,
     }
 }
 
-// Steps 4 to 6, where the places from the state's items up to and without `to` hold what step 3 stored.
+// Steps 4 to 6, where the places from the state's items up to and without `to` hold what step 3 stored. The used units are the state's.
 pub fn advance(
     rules: &Rules,
     count: usize,
@@ -82,5 +84,17 @@ pub fn advance(
         clear(items, ITEM_WORDS * from, ITEM_WORDS * end);
         return Advanced::Refused;
     }
-    Advanced::Done(next_set(rules, count, table, e, items, starts, rows, from, end, m))
+    Advanced::Done(next_set(
+        rules,
+        count,
+        table,
+        e,
+        state.used,
+        items,
+        starts,
+        rows,
+        from,
+        end,
+        m,
+    ))
 }

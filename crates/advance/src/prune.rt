@@ -58,7 +58,8 @@ fn copy(items: &mut [u32], p: usize, q: usize)
 {
     let origin = item::origin(items, p);
     let rule = item::rule(items, p);
-    item::write(items, q, origin, rule);
+    let handle = item::handle(items, p);
+    item::write(items, q, origin, rule, handle);
 }
 
 // Moves the items at the places from `from` up to and without `to` down to the place `base`. The words behind them are 0 then.

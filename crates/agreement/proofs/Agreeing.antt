@@ -116,6 +116,7 @@ module _ {file : List ℕ} {s : State} {w : Words} {ts us : List ℕ} {ended : E
           by-number AcceptedOrNoRoom.no-item e = main .items e
           by-number AcceptedOrNoRoom.no-entry e = main .queue e
           by-number AcceptedOrNoRoom.no-set e = main .sets e
+          by-number AcceptedOrNoRoom.no-unit e = main .units e
 
   -- THE TWO ENGINES AGREE: over any buffers and any history, of any run that no room refusal met.
   pub engines-agree : {says : Bool} → Plain file (ts ++ us) says → (says ≡ true) ↔ ((ended .taken ≡ length us) × (finished ≡ true))

@@ -7,7 +7,7 @@ use Rattle.laws.specs.Fills.{tooShort}
 use Rattle.grammar.specs.File.{grammarOf}
 use Rattle.parse.specs.declared.State.{State}
 use Rattle.parse.specs.Words.{Words}
-use Rattle.completion.specs.Pass.{itemsFull, queueFull}
+use Rattle.completion.specs.Pass.{itemsFull, queueFull, storeFull}
 use Rattle.demands.specs.Steps.{Ended, setsFull}
 use Rattle.demands.specs.Calls.{Runs, Finishes}
 use Rattle.demands.specs.Histories.{History}
@@ -20,8 +20,10 @@ pub record Read (file : List ℕ) (s : State) (w : Words) (ts us : List ℕ) (en
   pub items : ended .outcome .number ≡ itemsFull → ⊥
   pub queue : ended .outcome .number ≡ queueFull → ⊥
   pub sets : ended .outcome .number ≡ setsFull → ⊥
+  pub units : ended .outcome .number ≡ storeFull → ⊥
   pub report : ℕ
-  pub finishes : Finishes file (ended .outcome .state) (ended .outcome .words) report finished
+  pub handle : ℕ
+  pub finishes : Finishes file (ended .outcome .state) (ended .outcome .words) report finished handle
 
 -- The plain engine, with words enough and no more tokens than it takes.
 pub record Plain (file ts : List ℕ) (yes : Bool) : Type 0 where

@@ -42,21 +42,21 @@ unfolding popAnswer
 pop-empty-tells q n empty =
     either-way (ltb 0 n)
     (λ e.
-    let answer : pops.Entry (top q .place) (n - 1) ≡ pops.Empty = rw (popAnswer, e) at empty in
+    let answer : pops.Entry (top q .place) (top q .right) (n - 1) ≡ pops.Empty = rw (popAnswer, e) at empty in
     let never : _≡_ {A = ℕ} 0 1 = cc in
     absurd (omega arith))
     (λ e. omega (arith, ltb-false 0 n e))
 
 -- An entry: it is the one at the root.
-pub pop-entry-tells : (q : List Entry) (n entry left : ℕ) → popAnswer q n ≡ pops.Entry entry left
-    → (0 < n) × (entry ≡ top q .place) × (left ≡ n - 1)
+pub pop-entry-tells : (q : List Entry) (n place right left : ℕ) → popAnswer q n ≡ pops.Entry place right left
+    → (0 < n) × (place ≡ top q .place) × (right ≡ top q .right) × (left ≡ n - 1)
 unfolding popAnswer
-pop-entry-tells q n entry left there =
+pop-entry-tells q n place right left there =
     either-way (ltb 0 n)
     (λ e.
-    let answer : pops.Entry (top q .place) (n - 1) ≡ pops.Entry entry left = rw (popAnswer, e) at there in
-    (ltb-true 0 n e, cc, cc))
+    let answer : pops.Entry (top q .place) (top q .right) (n - 1) ≡ pops.Entry place right left = rw (popAnswer, e) at there in
+    (ltb-true 0 n e, cc, cc, cc))
     (λ e.
-    let answer : pops.Empty ≡ pops.Entry entry left = rw (popAnswer, e) at there in
+    let answer : pops.Empty ≡ pops.Entry place right left = rw (popAnswer, e) at there in
     let never : _≡_ {A = ℕ} 0 1 = cc in
     absurd (omega arith))

@@ -9,15 +9,15 @@ use lib.ListN.{length, getD, length-take, List·getD-eq-default}
 use Rattle.laws.specs.Bits.{wordBits}
 use Rattle.bits.specs.Width.{rowWords}
 use Rattle.item.specs.Item.{itemWords, itemAt}
-use Rattle.binary_heap.specs.Entry.{entryKey}
+use Rattle.binary_heap.specs.Entry.{entryWords, entryKey}
 use Rattle.binary_heap.proofs.Top.{empty-heap}
-use Rattle.binary_heap.proofs.Held.{held-none}
+use Rattle.binary_heap.proofs.Held.{held-length, held-none}
 use Rattle.grammar.specs.Rules.{Rule, Grammar, noRule, ruleCount}
 use Rattle.grammar.specs.Accepted.{Accepted, maxRules}
 use Rattle.parse.specs.declared.State.{State}
-use Rattle.parse.specs.Words.{Words, startOf, maxItems, maxSets, within, itemRoom, setRoom}
+use Rattle.parse.specs.Words.{Words, startOf, maxItems, maxSets, maxQueued, within, itemRoom, setRoom, queueRoom}
 use Rattle.parse.specs.WellFormed.{WellFormed, InSet, Fits, secondOf}
-use Rattle.completion.specs.Pass.{Pass, passOf}
+use Rattle.completion.specs.Pass.{Pass, passOver}
 use Rattle.completion.specs.inner.Ready.{RulesFit, IsSet, Rowed}
 use Rattle.completion.proofs.Onward.{SpareQueue}
 use Rattle.completion.proofs.Through.{Inside}
@@ -46,9 +46,9 @@ pub accepted-grounds : (g : Grammar) → Accepted g → (starts rows : List ℕ)
 accepted-grounds g accepted starts rows rowed =
     record { rules-fit = accepted-rules-fit g accepted; rowed = rowed; adjacent = accepted .adjacent; unary-below = accepted .unary-below }
 
--- The pass of a token begins with the items of the sets and an empty queue.
+-- The pass of a token begins with the items of the sets, an empty queue, and the used units.
 abbrev pub beginning : State → Words → Pass
-beginning st v = passOf (record { stopped = 0; items = st .items; queued = 0 }) (v .items) (v .queue)
+beginning st v = passOver (record { stopped = 0; items = st .items; queued = 0; used = st .used }) (v .items) (v .queue) (v .store)
 
 -- A place of an item belongs to a set.
 record OfSet (st : State) (v : Words) (p : ℕ) : Type 0 where
@@ -57,7 +57,7 @@ record OfSet (st : State) (v : Words) (p : ℕ) : Type 0 where
   pub inside : InSet v set p
 
 module _ {n : ℕ} {rs : List Rule} {st : State} {v : Words} (well : WellFormed n rs st v) (few-rules : length rs ≤ maxRules)
-    (few-items : length (v .items) ≤ itemWords * maxItems) (rowed : Rowed (v .starts) (v .rows)) where
+    (few-items : length (v .items) ≤ itemWords * maxItems) (few-entries : length (v .queue) ≤ entryWords * maxQueued) (rowed : Rowed (v .starts) (v .rows)) where
   find-set : (p k : ℕ) → k ≤ st .set + 1 → p < startOf v k → OfSet st v p
   find-set p zero there below = absurd (omega (arith, well .first-start))
   find-set p (suc k) there below =
@@ -117,6 +117,7 @@ module _ {n : ℕ} {rs : List Rule} {st : State} {v : Words} (well : WellFormed 
         sound = record {
           few-items = few-items;
           items-fit = well .items-fit;
+          few-entries = omega (arith, few-entries, held-length (v .queue));
           queued-fit = omega arith;
           entries = λ i there. absurd (omega arith);
         };
@@ -139,6 +140,9 @@ module _ {n : ℕ} {rs : List Rule} {st : State} {v : Words} (well : WellFormed 
 -- The words within the capacities are few, and have a start for each row and one behind.
 pub within-few-items : (w : Words) → length (within w .items) ≤ itemWords * maxItems
 within-few-items w = omega (arith, length-take (itemWords * itemRoom w) (w .items))
+
+pub within-few-entries : (w : Words) → length (within w .queue) ≤ entryWords * maxQueued
+within-few-entries w = omega (arith, length-take (entryWords * queueRoom w) (w .queue))
 
 pub within-rowed : (w : Words) → 0 < length (within w .rows) / rowWords → Rowed (within w .starts) (within w .rows)
 within-rowed w some =

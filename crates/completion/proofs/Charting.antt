@@ -15,21 +15,24 @@ use Rattle.item.proofs.Words.{stored-item}
 use Rattle.binary_heap.proofs.PopLaws.{popped-every}
 use Rattle.grammar.specs.Rules.{Rule}
 use Rattle.parse.specs.WellFormed.{leftOf, secondOf}
-use Rattle.completion.specs.Pass.{Pass, andThen, store, enqueue}
+use Rattle.node.specs.Rows.{allOnes}
+use Rattle.node.specs.declared.Node.{Node}
+use Rattle.node.specs.declared.Node.the-variants.{Sum}
+use Rattle.completion.specs.Pass.{Pass, andThen, store, enqueue, append, storeFull}
 use Rattle.completion.specs.Complete.{completeMedial, completeMedialItems, completeUnary, completeUnaryPredictions, completeBinary, completeBinaryPredictions, complete}
-use Rattle.completion.specs.Sums.{greatest, sumEnds, nextSummand, popSum, completeSum, rests, completeAllSums}
+use Rattle.completion.specs.Sums.{greatest, summands, productNode, sumEnds, popGreatest, nextSummand, popSum, summed, completeSum, rests, completeAllSums}
 use Rattle.completion.specs.inner.Ready.{IsSet, PassFits, Charted}
-use Rattle.completion.proofs.Soundness.{store-sound, enqueue-sound}
+use Rattle.completion.proofs.Soundness.{refused-sound, store-sound, enqueue-sound}
 use Rattle.completion.proofs.Waiting.{store-place}
 use Rattle.completion.proofs.Searching.{enqueue-count}
 use Rattle.completion.proofs.Turning.{sum-goes, not-resting}
-use Rattle.completion.proofs.Entries.{entriesOf, storedPass, poppedPass, store-cases, then-cases, next-is, each-entry, every-entry, some-entries, popped-entries, popped-words}
-use Rattle.completion.proofs.Onward.{Onward, onward-refl, onward-trans, onward-store, onward-enqueue, onward-next}
+use Rattle.completion.proofs.Entries.{entriesOf, storedPass, poppedPass, appendedPass, append-count, store-cases, append-cases, then-cases, pop-is, each-entry, every-entry, some-entries, popped-entries, popped-words}
+use Rattle.completion.proofs.Onward.{Onward, onward-refl, onward-trans, onward-store, onward-enqueue, onward-pop, onward-append}
 use Rattle.completion.proofs.Through.{Inside, medial-keeps, medial-items-keep, unary-goes, unary-predictions-go, binary-goes, binary-predictions-go, complete-cases}
 
 -- Popping the greatest entry keeps a pass sound.
-pub next-sound : (s : Pass) → PassFits s → 0 < s .at .queued → PassFits (nextSummand s)
-next-sound s sound some = next-is PassFits s some done
+pub pop-sound : (s : Pass) → PassFits s → 0 < s .at .queued → PassFits (popGreatest s)
+pop-sound s sound some = pop-is PassFits s some done
   where
     places : Every (λ v. v .place < s .at .items) (entriesOf (poppedPass s))
     places =
@@ -45,9 +48,28 @@ next-sound s sound some = next-is PassFits s some done
         record {
           few-items = sound .few-items;
           items-fit = sound .items-fit;
+          few-entries = omega (arith, popped-words s (sound .queued-fit) some, sound .few-entries);
           queued-fit = fits;
           entries = each-entry (poppedPass s) fits (λ v. v .place < s .at .items) places;
         }
+
+-- Writing a node keeps a pass sound.
+pub append-sound : (n : Node) (s : Pass) → PassFits s → PassFits (append n s)
+append-sound n s sound = append-cases PassFits s n sound (λ us on is some room. same us) (refused-sound storeFull s sound)
+  where
+    same : (us : List ℕ) → PassFits (appendedPass us s)
+    same us = record {
+      few-items = sound .few-items;
+      items-fit = sound .items-fit;
+      few-entries = sound .few-entries;
+      queued-fit = sound .queued-fit;
+      entries = sound .entries;
+    }
+
+-- A summand keeps a pass sound.
+pub next-sound : (s : Pass) → PassFits s → 0 < s .at .queued → PassFits (nextSummand s)
+unfolding nextSummand
+next-sound s sound some = append-sound (productNode (s .items) (entryAt (s .queue) 0)) (popGreatest s) (pop-sound s sound some)
 
 -- An item of a rule and a set.
 pub record Charts (rs : List Rule) (starts : List ℕ) (i : Item) : Type 0 where
@@ -80,14 +102,14 @@ onward-charted {rs} {starts} {s} {t} charted onward new =
         ]
 
 -- The items behind those of `s` after `origin` and `rule` were stored: that one, or none.
-pub stored-new : (origin rule : ℕ) (s : Pass) → PassFits s → (p : ℕ) → s .at .items ≤ p → p < store origin rule s .at .items
-    → itemAt (store origin rule s .items) p ≡ record { origin = origin; rule = rule }
-stored-new origin rule s sound p from =
-    store-cases (λ (t : Pass). p < t .at .items → itemAt (t .items) p ≡ record { origin = origin; rule = rule }) s origin rule
+pub stored-new : (origin rule handle : ℕ) (s : Pass) → PassFits s → (p : ℕ) → s .at .items ≤ p → p < store origin rule handle s .at .items
+    → itemAt (store origin rule handle s .items) p ≡ record { origin = origin; rule = rule; handle = handle }
+stored-new origin rule handle s sound p from =
+    store-cases (λ (t : Pass). p < t .at .items → itemAt (t .items) p ≡ record { origin = origin; rule = rule; handle = handle }) s origin rule handle
     (λ place up-to.
     let is : s .at .items ≡ p = omega arith in
-    subst (λ (p : ℕ). itemAt (storedPass origin rule s .items) p ≡ record { origin = origin; rule = rule }) is
-    (stored-item (s .items) (s .at .items) (record { origin = origin; rule = rule }) (omega arith)))
+    subst (λ (p : ℕ). itemAt (storedPass origin rule handle s .items) p ≡ record { origin = origin; rule = rule; handle = handle }) is
+    (stored-item (s .items) (s .at .items) (record { origin = origin; rule = rule; handle = handle }) (omega arith)))
     (λ up-to. absurd (omega arith))
 
 -- A pass behind `s` that is sound and charted.
@@ -101,77 +123,90 @@ steady-refl rs starts s sound charted = record { onward = onward-refl s; sound =
 
 module _ (rs : List Rule) (starts : List ℕ) (s : Pass) where
   -- What the steps do not lose.
-  pub steady-store : (k r : ℕ) (t : Pass) → IsSet starts k → r < length rs → Steady rs starts s t → Steady rs starts s (store k r t)
-  steady-store k r t set rule steady =
+  pub steady-store : (k r link : ℕ) (t : Pass) → IsSet starts k → r < length rs → Steady rs starts s t → Steady rs starts s (store k r link t)
+  steady-store k r link t set rule steady =
       record {
-        onward = onward-trans (steady .onward) (onward-store k r t);
-        sound = store-sound k r t (steady .sound);
-        charted = onward-charted (steady .charted) (onward-store k r t)
+        onward = onward-trans (steady .onward) (onward-store k r link t);
+        sound = store-sound k r link t (steady .sound);
+        charted = onward-charted (steady .charted) (onward-store k r link t)
             (λ p from up-to.
-            subst (Charts rs starts) (sym (stored-new k r t (steady .sound) p from up-to)) (record { is-rule = rule; is-set = set }));
+            subst (Charts rs starts) (sym (stored-new k r link t (steady .sound) p from up-to)) (record { is-rule = rule; is-set = set }));
       }
 
-  pub steady-enqueue : (place : ℕ) (t : Pass) → place < t .at .items → Steady rs starts s t → Steady rs starts s (enqueue place t)
-  steady-enqueue place t there steady =
-      let onward : Onward t (enqueue place t) = onward-enqueue place t (steady .sound .queued-fit) in
+  pub steady-enqueue : (place right : ℕ) (t : Pass) → place < t .at .items → Steady rs starts s t → Steady rs starts s (enqueue place right t)
+  steady-enqueue place right t there steady =
+      let onward : Onward t (enqueue place right t) = onward-enqueue place right t (steady .sound .queued-fit) in
       record {
         onward = onward-trans (steady .onward) onward;
-        sound = enqueue-sound place t (steady .sound) there;
-        charted = onward-charted (steady .charted) onward (λ p from up-to. absurd (omega (arith, enqueue-count place t)));
+        sound = enqueue-sound place right t (steady .sound) there;
+        charted = onward-charted (steady .charted) onward (λ p from up-to. absurd (omega (arith, enqueue-count place right t)));
+      }
+
+  pub steady-append : (n : Node) (t : Pass) → Steady rs starts s t → Steady rs starts s (append n t)
+  steady-append n t steady =
+      record {
+        onward = onward-trans (steady .onward) (onward-append n t);
+        sound = append-sound n t (steady .sound);
+        charted = onward-charted (steady .charted) (onward-append n t) (λ p from up-to. absurd (omega (arith, append-count n t)));
+      }
+
+  pub steady-pop-greatest : (t : Pass) → 0 < t .at .queued → Steady rs starts s t → Steady rs starts s (popGreatest t)
+  unfolding popGreatest
+  steady-pop-greatest t some steady =
+      let onward : Onward t (popGreatest t) = onward-pop t (steady .sound .queued-fit) some in
+      record {
+        onward = onward-trans (steady .onward) onward;
+        sound = pop-sound t (steady .sound) some;
+        charted = onward-charted (steady .charted) onward (λ p from up-to. absurd (omega arith));
       }
 
   pub steady-next : (t : Pass) → 0 < t .at .queued → Steady rs starts s t → Steady rs starts s (nextSummand t)
   unfolding nextSummand
   steady-next t some steady =
-      let onward : Onward t (nextSummand t) = onward-next t (steady .sound .queued-fit) some in
-      record {
-        onward = onward-trans (steady .onward) onward;
-        sound = next-sound t (steady .sound) some;
-        charted = onward-charted (steady .charted) onward (λ p from up-to. absurd (omega arith));
-      }
+      steady-append (productNode (t .items) (entryAt (t .queue) 0)) (popGreatest t) (steady-pop-greatest t some steady)
 
   -- Storing an item and queueing it.
-  pub steady-both : (k r : ℕ) (t : Pass) → IsSet starts k → r < length rs → Steady rs starts s t
-      → Steady rs starts s (andThen (store k r t) (enqueue (t .at .items)))
-  steady-both k r t set rule steady =
-      let there : Steady rs starts s (store k r t) = steady-store k r t set rule steady in
-      then-cases (Steady rs starts s) (store k r t) _ there (λ on. steady-enqueue (t .at .items) (store k r t) (store-place k r t on) there)
+  pub steady-both : (k r link : ℕ) (t : Pass) → IsSet starts k → r < length rs → Steady rs starts s t
+      → Steady rs starts s (andThen (store k r link t) (enqueue (t .at .items) allOnes))
+  steady-both k r link t set rule steady =
+      let there : Steady rs starts s (store k r link t) = steady-store k r link t set rule steady in
+      then-cases (Steady rs starts s) (store k r link t) _ there (λ on. steady-enqueue (t .at .items) allOnes (store k r link t) (store-place k r link t on) there)
 
-  module _ (rows : List ℕ) (k x : ℕ) where
+  module _ (rows : List ℕ) (k x link : ℕ) where
     -- Completing keeps all of it.
-    pub steady-medial : (p : ℕ) (t : Pass) → Inside starts k p → Steady rs starts s t → Steady rs starts s (completeMedial rs x p t)
-    steady-medial = medial-keeps rs starts rows k x (Steady rs starts s) queueing
+    pub steady-medial : (p : ℕ) (t : Pass) → Inside starts k p → Steady rs starts s t → Steady rs starts s (completeMedial rs x link p t)
+    steady-medial = medial-keeps rs starts rows k x link (Steady rs starts s) queueing
       where
-        queueing : (p : ℕ) (t : Pass) → Inside starts k p → secondOf rs (itemAt (t .items) p) ≡ x → t .at .stopped ≡ 0 → Steady rs starts s t → Steady rs starts s (enqueue p t)
-        queueing p t inside second on steady = steady-enqueue p t (omega (arith, inside .up-to, steady .charted .starts-fit (k + 1))) steady
+        queueing : (p : ℕ) (t : Pass) → Inside starts k p → secondOf rs (itemAt (t .items) p) ≡ x → t .at .stopped ≡ 0 → Steady rs starts s t → Steady rs starts s (enqueue p link t)
+        queueing p t inside second on steady = steady-enqueue p link t (omega (arith, inside .up-to, steady .charted .starts-fit (k + 1))) steady
 
-    pub steady-medial-items : (t : Pass) → Steady rs starts s t → Steady rs starts s (completeMedialItems rs starts k x t)
-    steady-medial-items = medial-items-keep rs starts rows k x (Steady rs starts s)
-        (λ p t inside second on steady. steady-enqueue p t (omega (arith, inside .up-to, steady .charted .starts-fit (k + 1))) steady)
+    pub steady-medial-items : (t : Pass) → Steady rs starts s t → Steady rs starts s (completeMedialItems rs starts k x link t)
+    steady-medial-items = medial-items-keep rs starts rows k x link (Steady rs starts s)
+        (λ p t inside second on steady. steady-enqueue p link t (omega (arith, inside .up-to, steady .charted .starts-fit (k + 1))) steady)
 
     module _ (set : IsSet starts k) where
-      pub steady-unary : (r : ℕ) (t : Pass) → r < length rs → Steady rs starts s t → Steady rs starts s (completeUnary rs rows k x r t)
-      steady-unary = unary-goes rs starts rows k x (λ r t. Steady rs starts s t) (λ r t steady. steady)
-          (λ r t begins one on steady. steady-both k r t set (begins .is-rule) steady)
+      pub steady-unary : (r : ℕ) (t : Pass) → r < length rs → Steady rs starts s t → Steady rs starts s (completeUnary rs rows k x link r t)
+      steady-unary = unary-goes rs starts rows k x link (λ r t. Steady rs starts s t) (λ r t steady. steady)
+          (λ r t begins one on steady. steady-both k r link t set (begins .is-rule) steady)
 
-      pub steady-unary-predictions : (t : Pass) → Steady rs starts s t → Steady rs starts s (completeUnaryPredictions rs rows k x t)
-      steady-unary-predictions = unary-predictions-go rs starts rows k x (λ r t. Steady rs starts s t) (λ r t steady. steady)
-          (λ r t begins one on steady. steady-both k r t set (begins .is-rule) steady)
+      pub steady-unary-predictions : (t : Pass) → Steady rs starts s t → Steady rs starts s (completeUnaryPredictions rs rows k x link t)
+      steady-unary-predictions = unary-predictions-go rs starts rows k x link (λ r t. Steady rs starts s t) (λ r t steady. steady)
+          (λ r t begins one on steady. steady-both k r link t set (begins .is-rule) steady)
 
-      pub steady-binary : (r : ℕ) (t : Pass) → r < length rs → Steady rs starts s t → Steady rs starts s (completeBinary rs rows k x r t)
-      steady-binary = binary-goes rs starts rows k x (λ r t. Steady rs starts s t) (λ r t steady. steady)
-          (λ r t begins two on steady. steady-store k r t set (begins .is-rule) steady)
+      pub steady-binary : (r : ℕ) (t : Pass) → r < length rs → Steady rs starts s t → Steady rs starts s (completeBinary rs rows k x link r t)
+      steady-binary = binary-goes rs starts rows k x link (λ r t. Steady rs starts s t) (λ r t steady. steady)
+          (λ r t begins two on steady. steady-store k r link t set (begins .is-rule) steady)
 
-      pub steady-binary-predictions : (t : Pass) → Steady rs starts s t → Steady rs starts s (completeBinaryPredictions rs rows k x t)
-      steady-binary-predictions = binary-predictions-go rs starts rows k x (λ r t. Steady rs starts s t) (λ r t steady. steady)
-          (λ r t begins two on steady. steady-store k r t set (begins .is-rule) steady)
+      pub steady-binary-predictions : (t : Pass) → Steady rs starts s t → Steady rs starts s (completeBinaryPredictions rs rows k x link t)
+      steady-binary-predictions = binary-predictions-go rs starts rows k x link (λ r t. Steady rs starts s t) (λ r t steady. steady)
+          (λ r t begins two on steady. steady-store k r link t set (begins .is-rule) steady)
 
-      pub steady-complete : (t : Pass) → Steady rs starts s t → Steady rs starts s (complete rs starts rows k x t)
+      pub steady-complete : (t : Pass) → Steady rs starts s t → Steady rs starts s (complete rs starts rows k x link t)
       steady-complete t steady =
-          complete-cases rs starts rows k x (Steady rs starts s) t steady
+          complete-cases rs starts rows k x link (Steady rs starts s) t steady
           (λ there.
-          steady-binary-predictions (completeUnaryPredictions rs rows k x (completeMedialItems rs starts k x t))
-          (steady-unary-predictions (completeMedialItems rs starts k x t) (steady-medial-items t steady)))
+          steady-binary-predictions (completeUnaryPredictions rs rows k x link (completeMedialItems rs starts k x link t))
+          (steady-unary-predictions (completeMedialItems rs starts k x link t) (steady-medial-items t steady)))
 
   -- A sum that has not ended has a greatest entry.
   pub goes-on-sum : (k x : ℕ) (t : Pass) → sumEnds rs k x t ≡ false → 0 < t .at .queued
@@ -182,6 +217,11 @@ module _ (rs : List Rule) (starts : List ℕ) (s : Pass) where
   unfolding popSum
   steady-pop k x t steady =
       until-keeps (sumEnds rs k x) nextSummand (Steady rs starts s) (λ u goes. steady-next u (sum-goes rs k x u goes)) (t .at .queued) t steady
+
+  -- Writing a sum keeps all of it.
+  pub steady-summed : (k x : ℕ) (t : Pass) → Steady rs starts s t → Steady rs starts s (summed rs k x t)
+  steady-summed k x t steady =
+      steady-pop k x (append (Sum (summands rs k x t) x) t) (steady-append (Sum (summands rs k x t) x) t steady)
 
   -- The greatest entry is a place of an item, with a set for its origin and a rule.
   pub greatest-charts : (t : Pass) → 0 < t .at .queued → Steady rs starts s t → Charts rs starts (greatest t)
@@ -194,8 +234,8 @@ module _ (rs : List Rule) (starts : List ℕ) (s : Pass) where
     pub steady-sum : (t : Pass) → 0 < t .at .queued → Steady rs starts s t → Steady rs starts s (completeSum rs starts rows t)
     unfolding completeSum
     steady-sum t some steady =
-        steady-complete rows (greatest t .origin) (leftOf rs (greatest t)) (greatest-charts t some steady .is-set)
-        (popSum rs (greatest t .origin) (leftOf rs (greatest t)) t) (steady-pop (greatest t .origin) (leftOf rs (greatest t)) t steady)
+        steady-complete rows (greatest t .origin) (leftOf rs (greatest t)) (t .at .used) (greatest-charts t some steady .is-set)
+        (summed rs (greatest t .origin) (leftOf rs (greatest t)) t) (steady-summed (greatest t .origin) (leftOf rs (greatest t)) t steady)
 
     pub steady-all-sums : (t : Pass) → Steady rs starts s t → Steady rs starts s (completeAllSums rs starts rows t)
     unfolding completeAllSums

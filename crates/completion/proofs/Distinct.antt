@@ -12,13 +12,14 @@ use Rattle.binary_heap.proofs.Each.{Every}
 use Rattle.item.specs.Item.{Item, itemAt, originAt, ruleAt, keyOf}
 use Rattle.grammar.specs.Rules.{Rule, none, noRule}
 use Rattle.parse.specs.WellFormed.{leftOf, ruleOf}
+use Rattle.node.specs.Rows.{allOnes}
 use Rattle.completion.specs.Pass.{Pass, store, enqueue}
 use Rattle.completion.specs.Complete.{completeMedialItems, completeUnaryPredictions, completeBinaryPredictions, complete}
-use Rattle.completion.specs.Sums.{greatest, popSum, completeSum, rests, completeAllSums}
+use Rattle.completion.specs.Sums.{greatest, summed, completeSum, rests, completeAllSums}
 use Rattle.completion.specs.inner.Ready.{IsSet, PassFits}
 use Rattle.completion.proofs.Waiting.{store-place}
 use Rattle.completion.proofs.Searching.{enqueue-count}
-use Rattle.completion.proofs.Turning.{pop-items, not-resting}
+use Rattle.completion.proofs.Turning.{summed-items, not-resting}
 use Rattle.completion.proofs.Entries.{entriesOf, entries-length, each-entry, then-cases, store-cases}
 use Rattle.completion.proofs.Onward.{Onward, onward-store, onward-enqueue}
 use Rattle.completion.proofs.Through.{Begins, medial-items-keep, unary-predictions-go, binary-predictions-go, complete-cases}
@@ -66,18 +67,18 @@ module _ (rs : List Rule) (k x from : ℕ) where
       item p there = onward .same-items p (omega arith)
 
   -- A rule that begins with the symbol and was not used is stored.
-  of-pair-store : (Used Used′ : ℕ → Type 0) (r : ℕ) (t : Pass) → PassFits t → from ≤ t .at .items → getD rs r noRule .first ≡ x
-      → ((q : ℕ) → Used q → Used′ q) → Used′ r → (Used r → ⊥) → OfPair rs k x Used from t → OfPair rs k x Used′ from (store k r t)
-  of-pair-store Used Used′ r t sound has first more now before of =
+  of-pair-store : (Used Used′ : ℕ → Type 0) (r link : ℕ) (t : Pass) → PassFits t → from ≤ t .at .items → getD rs r noRule .first ≡ x
+      → ((q : ℕ) → Used q → Used′ q) → Used′ r → (Used r → ⊥) → OfPair rs k x Used from t → OfPair rs k x Used′ from (store k r link t)
+  of-pair-store Used Used′ r link t sound has first more now before of =
       record {
         origins = λ p h there.
-            by-age p there (λ p. originAt (store k r t .items) p ≡ k) (λ old. ap (λ (i : Item). i .origin) (item p old) ∙ of .origins p h old)
+            by-age p there (λ p. originAt (store k r link t .items) p ≡ k) (λ old. ap (λ (i : Item). i .origin) (item p old) ∙ of .origins p h old)
             (λ is. ap (λ (i : Item). i .origin) is);
         firsts = λ p h there.
-            by-age p there (λ p. ruleOf rs (itemAt (store k r t .items) p) .first ≡ x)
+            by-age p there (λ p. ruleOf rs (itemAt (store k r link t .items) p) .first ≡ x)
             (λ old. ap (λ (i : Item). ruleOf rs i .first) (item p old) ∙ of .firsts p h old) (λ is. ap (λ (i : Item). ruleOf rs i .first) is ∙ first);
         used = λ p h there.
-            by-age p there (λ p. Used′ (ruleAt (store k r t .items) p))
+            by-age p there (λ p. Used′ (ruleAt (store k r link t .items) p))
             (λ old. subst Used′ (sym (rule p old)) (more (ruleAt (t .items) p) (of .used p h old)))
             (λ is. subst Used′ (sym (ap (λ (i : Item). i .rule) is)) now);
         distinct = λ p q h less there e.
@@ -87,21 +88,21 @@ module _ (rs : List Rule) (k x from : ℕ) where
             before (subst Used (sym (rule p old) ∙ e ∙ ap (λ (i : Item). i .rule) is) (of .used p h old)));
       }
     where
-      one-more : store k r t .at .items ≤ t .at .items + 1
-      one-more = store-cases (λ (v : Pass). v .at .items ≤ t .at .items + 1) t k r (λ place. omega arith) (omega arith)
+      one-more : store k r link t .at .items ≤ t .at .items + 1
+      one-more = store-cases (λ (v : Pass). v .at .items ≤ t .at .items + 1) t k r link (λ place. omega arith) (omega arith)
 
-      item : (p : ℕ) → p < t .at .items → itemAt (store k r t .items) p ≡ itemAt (t .items) p
-      item p old = onward-store k r t .same-items p old
+      item : (p : ℕ) → p < t .at .items → itemAt (store k r link t .items) p ≡ itemAt (t .items) p
+      item p old = onward-store k r link t .same-items p old
 
-      rule : (p : ℕ) → p < t .at .items → ruleAt (store k r t .items) p ≡ ruleAt (t .items) p
+      rule : (p : ℕ) → p < t .at .items → ruleAt (store k r link t .items) p ≡ ruleAt (t .items) p
       rule p old = ap (λ (i : Item). i .rule) (item p old)
 
-      by-age : (p : ℕ) → p < store k r t .at .items → (C : ℕ → Type 0) → (p < t .at .items → C p)
-          → (itemAt (store k r t .items) p ≡ record { origin = k; rule = r } → C p) → C p
+      by-age : (p : ℕ) → p < store k r link t .at .items → (C : ℕ → Type 0) → (p < t .at .items → C p)
+          → (itemAt (store k r link t .items) p ≡ record { origin = k; rule = r; handle = link } → C p) → C p
       by-age p there C old new =
           elim (decLt p (t .at .items)) [
             | yes h ↦ old h
-            | no h ↦ new (stored-new k r t sound p (omega arith) there)
+            | no h ↦ new (stored-new k r link t sound p (omega arith) there)
           ]
 
 -- Rules with one symbol below `n`; and rules with one symbol, or below `n`.
@@ -117,32 +118,32 @@ record Storing (rs : List Rule) (starts : List ℕ) (s : Pass) (k x : ℕ) (Used
   pub has : from ≤ t .at .items
   pub of-pair : OfPair rs k x Used from t
 
-module _ (rs : List Rule) (starts rows : List ℕ) (s : Pass) (k x : ℕ) (set : IsSet starts k) where
+module _ (rs : List Rule) (starts rows : List ℕ) (s : Pass) (k x link : ℕ) (set : IsSet starts k) where
   -- Medial items are queued, and none is stored.
-  pub medial-items-none : (t : Pass) → completeMedialItems rs starts k x t .at .items ≡ t .at .items
+  pub medial-items-none : (t : Pass) → completeMedialItems rs starts k x link t .at .items ≡ t .at .items
   medial-items-none t =
-      medial-items-keep rs starts rows k x (λ (u : Pass). u .at .items ≡ t .at .items)
-      (λ p u inside second on same. enqueue-count p u ∙ same) t refl
+      medial-items-keep rs starts rows k x link (λ (u : Pass). u .at .items ≡ t .at .items)
+      (λ p u inside second on same. enqueue-count p link u ∙ same) t refl
 
   storing-store : (Used Used′ : ℕ → Type 0) (from r : ℕ) (t : Pass) → Begins rs rows k x r → ((q : ℕ) → Used q → Used′ q) → Used′ r → (Used r → ⊥)
-      → Storing rs starts s k x Used from t → Storing rs starts s k x Used′ from (store k r t)
+      → Storing rs starts s k x Used from t → Storing rs starts s k x Used′ from (store k r link t)
   storing-store Used Used′ from r t begins more now before storing =
       record {
-        steady = steady-store rs starts s k r t set (begins .is-rule) (storing .steady);
-        has = omega (arith, storing .has, onward-store k r t .more-items);
+        steady = steady-store rs starts s k r link t set (begins .is-rule) (storing .steady);
+        has = omega (arith, storing .has, onward-store k r link t .more-items);
         of-pair =
-            of-pair-store rs k x from Used Used′ r t (storing .steady .sound) (storing .has) (begins .begins) more now before (storing .of-pair);
+            of-pair-store rs k x from Used Used′ r link t (storing .steady .sound) (storing .has) (begins .begins) more now before (storing .of-pair);
       }
 
-  storing-enqueue : (Used : ℕ → Type 0) (from place : ℕ) (t : Pass) → place < t .at .items → Storing rs starts s k x Used from t
-      → Storing rs starts s k x Used from (enqueue place t)
-  storing-enqueue Used from place t there storing =
+  storing-enqueue : (Used : ℕ → Type 0) (from place right : ℕ) (t : Pass) → place < t .at .items → Storing rs starts s k x Used from t
+      → Storing rs starts s k x Used from (enqueue place right t)
+  storing-enqueue Used from place right t there storing =
       record {
-        steady = steady-enqueue rs starts s place t there (storing .steady);
-        has = omega (arith, storing .has, enqueue-count place t);
+        steady = steady-enqueue rs starts s place right t there (storing .steady);
+        has = omega (arith, storing .has, enqueue-count place right t);
         of-pair =
-            of-pair-onward rs k x from Used t (enqueue place t) (onward-enqueue place t (storing .steady .sound .queued-fit))
-            (enqueue-count place t) (storing .of-pair);
+            of-pair-onward rs k x from Used t (enqueue place right t) (onward-enqueue place right t (storing .steady .sound .queued-fit))
+            (enqueue-count place right t) (storing .of-pair);
       }
 
   storing-more : (Used Used′ : ℕ → Type 0) (from : ℕ) (t : Pass) → ((q : ℕ) → Used q → Used′ q) → Storing rs starts s k x Used from t
@@ -152,22 +153,22 @@ module _ (rs : List Rule) (starts rows : List ℕ) (s : Pass) (k x : ℕ) (set :
 
   -- Rules with one symbol are stored in number order, each once,
   storing-unary : (from : ℕ) (t : Pass) → Storing rs starts s k x (One rs 0) from t
-      → Storing rs starts s k x (One rs (length rs)) from (completeUnaryPredictions rs rows k x t)
+      → Storing rs starts s k x (One rs (length rs)) from (completeUnaryPredictions rs rows k x link t)
   storing-unary from =
-      unary-predictions-go rs starts rows k x (λ r. Storing rs starts s k x (One rs r) from)
+      unary-predictions-go rs starts rows k x link (λ r. Storing rs starts s k x (One rs r) from)
       (λ r t. storing-more (One rs r) (One rs (suc r)) from t (λ q used. (used .0, let less = used .1 in omega arith)))
       (λ r t begins one on storing.
-      let there : Storing rs starts s k x (One rs (suc r)) from (store k r t) =
+      let there : Storing rs starts s k x (One rs (suc r)) from (store k r link t) =
       storing-store (One rs r) (One rs (suc r)) from r t begins (λ q used. (used .0, let less = used .1 in omega arith)) (one, omega arith)
       (λ used. let less = used .1 in omega arith) storing in
-      then-cases (Storing rs starts s k x (One rs (suc r)) from) (store k r t) _ there
-      (λ on. storing-enqueue (One rs (suc r)) from (t .at .items) (store k r t) (store-place k r t on) there))
+      then-cases (Storing rs starts s k x (One rs (suc r)) from) (store k r link t) _ there
+      (λ on. storing-enqueue (One rs (suc r)) from (t .at .items) allOnes (store k r link t) (store-place k r link t on) there))
 
   -- and then those with two.
   storing-binary : (from : ℕ) (t : Pass) → Storing rs starts s k x (OneOr rs 0) from t
-      → Storing rs starts s k x (OneOr rs (length rs)) from (completeBinaryPredictions rs rows k x t)
+      → Storing rs starts s k x (OneOr rs (length rs)) from (completeBinaryPredictions rs rows k x link t)
   storing-binary from =
-      binary-predictions-go rs starts rows k x (λ r. Storing rs starts s k x (OneOr rs r) from)
+      binary-predictions-go rs starts rows k x link (λ r. Storing rs starts s k x (OneOr rs r) from)
       (λ r t. storing-more (OneOr rs r) (OneOr rs (suc r)) from t (more r))
       (λ r t begins two on storing.
       storing-store (OneOr rs r) (OneOr rs (suc r)) from r t begins (more r) (inr (omega arith)) (not-used r two) storing)
@@ -181,22 +182,22 @@ module _ (rs : List Rule) (starts rows : List ℕ) (s : Pass) (k x : ℕ) (set :
       not-used r two (inr less) = omega arith
 
   -- The items that a completion stores are of its pair, no rule twice.
-  pub complete-of-pair : (t : Pass) → Steady rs starts s t → OfPair rs k x (λ r. Unit {0}) (t .at .items) (complete rs starts rows k x t)
+  pub complete-of-pair : (t : Pass) → Steady rs starts s t → OfPair rs k x (λ r. Unit {0}) (t .at .items) (complete rs starts rows k x link t)
   complete-of-pair t steady =
-      complete-cases rs starts rows k x (OfPair rs k x (λ r. Unit {0}) (t .at .items)) t (none-of-pair rs k x (t .at .items) (λ r. Unit {0}) t (omega arith))
+      complete-cases rs starts rows k x link (OfPair rs k x (λ r. Unit {0}) (t .at .items)) t (none-of-pair rs k x (t .at .items) (λ r. Unit {0}) t (omega arith))
       (λ there.
-      let first : Storing rs starts s k x (One rs 0) (t .at .items) (completeMedialItems rs starts k x t) =
+      let first : Storing rs starts s k x (One rs 0) (t .at .items) (completeMedialItems rs starts k x link t) =
       record {
-        steady = steady-medial-items rs starts s rows k x t steady;
+        steady = steady-medial-items rs starts s rows k x link t steady;
         has = omega (arith, medial-items-none t);
-        of-pair = none-of-pair rs k x (t .at .items) (One rs 0) (completeMedialItems rs starts k x t) (omega (arith, medial-items-none t));
+        of-pair = none-of-pair rs k x (t .at .items) (One rs 0) (completeMedialItems rs starts k x link t) (omega (arith, medial-items-none t));
       } in
-      let second : Storing rs starts s k x (OneOr rs 0) (t .at .items) (completeUnaryPredictions rs rows k x (completeMedialItems rs starts k x t)) =
-      storing-more (One rs (length rs)) (OneOr rs 0) (t .at .items) (completeUnaryPredictions rs rows k x (completeMedialItems rs starts k x t))
-      (λ q used. inl (used .0)) (storing-unary (t .at .items) (completeMedialItems rs starts k x t) first) in
+      let second : Storing rs starts s k x (OneOr rs 0) (t .at .items) (completeUnaryPredictions rs rows k x link (completeMedialItems rs starts k x link t)) =
+      storing-more (One rs (length rs)) (OneOr rs 0) (t .at .items) (completeUnaryPredictions rs rows k x link (completeMedialItems rs starts k x link t))
+      (λ q used. inl (used .0)) (storing-unary (t .at .items) (completeMedialItems rs starts k x link t) first) in
       of-pair-more rs k x (t .at .items) (OneOr rs (length rs)) (λ r. Unit {0})
-      (completeBinaryPredictions rs rows k x (completeUnaryPredictions rs rows k x (completeMedialItems rs starts k x t))) (λ r used. tt)
-      (storing-binary (t .at .items) (completeUnaryPredictions rs rows k x (completeMedialItems rs starts k x t)) second .of-pair))
+      (completeBinaryPredictions rs rows k x link (completeUnaryPredictions rs rows k x link (completeMedialItems rs starts k x link t))) (λ r used. tt)
+      (storing-binary (t .at .items) (completeUnaryPredictions rs rows k x link (completeMedialItems rs starts k x link t)) second .of-pair))
 
 -- The symbol that the rule of an item begins with.
 abbrev pub firstOf : List Rule → Item → ℕ
@@ -219,14 +220,14 @@ record Unmet (rs : List Rule) (e old k x : ℕ) (s : Pass) : Type 0 where
       (p : ℕ) → old ≤ p → p < s .at .items → (i : Item) → Lower rs k x i → Lower rs (originAt (s .items) p) (firstOf rs (itemAt (s .items) p)) i
   pub distinct : (p q : ℕ) → old ≤ p → p < q → q < s .at .items → originAt (s .items) p ≡ originAt (s .items) q → ruleAt (s .items) p ≡ ruleAt (s .items) q → ⊥
 
-module _ {rs : List Rule} {starts rows : List ℕ} (grounds : Grounds rs starts rows) (s : Pass) (pending : Pending rs starts s) (e old k x : ℕ)
+module _ {rs : List Rule} {starts rows : List ℕ} (grounds : Grounds rs starts rows) (s : Pass) (pending : Pending rs starts s) (e old k x link : ℕ)
     (set : IsSet starts k) (latest : k ≤ e) (unmet : Unmet rs e old k x s) where
   -- Completing a pair that was not completed yet stores items that were not stored yet.
-  fresh-complete : (u : Pass) → Heaped rs starts (Lower rs k x) s u → u .at .items ≡ s .at .items → Fresh rs e old (complete rs starts rows k x u)
+  fresh-complete : (u : Pass) → Heaped rs starts (Lower rs k x) s u → u .at .items ≡ s .at .items → Fresh rs e old (complete rs starts rows k x link u)
   fresh-complete u heaped same =
-      by-items (complete rs starts rows k x u) (complete-lower grounds s pending k x set u heaped)
-      (subst (λ (n : ℕ). OfPair rs k x (λ r. Unit {0}) n (complete rs starts rows k x u)) same
-      (complete-of-pair rs starts rows s k x set u (heaped .steady)))
+      by-items (complete rs starts rows k x link u) (complete-lower grounds s pending k x link set u heaped)
+      (subst (λ (n : ℕ). OfPair rs k x (λ r. Unit {0}) n (complete rs starts rows k x link u)) same
+      (complete-of-pair rs starts rows s k x link set u (heaped .steady)))
     where
       by-items : (t : Pass) → Heaped rs starts (Lower rs k x) s t → OfPair rs k x (λ r. Unit {0}) (s .at .items) t → Fresh rs e old t
       by-items t after of =
@@ -275,10 +276,10 @@ module _ {rs : List Rule} {starts rows : List ℕ} (grounds : Grounds rs starts 
 
 module _ {rs : List Rule} {starts rows : List ℕ} (grounds : Grounds rs starts rows) (e : ℕ) where
   -- The first completion of a pass stores fresh items.
-  pub fresh-first : (x : ℕ) (s : Pass) → Pending rs starts s → s .at .queued ≡ 0 → IsSet starts e
-      → Fresh rs e (s .at .items) (complete rs starts rows e x s)
-  fresh-first x s pending nothing set =
-      fresh-complete grounds s pending e (s .at .items) e x set (omega arith)
+  pub fresh-first : (x link : ℕ) (s : Pass) → Pending rs starts s → s .at .queued ≡ 0 → IsSet starts e
+      → Fresh rs e (s .at .items) (complete rs starts rows e x link s)
+  fresh-first x link s pending nothing set =
+      fresh-complete grounds s pending e (s .at .items) e x link set (omega arith)
       (record {
         has = omega arith;
         origins = λ p h there. absurd (omega arith);
@@ -304,7 +305,7 @@ module _ {rs : List Rule} {starts rows : List ℕ} (grounds : Grounds rs starts 
         let charts : Charts rs starts (greatest s) = greatest-charts rs starts s s some (pending-steady s pending) in
         let pair : (p : ℕ) → old ≤ p → p < s .at .items → Lower rs (originAt (s .items) p) (firstOf rs (itemAt (s .items) p)) (greatest s) =
         λ p h there. greatest-lower grounds s pending some (originAt (s .items) p) (firstOf rs (itemAt (s .items) p)) (fresh .behind p h there) in
-        fresh-complete grounds s pending e old (greatest s .origin) (leftOf rs (greatest s)) (charts .is-set)
+        fresh-complete grounds s pending e old (greatest s .origin) (leftOf rs (greatest s)) (s .at .used) (charts .is-set)
         (each-entry s (pending .sound .queued-fit) (λ v. originAt (s .items) (v .place) ≤ e) (fresh .entry-origins) 0 some)
         (record {
           has = fresh .has;
@@ -315,8 +316,8 @@ module _ {rs : List Rule} {starts rows : List ℕ} (grounds : Grounds rs starts 
               (let less : keyOf i < keyOf (greatest s) = lower .below (greatest s .rule) (charts .is-rule) refl in omega arith);
           distinct = fresh .distinct;
         })
-        (popSum rs (greatest s .origin) (leftOf rs (greatest s)) s) (pop-lower grounds s pending some)
-        (pop-items rs (greatest s .origin) (leftOf rs (greatest s)) s)
+        (summed rs (greatest s .origin) (leftOf rs (greatest s)) s) (pop-lower grounds s pending some)
+        (summed-items rs (greatest s .origin) (leftOf rs (greatest s)) s)
 
     record Both (s : Pass) : Type 0 where
       pub pending : Pending rs starts s
@@ -333,8 +334,8 @@ module _ {rs : List Rule} {starts rows : List ℕ} (grounds : Grounds rs starts 
         (length starts * length rs) s (record { pending = pending; fresh = fresh }) .fresh
 
   -- The items that a pass stores, behind those of the sets, are distinct and of origins up to the latest set.
-  pub pass-fresh : (x : ℕ) (s : Pass) → Pending rs starts s → s .at .queued ≡ 0 → IsSet starts e
-      → Fresh rs e (s .at .items) (completeAllSums rs starts rows (complete rs starts rows e x s))
-  pass-fresh x s pending nothing set =
-      fresh-all-sums (s .at .items) (complete rs starts rows e x s) (first-pending grounds s pending e x set nothing)
-      (fresh-first x s pending nothing set)
+  pub pass-fresh : (x link : ℕ) (s : Pass) → Pending rs starts s → s .at .queued ≡ 0 → IsSet starts e
+      → Fresh rs e (s .at .items) (completeAllSums rs starts rows (complete rs starts rows e x link s))
+  pass-fresh x link s pending nothing set =
+      fresh-all-sums (s .at .items) (complete rs starts rows e x link s) (first-pending grounds s pending e x link set nothing)
+      (fresh-first x link s pending nothing set)

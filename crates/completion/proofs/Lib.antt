@@ -1,5 +1,6 @@
 -- Laws on completion passes.
 pub mod Pushes
+pub mod Overlaid
 pub mod Soundness
 pub mod Waiting
 pub mod Searching

@@ -198,9 +198,9 @@ module _ {rs : List Rule} {starts rows : List ℕ} (grounds : Grounds rs starts 
       (next some)))
 
   -- The first pair of a pass, and those that its sums complete, fall strictly.
-  pub pass-falls : (n k x : ℕ) (s : Pass) → Pending rs starts s → s .at .queued ≡ 0 → IsSet starts k
-      → Falling rs (record { set = k; symbol = x } ∷ pairsCompleted rs starts rows n (complete rs starts rows k x s))
-  pass-falls n k x s pending none set =
-      let after : Pending rs starts (complete rs starts rows k x s) = first-pending grounds s pending k x set none in
-      then (pairs-beneath n k x (complete rs starts rows k x s) after (heaped-all (first-lower grounds s pending k x set none)))
-      (pairs-fall n (complete rs starts rows k x s) after)
+  pub pass-falls : (n k x link : ℕ) (s : Pass) → Pending rs starts s → s .at .queued ≡ 0 → IsSet starts k
+      → Falling rs (record { set = k; symbol = x } ∷ pairsCompleted rs starts rows n (complete rs starts rows k x link s))
+  pass-falls n k x link s pending none set =
+      let after : Pending rs starts (complete rs starts rows k x link s) = first-pending grounds s pending k x link set none in
+      then (pairs-beneath n k x (complete rs starts rows k x link s) after (heaped-all (first-lower grounds s pending k x link set none)))
+      (pairs-fall n (complete rs starts rows k x link s) after)

@@ -17,40 +17,40 @@ use Rattle.completion.proofs.Soundness.{then-sound, enqueue-sound}
 use Rattle.completion.proofs.Searching.{then-next-count, enqueue-count}
 
 -- Where the symbol is not predicted nothing is done.
-pub complete-passed : (rs : List Rule) (starts rows : List ℕ) (k x : ℕ) (s : Pass) → predicted rows k x ≡ false → complete rs starts rows k x s ≡ s
+pub complete-passed : (rs : List Rule) (starts rows : List ℕ) (k x link : ℕ) (s : Pass) → predicted rows k x ≡ false → complete rs starts rows k x link s ≡ s
 unfolding complete
-complete-passed rs starts rows k x s absent = rw (complete, absent) refl
+complete-passed rs starts rows k x link s absent = rw (complete, absent) refl
 
 -- Where it is predicted the three parts follow one another.
-pub complete-parts : (rs : List Rule) (starts rows : List ℕ) (k x : ℕ) (s : Pass) → predicted rows k x ≡ true
-    → complete rs starts rows k x s ≡ completeBinaryPredictions rs rows k x (completeUnaryPredictions rs rows k x (completeMedialItems rs starts k x s))
+pub complete-parts : (rs : List Rule) (starts rows : List ℕ) (k x link : ℕ) (s : Pass) → predicted rows k x ≡ true
+    → complete rs starts rows k x link s ≡ completeBinaryPredictions rs rows k x link (completeUnaryPredictions rs rows k x link (completeMedialItems rs starts k x link s))
 unfolding complete
-complete-parts rs starts rows k x s there = rw (complete, there) refl
+complete-parts rs starts rows k x link s there = rw (complete, there) refl
 
 -- A set has a row.
 pub has-row : (starts rows : List ℕ) (k : ℕ) → Rowed starts rows → IsSet starts k → HasRow rows k
 has-row starts rows k rowed is = record { few-sets = rowed .few-sets; row = omega (arith, rowed .sets, is .there) }
 
 -- A place is queued, or not: the pass stays sound, and so does the number of its items.
-medial-keeps : (rs : List Rule) (x p n : ℕ) (s : Pass) → p < n → PassFits s × (s .at .items ≡ n)
-    → PassFits (completeMedial rs x p s) × (completeMedial rs x p s .at .items ≡ n)
+medial-keeps : (rs : List Rule) (x link p n : ℕ) (s : Pass) → p < n → PassFits s × (s .at .items ≡ n)
+    → PassFits (completeMedial rs x link p s) × (completeMedial rs x link p s .at .items ≡ n)
 unfolding completeMedial
-medial-keeps rs x p n s there known = (
+medial-keeps rs x link p n s there known = (
   then-sound s _ (known .0) (λ on. by-second-sound (eqb (secondOf rs (itemAt (s .items) p)) x)),
   then-next-count s _ (by-second-count (eqb (secondOf rs (itemAt (s .items) p)) x)) ∙ known .1,
 )
   where
-    by-second-sound : (b : Bool) → PassFits (elim b [ true ↦ enqueue p s | false ↦ s ])
-    by-second-sound true = enqueue-sound p s (known .0) (omega (arith, known .1))
+    by-second-sound : (b : Bool) → PassFits (elim b [ true ↦ enqueue p link s | false ↦ s ])
+    by-second-sound true = enqueue-sound p link s (known .0) (omega (arith, known .1))
     by-second-sound false = known .0
 
-    by-second-count : (b : Bool) → (elim b as (λ (t : Bool). Pass) [ true ↦ enqueue p s | false ↦ s ]) .at .items ≡ s .at .items
-    by-second-count true = enqueue-count p s
+    by-second-count : (b : Bool) → (elim b as (λ (t : Bool). Pass) [ true ↦ enqueue p link s | false ↦ s ]) .at .items ≡ s .at .items
+    by-second-count true = enqueue-count p link s
     by-second-count false = refl
 
 -- Completing the items of a set keeps a pass sound.
-pub medials-sound : (rs : List Rule) (starts : List ℕ) (k x : ℕ) (s : Pass) → PassFits s → Charted rs starts s → PassFits (completeMedialItems rs starts k x s)
+pub medials-sound : (rs : List Rule) (starts : List ℕ) (k x link : ℕ) (s : Pass) → PassFits s → Charted rs starts s → PassFits (completeMedialItems rs starts k x link s)
 unfolding completeMedialItems
-medials-sound rs starts k x s sound chart =
-    over-keeps (λ (u : Pass). PassFits u × (u .at .items ≡ s .at .items)) (getD starts (k + 1) 0 - getD starts k 0) (λ i. completeMedial rs x (getD starts k 0 + i))
-    (λ i u h known. medial-keeps rs x (getD starts k 0 + i) (s .at .items) u (omega (arith, chart .starts-fit (k + 1))) known) s (sound, refl) .0
+medials-sound rs starts k x link s sound chart =
+    over-keeps (λ (u : Pass). PassFits u × (u .at .items ≡ s .at .items)) (getD starts (k + 1) 0 - getD starts k 0) (λ i. completeMedial rs x link (getD starts k 0 + i))
+    (λ i u h known. medial-keeps rs x link (getD starts k 0 + i) (s .at .items) u (omega (arith, chart .starts-fit (k + 1))) known) s (sound, refl) .0

@@ -5,23 +5,25 @@ use Prim.Native.Nat.{ℕ, _*_, _≤_, _<_}
 use native.Mathlib.Omega.{arith}
 use lib.ListN.{length, getD}
 use Rattle.item.specs.Item.{Item, itemWords, itemAt, originAt, ruleAt}
-use Rattle.binary_heap.specs.Entry.{noEntry}
+use Rattle.binary_heap.specs.Entry.{noEntry, entryWords}
 use Rattle.binary_heap.specs.Sift.{entryAt}
 use Rattle.grammar.specs.Rules.{Rule, Grammar}
 use Rattle.grammar.specs.Accepted.{Accepted, maxRules}
 use Rattle.parse.specs.declared.State.{State}
-use Rattle.parse.specs.Words.{Words, maxItems, maxSets}
+use Rattle.parse.specs.Words.{Words, maxItems, maxSets, maxQueued}
 use Rattle.parse.specs.WellFormed.{WellFormed, placing}
-use Rattle.completion.specs.Pass.{Pass}
+use Rattle.node.specs.declared.Node.{Node}
+use Rattle.completion.specs.Pass.{Pass, append}
 use Rattle.completion.specs.Complete.{complete}
 use Rattle.completion.specs.Sums.{completeAllSums}
 use Rattle.completion.specs.inner.Ready.{IsSet, Rowed, PassFits, Charted}
-use Rattle.completion.proofs.Onward.{Onward, SpareQueue}
+use Rattle.completion.proofs.Entries.{append-count, append-queued}
+use Rattle.completion.proofs.Onward.{Onward, onward-trans, onward-append, SpareQueue}
 use Rattle.completion.proofs.Charting.{Steady, steady-all-sums}
 use Rattle.completion.specs.inner.Pending.{Grounds, Pending}
-use Rattle.completion.proofs.Pending.{first-lower, first-pending}
+use Rattle.completion.proofs.Pending.{pending-append, first-lower, first-pending}
 use Rattle.completion.proofs.Distinct.{Fresh, pass-fresh}
-use Rattle.completion.proofs.Refusals.{Ends, on, stops-complete, all-sums-end}
+use Rattle.completion.proofs.Refusals.{Stops, Ends, on, stops-append, stops-complete, all-sums-end}
 use Rattle.completion.proofs.Beginning.{beginning, accepted-grounds, begins-pending, is-set}
 
 -- Pass `t` is what steps 2 and 3 made of pass `s`, with `e` the latest set.
@@ -37,14 +39,14 @@ pub record Passed (rs : List Rule) (starts : List ℕ) (e : ℕ) (s t : Pass) : 
   pub ends : Ends t
 
 -- A pass from a pending one with an empty queue.
-pub pass-done : {rs : List Rule} {starts rows : List ℕ} → Grounds rs starts rows → (e x : ℕ) → IsSet starts e → (s : Pass) → Pending rs starts s
-    → s .at .queued ≡ 0 → s .at .stopped ≡ 0 → Passed rs starts e s (completeAllSums rs starts rows (complete rs starts rows e x s))
-pass-done {rs} {starts} {rows} grounds e x set s pending nothing going =
-    by-parts (completeAllSums rs starts rows (complete rs starts rows e x s))
-    (steady-all-sums rs starts s rows (complete rs starts rows e x s) (first-lower grounds s pending e x set nothing .steady))
-    (pass-fresh grounds e x s pending nothing set)
-    (all-sums-end grounds (complete rs starts rows e x s) (first-pending grounds s pending e x set nothing)
-    (stops-complete rs starts rows e x s (on going)))
+pub pass-done : {rs : List Rule} {starts rows : List ℕ} → Grounds rs starts rows → (e x link : ℕ) → IsSet starts e → (s : Pass) → Pending rs starts s
+    → s .at .queued ≡ 0 → Stops s → Passed rs starts e s (completeAllSums rs starts rows (complete rs starts rows e x link s))
+pass-done {rs} {starts} {rows} grounds e x link set s pending nothing stops =
+    by-parts (completeAllSums rs starts rows (complete rs starts rows e x link s))
+    (steady-all-sums rs starts s rows (complete rs starts rows e x link s) (first-lower grounds s pending e x link set nothing .steady))
+    (pass-fresh grounds e x link s pending nothing set)
+    (all-sums-end grounds (complete rs starts rows e x link s) (first-pending grounds s pending e x link set nothing)
+    (stops-complete rs starts rows e x link s stops))
   where
     by-parts : (t : Pass) → Steady rs starts s t → Fresh rs e (s .at .items) t → Ends t → Passed rs starts e s t
     by-parts t steady fresh ends =
@@ -80,17 +82,33 @@ module _ {rs : List Rule} {starts : List ℕ} {e : ℕ} {s t : Pass} (passed : P
       by-end (Ends.empty still none) = none
       by-end (Ends.full-items stopped full) = absurd (omega arith)
       by-end (Ends.full-queue stopped full) = absurd (omega arith)
+      by-end (Ends.full-store stopped) = absurd (omega arith)
 
   -- Item words behind the new items are 0, if those behind the old were.
   pub passed-spare : ((i : ℕ) → itemWords * s .at .items ≤ i → getD (s .items) i 0 ≡ 0) → (i : ℕ) → itemWords * t .at .items ≤ i → getD (t .items) i 0 ≡ 0
   passed-spare spare i behind = passed .onward .same-spare i behind ∙ spare i (omega (arith, passed .onward .more-items))
 
+-- A node written first.
+passed-written : {rs : List Rule} {starts : List ℕ} {e : ℕ} {s t : Pass} (n : Node) → Passed rs starts e (append n s) t → Passed rs starts e s t
+passed-written {s = s} n passed =
+    let same : append n s .at .items ≡ s .at .items = append-count n s in
+    record {
+      onward = onward-trans (onward-append n s) (passed .onward);
+      sound = passed .sound;
+      charted = passed .charted;
+      origins = λ p from there. passed .origins p (omega arith) there;
+      distinct = λ p q from less there. passed .distinct p q (omega arith) less there;
+      ends = passed .ends;
+    }
+
 -- A token's pass on any well-formed state of an accepted grammar.
 pub token-passed : (g : Grammar) → Accepted g → {n : ℕ} {st : State} {v : Words} → WellFormed n (g .rules) st v
-    → length (v .items) ≤ itemWords * maxItems → Rowed (v .starts) (v .rows) → (x : ℕ)
+    → length (v .items) ≤ itemWords * maxItems → length (v .queue) ≤ entryWords * maxQueued → Rowed (v .starts) (v .rows) → (x link : ℕ) (node : Node)
     → Passed (g .rules) (v .starts) (st .set) (beginning st v)
-    (completeAllSums (g .rules) (v .starts) (v .rows) (complete (g .rules) (v .starts) (v .rows) (st .set) x (beginning st v)))
-token-passed g accepted {n} {st} {v} well few-items rowed x =
-    pass-done (accepted-grounds g accepted (v .starts) (v .rows) rowed) (st .set) x
-    (is-set well (accepted .few-rules) few-items rowed (st .set) (omega arith)) (beginning st v)
-    (begins-pending well (accepted .few-rules) few-items rowed) refl refl
+    (completeAllSums (g .rules) (v .starts) (v .rows) (complete (g .rules) (v .starts) (v .rows) (st .set) x link (append node (beginning st v))))
+token-passed g accepted {n} {st} {v} well few-items few-entries rowed x link node =
+    let pending = begins-pending well (accepted .few-rules) few-items few-entries rowed in
+    passed-written node
+    (pass-done (accepted-grounds g accepted (v .starts) (v .rows) rowed) (st .set) x link
+    (is-set well (accepted .few-rules) few-items few-entries rowed (st .set) (omega arith)) (append node (beginning st v))
+    (pending-append (beginning st v) pending node) (append-queued node (beginning st v)) (stops-append (beginning st v) node (on refl)))

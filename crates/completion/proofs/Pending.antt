@@ -18,16 +18,19 @@ use Rattle.binary_heap.proofs.Top.{top-greatest}
 use Rattle.grammar.specs.Rules.{Rule, none, noRule}
 use Rattle.grammar.specs.Accepted.{maxRules}
 use Rattle.parse.specs.WellFormed.{leftOf}
-use Rattle.completion.specs.Pass.{Pass}
+use Rattle.node.specs.declared.Node.{Node}
+use Rattle.node.specs.declared.Node.the-variants.{Sum}
+use Rattle.completion.specs.Pass.{Pass, append}
 use Rattle.completion.specs.Complete.{complete}
-use Rattle.completion.specs.Sums.{greatest, sumEnds, nextSummand, popSum, completeSum, rests, completeAllSums}
+use Rattle.completion.specs.Sums.{greatest, summands, sumEnds, nextSummand, popSum, summed, completeSum, rests, completeAllSums}
 use Rattle.completion.specs.inner.Ready.{IsSet}
 use Rattle.completion.specs.inner.Pending.{Grounds, Pending}
+use Rattle.completion.proofs.Summing.{next-queued}
 use Rattle.completion.proofs.Turning.{sum-goes, sum-ended, not-resting, goes}
 use Rattle.completion.proofs.Entries.{entriesOf, entries-length, entry-at, each-entry}
 use Rattle.completion.proofs.Through.{Begins}
-use Rattle.completion.proofs.Charting.{Charts, Steady, steady-refl, steady-next, greatest-charts}
-use Rattle.completion.proofs.Heaped.{Heaped, heaped-pop, heaped-complete}
+use Rattle.completion.proofs.Charting.{Charts, Steady, steady-refl, steady-append, steady-next, greatest-charts}
+use Rattle.completion.proofs.Heaped.{Heaped, heaped-append, heaped-pop, heaped-complete}
 
 -- An item comes below the pair of set `k` and symbol `x`: its origin is not above `k`, and it is below every rule of `x` at `k`.
 pub record Lower (rs : List Rule) (k x : ℕ) (i : Item) : Type 0 where
@@ -53,8 +56,8 @@ module _ {rs : List Rule} {starts rows : List ℕ} (grounds : Grounds rs starts 
   few = grounds .rules-fit .few-rules
 
   -- A rule A ::= x of origin `k` is below the pair of `k` and `x`.
-  pub lower-unary : {k x r : ℕ} → Begins rs rows k x r → getD rs r noRule .second ≡ none → Lower rs k x (record { origin = k; rule = r })
-  lower-unary {k} {x} {r} begins one =
+  pub lower-unary : {k x link r : ℕ} → Begins rs rows k x r → getD rs r noRule .second ≡ none → Lower rs k x (record { origin = k; rule = r; handle = link })
+  lower-unary {k} {x} {link} {r} begins one =
       record {
         up-to = omega arith;
         below = λ s there left. omega (arith, grounds .unary-below r s (begins .is-rule) there one (left ∙ sym (begins .begins)));
@@ -113,19 +116,26 @@ module _ {rs : List Rule} {starts : List ℕ} (s : Pass) (pending : Pending rs s
         heap = heaped .ordered .heap;
       }
 
-module _ {rs : List Rule} {starts rows : List ℕ} (grounds : Grounds rs starts rows) (s : Pass) (pending : Pending rs starts s) (k x : ℕ)
+-- A node written leaves a pending pass pending.
+pub pending-append : {rs : List Rule} {starts : List ℕ} (s : Pass) → Pending rs starts s → (n : Node) → Pending rs starts (append n s)
+pending-append {rs} {starts} s pending n =
+    pending-onward s pending (append n s)
+    (heaped-append rs starts (λ i. Unit {0}) s n s
+    (record { steady = pending-steady s pending; ordered = record { heap = pending .heap; each = record { each = λ i there. tt } } }))
+
+module _ {rs : List Rule} {starts rows : List ℕ} (grounds : Grounds rs starts rows) (s : Pass) (pending : Pending rs starts s) (k x link : ℕ)
     (set : IsSet starts k) where
   -- Completing a pair queues only what is below it.
-  pub complete-lower : (t : Pass) → Heaped rs starts (Lower rs k x) s t → Heaped rs starts (Lower rs k x) s (complete rs starts rows k x t)
+  pub complete-lower : (t : Pass) → Heaped rs starts (Lower rs k x) s t → Heaped rs starts (Lower rs k x) s (complete rs starts rows k x link t)
   complete-lower =
-      heaped-complete rs starts (Lower rs k x) s rows k x set (pending .charted)
+      heaped-complete rs starts (Lower rs k x) s rows k x link set (pending .charted)
       (λ p inside second.
       lower-earlier (grounds .rules-fit .few-rules)
       (pending .charted .rules p (omega (arith, inside .up-to, pending .charted .starts-fit (k + 1)))) (pending .earlier k p (inside .from) (inside .up-to)))
       (λ r begins one. lower-unary grounds begins one)
 
   -- The first completion of a pass, from an empty queue.
-  pub first-lower : s .at .queued ≡ 0 → Heaped rs starts (Lower rs k x) s (complete rs starts rows k x s)
+  pub first-lower : s .at .queued ≡ 0 → Heaped rs starts (Lower rs k x) s (complete rs starts rows k x link s)
   first-lower none =
       complete-lower s
       (record {
@@ -136,25 +146,26 @@ module _ {rs : List Rule} {starts rows : List ℕ} (grounds : Grounds rs starts 
         };
       })
 
-  pub first-pending : s .at .queued ≡ 0 → Pending rs starts (complete rs starts rows k x s)
-  first-pending none = pending-onward s pending (complete rs starts rows k x s) (first-lower none)
+  pub first-pending : s .at .queued ≡ 0 → Pending rs starts (complete rs starts rows k x link s)
+  first-pending none = pending-onward s pending (complete rs starts rows k x link s) (first-lower none)
 
 module _ {rs : List Rule} {starts rows : List ℕ} (grounds : Grounds rs starts rows) (s : Pass) (pending : Pending rs starts s)
     (some : 0 < s .at .queued) where
   -- Popping a sum goes on until it ends.
-  pop-ended : (k x : ℕ) → sumEnds rs k x (popSum rs k x s) ≡ true
-  unfolding popSum nextSummand
-  pop-ended k x =
+  pop-ended : (k x : ℕ) (t : Pass) → Steady rs starts s t → sumEnds rs k x (popSum rs k x t) ≡ true
+  unfolding popSum
+  pop-ended k x t steady =
       until-ends (sumEnds rs k x) nextSummand (Steady rs starts s) (λ u. u .at .queued)
       (λ u goes. steady-next rs starts s u (sum-goes rs k x u goes))
-      (λ u goes steady. let more : 0 < u .at .queued = sum-goes rs k x u goes in omega arith)
-      (s .at .queued) s (pending-steady s pending) (omega arith)
+      (λ u goes steady. let more : 0 < u .at .queued = sum-goes rs k x u goes in omega (arith, next-queued u))
+      (t .at .queued) t steady (omega arith)
 
   -- What is left after the sum is not above its first summand.
-  pop-not-above : (k x : ℕ) → Heaped rs starts (λ i. keyOf i ≤ keyOf (greatest s)) s (popSum rs k x s)
+  pop-not-above : (k x : ℕ) → Heaped rs starts (λ i. keyOf i ≤ keyOf (greatest s)) s (summed rs k x s)
   pop-not-above k x =
-      heaped-pop rs starts (λ i. keyOf i ≤ keyOf (greatest s)) s k x s
-      (record { steady = pending-steady s pending; ordered = record { heap = pending .heap; each = greatest-entry s pending some } })
+      heaped-pop rs starts (λ i. keyOf i ≤ keyOf (greatest s)) s k x (append (Sum (summands rs k x s) x) s)
+      (heaped-append rs starts (λ i. keyOf i ≤ keyOf (greatest s)) s (Sum (summands rs k x s) x) s
+      (record { steady = pending-steady s pending; ordered = record { heap = pending .heap; each = greatest-entry s pending some } }))
 
   greatest-charted : Charts rs starts (greatest s)
   greatest-charted = greatest-charts rs starts s s some (pending-steady s pending)
@@ -187,17 +198,19 @@ module _ {rs : List Rule} {starts rows : List ℕ} (grounds : Grounds rs starts 
 
   -- After a sum was popped every entry left is below its pair.
   pub pop-lower : Heaped rs starts (Lower rs (greatest s .origin) (leftOf rs (greatest s))) s
-      (popSum rs (greatest s .origin) (leftOf rs (greatest s)) s)
+      (summed rs (greatest s .origin) (leftOf rs (greatest s)) s)
   pop-lower =
-      all-lower (popSum rs (greatest s .origin) (leftOf rs (greatest s)) s) (pop-not-above (greatest s .origin) (leftOf rs (greatest s)))
-      (pop-ended (greatest s .origin) (leftOf rs (greatest s)))
+      let k : ℕ = greatest s .origin in
+      let x : ℕ = leftOf rs (greatest s) in
+      all-lower (summed rs (greatest s .origin) (leftOf rs (greatest s)) s) (pop-not-above (greatest s .origin) (leftOf rs (greatest s)))
+      (pop-ended k x (append (Sum (summands rs k x s) x) s) (steady-append rs starts s (Sum (summands rs k x s) x) s (pending-steady s pending)))
 
   -- After the pair was completed too.
   pub sum-lower : Heaped rs starts (Lower rs (greatest s .origin) (leftOf rs (greatest s))) s (completeSum rs starts rows s)
   unfolding completeSum
   sum-lower =
-      complete-lower grounds s pending (greatest s .origin) (leftOf rs (greatest s)) (greatest-charted .is-set)
-      (popSum rs (greatest s .origin) (leftOf rs (greatest s)) s) pop-lower
+      complete-lower grounds s pending (greatest s .origin) (leftOf rs (greatest s)) (s .at .used) (greatest-charted .is-set)
+      (summed rs (greatest s .origin) (leftOf rs (greatest s)) s) pop-lower
 
   -- A sum leaves a pending pass pending.
   pub pending-sum : Pending rs starts (completeSum rs starts rows s)

@@ -6,17 +6,20 @@ use Prim.Native.Nat.{ℕ, _<_}
 use Rattle.grammar.specs.Rules.{Rule}
 use Rattle.completion.specs.Pass.{Pass}
 use Rattle.completion.specs.Sums.{completeSum, rests, completeAllSums}
+use Rattle.completion.specs.inner.Ready.{UnitsFit}
+use Rattle.completion.proofs.Onward.{units-onward}
 use Rattle.completion.specs.inner.Pending.{Grounds, Pending}
 use Rattle.completion.proofs.Turning.{rests-stopped, rests-empty}
-use Rattle.completion.proofs.Pending.{left, left-falls, pending-sum, all-sums-turn, all-sums-done}
+use Rattle.completion.proofs.Pending.{left, left-falls, sum-lower, pending-sum, all-sums-turn, all-sums-done}
 
 -- The loop came from pass `start` to pass `now`.
 pub record Remaining (rs : List Rule) (starts rows : List ℕ) (start now : Pass) : Type 0 where
   pub pending : Pending rs starts now
+  pub units : UnitsFit now
   pub same : completeAllSums rs starts rows now ≡ completeAllSums rs starts rows start
 
-pub remaining-start : (rs : List Rule) (starts rows : List ℕ) (s : Pass) → Pending rs starts s → Remaining rs starts rows s s
-remaining-start rs starts rows s pending = record { pending = pending; same = refl }
+pub remaining-start : (rs : List Rule) (starts rows : List ℕ) (s : Pass) → Pending rs starts s → UnitsFit s → Remaining rs starts rows s s
+remaining-start rs starts rows s pending units = record { pending = pending; units = units; same = refl }
 
 module _ {rs : List Rule} {starts rows : List ℕ} (grounds : Grounds rs starts rows) {start now : Pass} (remaining : Remaining rs starts rows start now) where
   -- A turn is one sum, and less is left then.
@@ -26,6 +29,7 @@ module _ {rs : List Rule} {starts rows : List ℕ} (grounds : Grounds rs starts 
       subst (Remaining rs starts rows start) (sym is)
       (record {
         pending = pending-sum grounds now (remaining .pending) some;
+        units = units-onward (sum-lower grounds now (remaining .pending) some .steady .onward) (remaining .units);
         same = all-sums-turn grounds now (remaining .pending) going some ∙ remaining .same;
       })
 

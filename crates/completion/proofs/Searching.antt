@@ -52,19 +52,19 @@ module _ (rs : List Rule) (items : List ℕ) (from to : ℕ) (search : Searchabl
       }
 
 -- Queueing leaves the items.
-enqueue-items : (place : ℕ) (s : Pass) → enqueue place s .items ≡ s .items
-enqueue-items place s =
+enqueue-items : (place right : ℕ) (s : Pass) → enqueue place right s .items ≡ s .items
+enqueue-items place right s =
     elim (decLt (s .at .queued) (length (s .queue))) [
-      | yes free ↦ ap (λ (u : Pass). u .items) (enqueue-done s place free)
-      | no full ↦ ap (λ (u : Pass). u .items) (enqueue-refused s place (omega arith))
+      | yes free ↦ ap (λ (u : Pass). u .items) (enqueue-done s place right free)
+      | no full ↦ ap (λ (u : Pass). u .items) (enqueue-refused s place right (omega arith))
     ]
 
 -- Queueing leaves the number of items.
-pub enqueue-count : (place : ℕ) (s : Pass) → enqueue place s .at .items ≡ s .at .items
-enqueue-count place s =
+pub enqueue-count : (place right : ℕ) (s : Pass) → enqueue place right s .at .items ≡ s .at .items
+enqueue-count place right s =
     elim (decLt (s .at .queued) (length (s .queue))) [
-      | yes free ↦ ap (λ (u : Pass). u .at .items) (enqueue-done s place free)
-      | no full ↦ ap (λ (u : Pass). u .at .items) (enqueue-refused s place (omega arith))
+      | yes free ↦ ap (λ (u : Pass). u .at .items) (enqueue-done s place right free)
+      | no full ↦ ap (λ (u : Pass). u .at .items) (enqueue-refused s place right (omega arith))
     ]
 
 -- What goes on leaves the number of items, if it does so from there.
@@ -83,9 +83,9 @@ then-items s next same =
       | no ne ↦ ap (λ (u : Pass). u .items) (stays s next ne)
     ]
 
-module _ (rs : List Rule) (x : ℕ) where
+module _ (rs : List Rule) (x link : ℕ) where
   -- An item with another second is passed over.
-  medial-other : (p : ℕ) (s : Pass) → (secondOf rs (itemAt (s .items) p) ≡ x → ⊥) → completeMedial rs x p s ≡ s
+  medial-other : (p : ℕ) (s : Pass) → (secondOf rs (itemAt (s .items) p) ≡ x → ⊥) → completeMedial rs x link p s ≡ s
   unfolding completeMedial
   medial-other p s other =
       elim (ℕ-discrete (s .at .stopped) 0) [
@@ -94,19 +94,19 @@ module _ (rs : List Rule) (x : ℕ) where
       ]
 
   -- One with this second is queued.
-  medial-same : (p : ℕ) (s : Pass) → secondOf rs (itemAt (s .items) p) ≡ x → completeMedial rs x p s ≡ andThen s (enqueue p)
+  medial-same : (p : ℕ) (s : Pass) → secondOf rs (itemAt (s .items) p) ≡ x → completeMedial rs x link p s ≡ andThen s (enqueue p link)
   unfolding completeMedial
   medial-same p s same =
       elim (ℕ-discrete (s .at .stopped) 0) [
-        | yes e ↦ goes-on s _ e ∙ rw (eq-eqb (secondOf rs (itemAt (s .items) p)) x same) refl ∙ sym (goes-on s (enqueue p) e)
-        | no ne ↦ stays s _ ne ∙ sym (stays s (enqueue p) ne)
+        | yes e ↦ goes-on s _ e ∙ rw (eq-eqb (secondOf rs (itemAt (s .items) p)) x same) refl ∙ sym (goes-on s (enqueue p link) e)
+        | no ne ↦ stays s _ ne ∙ sym (stays s (enqueue p link) ne)
       ]
 
 -- Each of `number` places from `first` on is queued.
-abbrev pub queueing : ℕ → ℕ → Pass → Pass
-queueing first i s = andThen s (enqueue (first + i))
+abbrev pub queueing : ℕ → ℕ → ℕ → Pass → Pass
+queueing link first i s = andThen s (enqueue (first + i) link)
 
-module _ (rs : List Rule) (starts : List ℕ) (k x first number : ℕ) (s : Pass)
+module _ (rs : List Rule) (starts : List ℕ) (k x link first number : ℕ) (s : Pass)
     (found : Found rs (s .items) (getD starts k 0) (getD starts (k + 1) 0) x first number) where
   Same : Pass → Type 0
   Same u = u .items ≡ s .items
@@ -116,38 +116,38 @@ module _ (rs : List Rule) (starts : List ℕ) (k x first number : ℕ) (s : Pass
   second-same p u same = ap (λ (w : List ℕ). secondOf rs (itemAt w p)) same
 
   -- Before those that were found, and behind them, nothing is done.
-  passed-before : (p : ℕ) (u : Pass) → getD starts k 0 ≤ p → p < first → Same u → completeMedial rs x p u ≡ u
+  passed-before : (p : ℕ) (u : Pass) → getD starts k 0 ≤ p → p < first → Same u → completeMedial rs x link p u ≡ u
   passed-before p u low high same =
-      medial-other rs x p u (λ e. let less : secondAt rs (s .items) p < x = found .before p low high in omega (arith, second-same p u same))
+      medial-other rs x link p u (λ e. let less : secondAt rs (s .items) p < x = found .before p low high in omega (arith, second-same p u same))
 
-  passed-behind : (p : ℕ) (u : Pass) → first + number ≤ p → p < getD starts (k + 1) 0 → Same u → completeMedial rs x p u ≡ u
+  passed-behind : (p : ℕ) (u : Pass) → first + number ≤ p → p < getD starts (k + 1) 0 → Same u → completeMedial rs x link p u ≡ u
   passed-behind p u low high same =
-      medial-other rs x p u (λ e. let more : x < secondAt rs (s .items) p = found .behind p low high in omega (arith, second-same p u same))
+      medial-other rs x link p u (λ e. let more : x < secondAt rs (s .items) p = found .behind p low high in omega (arith, second-same p u same))
 
   -- Those that were found are queued.
-  queued-there : (p i : ℕ) (u : Pass) → p ≡ first + i → i < number → Same u → completeMedial rs x p u ≡ queueing first i u
+  queued-there : (p i : ℕ) (u : Pass) → p ≡ first + i → i < number → Same u → completeMedial rs x link p u ≡ queueing link first i u
   queued-there p i u at few same =
-      medial-same rs x p u (second-same p u same ∙ found .there p (omega arith) (omega arith)) ∙ ap (λ (q : ℕ). andThen u (enqueue q)) at
+      medial-same rs x link p u (second-same p u same ∙ found .there p (omega arith) (omega arith)) ∙ ap (λ (q : ℕ). andThen u (enqueue q link)) at
 
-  queueing-same : (i : ℕ) (u : Pass) → Same u → Same (queueing first i u)
+  queueing-same : (i : ℕ) (u : Pass) → Same u → Same (queueing link first i u)
   unfolding Same
-  queueing-same i u same = then-items u (enqueue (first + i)) (enqueue-items (first + i) u) ∙ same
+  queueing-same i u same = then-items u (enqueue (first + i) link) (enqueue-items (first + i) link u) ∙ same
 
   -- Completing the items of a set is queueing those that were found.
-  pub medial-found : completeMedialItems rs starts k x s ≡ over number (queueing first) s
+  pub medial-found : completeMedialItems rs starts k x link s ≡ over number (queueing link first) s
   unfolding completeMedialItems Same
   medial-found =
       let from = getD starts k 0 in
       let to = getD starts (k + 1) 0 in
-      let turn : ℕ → Pass → Pass = λ i. completeMedial rs x (from + i) in
+      let turn : ℕ → Pass → Pass = λ i. completeMedial rs x link (from + i) in
       let before : ℕ = first - from in
       let behind : ℕ = to - (first + number) in
       let all : to - from ≡ before + (number + behind) = omega (arith, found .from-on, found .up-to) in
-      let queues : over number (λ i. turn (before + i)) s ≡ over number (queueing first) s =
-      over-same Same number (λ i. turn (before + i)) (queueing first)
+      let queues : over number (λ i. turn (before + i)) s ≡ over number (queueing link first) s =
+      over-same Same number (λ i. turn (before + i)) (queueing link first)
       (λ i u h same. subst Same (sym (queued-there (from + (before + i)) i u (omega (arith, found .from-on)) h same)) (queueing-same i u same))
       (λ i u h same. queued-there (from + (before + i)) i u (omega (arith, found .from-on)) h same) s refl in
-      let kept : Same (over number (queueing first) s) = over-keeps Same number (queueing first) (λ i u h same. queueing-same i u same) s refl in
+      let kept : Same (over number (queueing link first) s) = over-keeps Same number (queueing link first) (λ i u h same. queueing-same i u same) s refl in
       ap (λ (n : ℕ). over n turn s) all
       ∙ over-split before (number + behind) turn s
       ∙ ap (λ (u : Pass). over (number + behind) (λ i. turn (before + i)) u)
@@ -187,10 +187,10 @@ second-read words count items p r second rule there read =
     read ∙ ap (λ (q : ℕ). secondIn words q) rule ∙ rule-second words count (ruleAt items p) there
 
 -- Queueing places of items keeps a pass sound, and its items.
-pub queueing-sound : (first number n : ℕ) (s : Pass) → PassFits s → first + number ≤ s .at .items → n ≤ number → PassFits (over n (queueing first) s) × (over n (queueing first) s .at .items ≡ s .at .items)
-queueing-sound first number n s sound there few =
-    over-keeps (λ (u : Pass). PassFits u × (u .at .items ≡ s .at .items)) n (queueing first)
-    (λ i u h known. (then-sound u (enqueue (first + i)) (known .0) (λ on. enqueue-sound (first + i) u (known .0) (omega (arith, known .1))), then-next-count u (enqueue (first + i)) (enqueue-count (first + i) u) ∙ known .1)) s (sound, refl)
+pub queueing-sound : (link first number n : ℕ) (s : Pass) → PassFits s → first + number ≤ s .at .items → n ≤ number → PassFits (over n (queueing link first) s) × (over n (queueing link first) s .at .items ≡ s .at .items)
+queueing-sound link first number n s sound there few =
+    over-keeps (λ (u : Pass). PassFits u × (u .at .items ≡ s .at .items)) n (queueing link first)
+    (λ i u h known. (then-sound u (enqueue (first + i) link) (known .0) (λ on. enqueue-sound (first + i) link u (known .0) (omega (arith, known .1))), then-next-count u (enqueue (first + i) link) (enqueue-count (first + i) link u) ∙ known .1)) s (sound, refl)
 
 -- A search by halves: seconds below the symbol stand before `low`, and none from `high` on.
 pub record Halving (rs : List Rule) (items : List ℕ) (from to x low high : ℕ) : Type 0 where

@@ -4,7 +4,7 @@ use mathlib.Core.List.{List, _++_}
 use Prim.Native.Nat.{ℕ, _+_, _/_, _<_}
 use native.Mathlib.Decide.{decLt, ℕ-discrete}
 use native.Mathlib.Omega.{arith}
-use lib.ListN.{length, take, drop, length-append, List·getD-append}
+use lib.ListN.{length, take, drop, length-append, length-drop, List·getD-append}
 use lib.Seq.{length-take-le, getD-take}
 use borrow.Author.Tests.{lt-ltb}
 use Rattle.binary_heap.proofs.Each.{Every}
@@ -32,7 +32,13 @@ sound-places s sound =
 -- A refusal keeps a pass sound.
 pub refused-sound : (n : ℕ) (s : Pass) → PassFits s → PassFits (refused n s)
 refused-sound n s sound =
-    record { few-items = sound .few-items; items-fit = sound .items-fit; queued-fit = sound .queued-fit; entries = sound .entries }
+    record {
+      few-items = sound .few-items;
+      items-fit = sound .items-fit;
+      few-entries = sound .few-entries;
+      queued-fit = sound .queued-fit;
+      entries = sound .entries;
+    }
 
 -- What goes on from a sound pass that was not refused, if it stays sound.
 pub then-sound : (s : Pass) (next : Pass → Pass) → PassFits s → (s .at .stopped ≡ 0 → PassFits (next s)) → PassFits (andThen s next)
@@ -43,21 +49,22 @@ then-sound s next sound on =
     ]
 
 -- Storing an item keeps a pass sound.
-pub store-sound : (origin rule : ℕ) (s : Pass) → PassFits s → PassFits (store origin rule s)
-store-sound origin rule s sound =
+pub store-sound : (origin rule handle : ℕ) (s : Pass) → PassFits s → PassFits (store origin rule handle s)
+store-sound origin rule handle s sound =
     elim (decLt (s .at .items) (length (s .items) / itemWords)) [
-      | yes place ↦ subst PassFits (sym (store-done s origin rule place)) (done place)
-      | no full ↦ subst PassFits (sym (store-refused s origin rule (omega arith))) (refused-sound 7 s sound)
+      | yes place ↦ subst PassFits (sym (store-done s origin rule handle place)) (done place)
+      | no full ↦ subst PassFits (sym (store-refused s origin rule handle (omega arith))) (refused-sound 7 s sound)
     ]
   where
-    long : length (stored (s .items) (s .at .items) (record { origin = origin; rule = rule })) ≡ length (s .items)
-    long = stored-length (s .items) (s .at .items) (record { origin = origin; rule = rule })
+    long : length (stored (s .items) (s .at .items) (record { origin = origin; rule = rule; handle = handle })) ≡ length (s .items)
+    long = stored-length (s .items) (s .at .items) (record { origin = origin; rule = rule; handle = handle })
 
-    done : s .at .items < length (s .items) / itemWords → PassFits (passWith (record { stopped = 0; items = s .at .items + 1; queued = s .at .queued }) (stored (s .items) (s .at .items) (record { origin = origin; rule = rule })) (s .queue))
+    done : s .at .items < length (s .items) / itemWords → PassFits (passWith (record { stopped = 0; items = s .at .items + 1; queued = s .at .queued; used = s .at .used }) (stored (s .items) (s .at .items) (record { origin = origin; rule = rule; handle = handle })) (s .queue) (s .units))
     done place =
         record {
           few-items = omega (arith, long, sound .few-items);
           items-fit = omega (arith, long);
+          few-entries = sound .few-entries;
           queued-fit = sound .queued-fit;
           entries = λ i there. omega (arith, sound .entries i there);
         }
@@ -68,11 +75,11 @@ unfolding pushQueue
 push-into key q n entry free = rw (pushQueue, lt-ltb n (length q) free) refl
 
 -- Queueing a place of an item keeps a pass sound.
-pub enqueue-sound : (place : ℕ) (s : Pass) → PassFits s → place < s .at .items → PassFits (enqueue place s)
-enqueue-sound place s sound there =
+pub enqueue-sound : (place right : ℕ) (s : Pass) → PassFits s → place < s .at .items → PassFits (enqueue place right s)
+enqueue-sound place right s sound there =
     elim (decLt (s .at .queued) (length (s .queue))) [
-      | yes free ↦ subst PassFits (sym (enqueue-done s place free)) (subst (λ (w : List Entry). PassFits (passWith at′ (s .items) w)) (sym (push-into key q n entry free)) (done free))
-      | no full ↦ subst PassFits (sym (enqueue-refused s place (omega arith))) (refused-sound 8 s sound)
+      | yes free ↦ subst PassFits (sym (enqueue-done s place right free)) (subst (λ (w : List Entry). PassFits (passWith at′ (s .items) w (s .units))) (sym (push-into key q n entry free)) (done free))
+      | no full ↦ subst PassFits (sym (enqueue-refused s place right (omega arith))) (refused-sound 8 s sound)
     ]
   where
     key : Entry → ℕ
@@ -82,15 +89,15 @@ enqueue-sound place s sound there =
     q = s .queue
 
     entry : Entry
-    entry = record { place = place }
+    entry = record { place = place; right = right }
 
     n : ℕ
     n = s .at .queued
 
     at′ : Progress
-    at′ = record { stopped = 0; items = s .at .items; queued = s .at .queued + 1 }
+    at′ = record { stopped = 0; items = s .at .items; queued = s .at .queued + 1; used = s .at .used }
 
-    done : n < length q → PassFits (passWith at′ (s .items) (pushed key (take n q) entry ++ drop (n + 1) q))
+    done : n < length q → PassFits (passWith at′ (s .items) (pushed key (take n q) entry ++ drop (n + 1) q) (s .units))
     done free =
         let first-n : length (take n q) ≡ n = length-take-le n q (omega arith) in
         let long : length (pushed key (take n q) entry) ≡ n + 1 = pushed-length key (take n q) entry ∙ ap (λ (m : ℕ). m + 1) first-n in
@@ -100,6 +107,7 @@ enqueue-sound place s sound there =
         record {
           few-items = sound .few-items;
           items-fit = sound .items-fit;
+          few-entries = omega (arith, sound .few-entries, length-append (pushed key (take n q) entry) (drop (n + 1) q), length-drop (n + 1) q, long);
           queued-fit = omega (arith, length-append (pushed key (take n q) entry) (drop (n + 1) q), long);
           entries = λ i h.
               subst (λ (v : Entry). v .place < s .at .items) (sym (List·getD-append (pushed key (take n q) entry) (drop (n + 1) q) noEntry i (omega (arith, long))))

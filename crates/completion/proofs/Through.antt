@@ -12,6 +12,7 @@ use Rattle.laws.proofs.Turns.{over-keeps, over-goes}
 use Rattle.item.specs.Item.{itemAt}
 use Rattle.grammar.specs.Rules.{Rule, none, noRule}
 use Rattle.parse.specs.WellFormed.{secondOf}
+use Rattle.node.specs.Rows.{allOnes}
 use Rattle.completion.specs.Pass.{Pass, andThen, store, enqueue}
 use Rattle.completion.specs.Complete.{predicted, waits, completeMedial, completeMedialItems, completeUnary, completeUnaryPredictions, completeBinary, completeBinaryPredictions, complete}
 use Rattle.completion.proofs.Entries.{then-cases}
@@ -27,7 +28,7 @@ pub record Inside (starts : List ℕ) (k p : ℕ) : Type 0 where
   pub from : getD starts k 0 ≤ p
   pub up-to : p < getD starts (k + 1) 0
 
-module _ (rs : List Rule) (starts rows : List ℕ) (k x : ℕ) where
+module _ (rs : List Rule) (starts rows : List ℕ) (k x link : ℕ) where
   -- A rule that waits begins with the symbol.
   begins-waits : (r : ℕ) → r < length rs → waits rs rows k x r ≡ true → Begins rs rows k x r
   begins-waits r there waiting =
@@ -36,8 +37,8 @@ module _ (rs : List Rule) (starts rows : List ℕ) (k x : ℕ) where
 
   -- The items of set `k` whose second is `x` are queued one by one.
   module _ (P : Pass → Type 0)
-      (queueing : (p : ℕ) (s : Pass) → Inside starts k p → secondOf rs (itemAt (s .items) p) ≡ x → s .at .stopped ≡ 0 → P s → P (enqueue p s)) where
-    pub medial-keeps : (p : ℕ) (s : Pass) → Inside starts k p → P s → P (completeMedial rs x p s)
+      (queueing : (p : ℕ) (s : Pass) → Inside starts k p → secondOf rs (itemAt (s .items) p) ≡ x → s .at .stopped ≡ 0 → P s → P (enqueue p link s)) where
+    pub medial-keeps : (p : ℕ) (s : Pass) → Inside starts k p → P s → P (completeMedial rs x link p s)
     unfolding completeMedial
     medial-keeps p s inside before =
         then-cases P s _ before
@@ -46,17 +47,17 @@ module _ (rs : List Rule) (starts rows : List ℕ) (k x : ℕ) where
         (λ same. rw same (queueing p s inside (eqb-true (secondOf rs (itemAt (s .items) p)) x same) on before))
         (λ other. rw other before))
 
-    pub medial-items-keep : (s : Pass) → P s → P (completeMedialItems rs starts k x s)
+    pub medial-items-keep : (s : Pass) → P s → P (completeMedialItems rs starts k x link s)
     unfolding completeMedialItems
     medial-items-keep s before =
-        over-keeps P (getD starts (k + 1) 0 - getD starts k 0) (λ i. completeMedial rs x (getD starts k 0 + i))
+        over-keeps P (getD starts (k + 1) 0 - getD starts k 0) (λ i. completeMedial rs x link (getD starts k 0 + i))
         (λ i t there p. medial-keeps (getD starts k 0 + i) t (record { from = omega arith; up-to = omega arith }) p) s before
 
   -- The rules with one symbol are stored and queued in number order.
   module _ (P : ℕ → Pass → Type 0) (skipping : (r : ℕ) (s : Pass) → P r s → P (suc r) s)
       (waiting : (r : ℕ) (s : Pass) → Begins rs rows k x r → getD rs r noRule .second ≡ none → s .at .stopped ≡ 0 → P r s
-      → P (suc r) (andThen (store k r s) (enqueue (s .at .items)))) where
-    pub unary-goes : (r : ℕ) (s : Pass) → r < length rs → P r s → P (suc r) (completeUnary rs rows k x r s)
+      → P (suc r) (andThen (store k r link s) (enqueue (s .at .items) allOnes))) where
+    pub unary-goes : (r : ℕ) (s : Pass) → r < length rs → P r s → P (suc r) (completeUnary rs rows k x link r s)
     unfolding completeUnary
     unary-goes r s there before =
         then-cases (P (suc r)) s _ (skipping r s before)
@@ -67,15 +68,15 @@ module _ (rs : List Rule) (starts rows : List ℕ) (k x : ℕ) where
         rw both (waiting r s (begins-waits r there (halves .1)) (eqb-true (getD rs r noRule .second) none (halves .0)) on before))
         (λ other. rw other (skipping r s before)))
 
-    pub unary-predictions-go : (s : Pass) → P 0 s → P (length rs) (completeUnaryPredictions rs rows k x s)
+    pub unary-predictions-go : (s : Pass) → P 0 s → P (length rs) (completeUnaryPredictions rs rows k x link s)
     unfolding completeUnaryPredictions
-    unary-predictions-go s before = over-goes P (length rs) (completeUnary rs rows k x) (λ r t there p. unary-goes r t there p) s before
+    unary-predictions-go s before = over-goes P (length rs) (completeUnary rs rows k x link) (λ r t there p. unary-goes r t there p) s before
 
   -- The rules with two symbols are stored in number order.
   module _ (P : ℕ → Pass → Type 0) (skipping : (r : ℕ) (s : Pass) → P r s → P (suc r) s)
       (waiting : (r : ℕ) (s : Pass) → Begins rs rows k x r → (getD rs r noRule .second ≡ none → ⊥) → s .at .stopped ≡ 0 → P r s
-      → P (suc r) (store k r s)) where
-    pub binary-goes : (r : ℕ) (s : Pass) → r < length rs → P r s → P (suc r) (completeBinary rs rows k x r s)
+      → P (suc r) (store k r link s)) where
+    pub binary-goes : (r : ℕ) (s : Pass) → r < length rs → P r s → P (suc r) (completeBinary rs rows k x link r s)
     unfolding completeBinary
     binary-goes r s there before =
         then-cases (P (suc r)) s _ (skipping r s before)
@@ -87,14 +88,14 @@ module _ (rs : List Rule) (starts rows : List ℕ) (k x : ℕ) where
         rw both (waiting r s (begins-waits r there (halves .1)) (eqb-false (getD rs r noRule .second) none two) on before))
         (λ other. rw other (skipping r s before)))
 
-    pub binary-predictions-go : (s : Pass) → P 0 s → P (length rs) (completeBinaryPredictions rs rows k x s)
+    pub binary-predictions-go : (s : Pass) → P 0 s → P (length rs) (completeBinaryPredictions rs rows k x link s)
     unfolding completeBinaryPredictions
-    binary-predictions-go s before = over-goes P (length rs) (completeBinary rs rows k x) (λ r t there p. binary-goes r t there p) s before
+    binary-predictions-go s before = over-goes P (length rs) (completeBinary rs rows k x link) (λ r t there p. binary-goes r t there p) s before
 
   -- What a completion does not do where the symbol is not predicted, and the three that it does in their order.
   pub complete-cases : (P : Pass → Type 0) (s : Pass) → P s
-      → (predicted rows k x ≡ true → P (completeBinaryPredictions rs rows k x (completeUnaryPredictions rs rows k x (completeMedialItems rs starts k x s))))
-      → P (complete rs starts rows k x s)
+      → (predicted rows k x ≡ true → P (completeBinaryPredictions rs rows k x link (completeUnaryPredictions rs rows k x link (completeMedialItems rs starts k x link s))))
+      → P (complete rs starts rows k x link s)
   unfolding complete
   complete-cases P s before three =
       either-way (predicted rows k x) (λ there. rw (complete, there) (three there)) (λ other. rw (complete, other) before)

@@ -9,8 +9,11 @@ use borrow.Author.Tests.{eqb-true, eqb-false, eq-eqb, ne-eqb}
 use Rattle.laws.proofs.Turns.{until-keeps}
 use Rattle.grammar.specs.Rules.{Rule}
 use Rattle.parse.specs.WellFormed.{leftOf}
-use Rattle.completion.specs.Pass.{Pass}
-use Rattle.completion.specs.Sums.{greatest, sumEnds, nextSummand, popSum, rests}
+use Rattle.binary_heap.specs.Sift.{entryAt}
+use Rattle.node.specs.declared.Node.the-variants.{Sum}
+use Rattle.completion.specs.Pass.{Pass, append}
+use Rattle.completion.specs.Sums.{greatest, summands, productNode, sumEnds, popGreatest, nextSummand, popSum, summed, rests}
+use Rattle.completion.proofs.Entries.{append-count, append-items}
 use Rattle.completion.proofs.Summing.{ends-not}
 
 module _ (rs : List Rule) (k x : ℕ) (s : Pass) where
@@ -27,23 +30,29 @@ module _ (rs : List Rule) (k x : ℕ) (s : Pass) where
   pub sum-ended : sumEnds rs k x s ≡ true → 0 < s .at .queued → greatest s .origin ≡ k → leftOf rs (greatest s) ≡ x → ⊥
   sum-ended ends some origin left =
       let never : _≡_ {A = Bool} false true =
-      ends-not rs k x s (λ e. omega arith) (greatest s .origin) (leftOf rs (greatest s)) refl origin refl left ∙ ends in
+      ends-not rs k x s (λ e. omega arith) origin left ∙ ends in
       let z : _≡_ {A = ℕ} 0 1 = cc in
       omega arith
 
-  -- Popping stores nothing and refuses nothing.
+  -- Popping stores nothing.
   pub pop-items : popSum rs k x s .at .items ≡ s .at .items
-  unfolding popSum nextSummand
-  pop-items = until-keeps (sumEnds rs k x) nextSummand (λ (t : Pass). t .at .items ≡ s .at .items) (λ t goes same. same) (s .at .queued) s refl
+  unfolding popSum nextSummand popGreatest
+  pop-items =
+      until-keeps (sumEnds rs k x) nextSummand (λ (t : Pass). t .at .items ≡ s .at .items)
+      (λ t goes same. append-count (productNode (t .items) (entryAt (t .queue) 0)) (popGreatest t) ∙ same) (s .at .queued) s refl
 
   pub pop-words : popSum rs k x s .items ≡ s .items
-  unfolding popSum nextSummand
-  pop-words = until-keeps (sumEnds rs k x) nextSummand (λ (t : Pass). t .items ≡ s .items) (λ t goes same. same) (s .at .queued) s refl
+  unfolding popSum nextSummand popGreatest
+  pop-words =
+      until-keeps (sumEnds rs k x) nextSummand (λ (t : Pass). t .items ≡ s .items)
+      (λ t goes same. append-items (productNode (t .items) (entryAt (t .queue) 0)) (popGreatest t) ∙ same) (s .at .queued) s refl
 
-  pub pop-stopped : popSum rs k x s .at .stopped ≡ s .at .stopped
-  unfolding popSum nextSummand
-  pop-stopped =
-      until-keeps (sumEnds rs k x) nextSummand (λ (t : Pass). t .at .stopped ≡ s .at .stopped) (λ t goes same. same) (s .at .queued) s refl
+-- Nor does writing a sum.
+pub summed-items : (rs : List Rule) (k x : ℕ) (s : Pass) → summed rs k x s .at .items ≡ s .at .items
+summed-items rs k x s = pop-items rs k x (append (Sum (summands rs k x s) x) s) ∙ append-count (Sum (summands rs k x s) x) s
+
+pub summed-words : (rs : List Rule) (k x : ℕ) (s : Pass) → summed rs k x s .items ≡ s .items
+summed-words rs k x s = pop-words rs k x (append (Sum (summands rs k x s) x) s) ∙ append-items (Sum (summands rs k x s) x) s
 
 module _ (s : Pass) where
   -- A pass goes on where no push was refused and the queue is not empty, and only there.

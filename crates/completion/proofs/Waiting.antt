@@ -14,6 +14,7 @@ use Rattle.item.specs.Item.{itemWords}
 use Rattle.grammar.specs.Rules.{Rule, none, noRule}
 use Rattle.grammar.specs.inner.Decoded.{leftIn, firstIn, secondIn, rulesIn}
 use Rattle.grammar.proofs.Decoding.{in-count, in-rule}
+use Rattle.node.specs.Rows.{allOnes}
 use Rattle.completion.specs.Pass.{Pass, andThen, store, enqueue}
 use Rattle.completion.specs.Complete.{waits, predicted, completeUnary, completeBinary}
 use Rattle.completion.specs.inner.Ready.{PassFits}
@@ -49,88 +50,88 @@ module _ (rs : List Rule) (rows : List ℕ) (k x r : ℕ) where
       ∙ ap (λ (y : ℕ). predicted rows k y) left
       ∙ sym (ap (λ (t : Bool). t && predicted rows k (getD rs r noRule .left)) (eq-eqb (getD rs r noRule .first) x (sym is ∙ same)))
 
-  module _ (s : Pass) (on : s .at .stopped ≡ 0) where
+  module _ (link : ℕ) (s : Pass) (on : s .at .stopped ≡ 0) where
     -- A rule with two symbols is no unary rule.
-    pub unary-two : (y : ℕ) → y ≡ getD rs r noRule .second → (y ≡ none → ⊥) → completeUnary rs rows k x r s ≡ s
+    pub unary-two : (y : ℕ) → y ≡ getD rs r noRule .second → (y ≡ none → ⊥) → completeUnary rs rows k x link r s ≡ s
     unfolding completeUnary
     unary-two y is two = goes-on s _ on ∙ rw (ne-eqb (getD rs r noRule .second) none (λ e. two (is ∙ e))) refl
 
     -- A rule that does not wait is passed over.
-    pub unary-passed : false ≡ waits rs rows k x r → completeUnary rs rows k x r s ≡ s
+    pub unary-passed : false ≡ waits rs rows k x r → completeUnary rs rows k x link r s ≡ s
     unfolding completeUnary
     unary-passed passed = goes-on s _ on ∙ by-second (eqb (getD rs r noRule .second) none)
       where
-        by-second : (b : Bool) → elim (b && waits rs rows k x r) [ true ↦ andThen (store k r s) (enqueue (s .at .items)) | false ↦ s ] ≡ s
+        by-second : (b : Bool) → elim (b && waits rs rows k x r) [ true ↦ andThen (store k r link s) (enqueue (s .at .items) allOnes) | false ↦ s ] ≡ s
         by-second true = rw (← passed) refl
         by-second false = refl
 
     -- A rule that waits for the symbol alone is stored and queued.
     pub unary-waits : (y : ℕ) → y ≡ getD rs r noRule .second → y ≡ none → true ≡ waits rs rows k x r
-        → completeUnary rs rows k x r s ≡ andThen (store k r s) (enqueue (s .at .items))
+        → completeUnary rs rows k x link r s ≡ andThen (store k r link s) (enqueue (s .at .items) allOnes)
     unfolding completeUnary
     unary-waits y is one waiting = goes-on s _ on ∙ rw (eq-eqb (getD rs r noRule .second) none (sym is ∙ one), ← waiting) refl
 
     -- A rule with one symbol is no binary rule.
-    pub binary-one : (y : ℕ) → y ≡ getD rs r noRule .second → y ≡ none → completeBinary rs rows k x r s ≡ s
+    pub binary-one : (y : ℕ) → y ≡ getD rs r noRule .second → y ≡ none → completeBinary rs rows k x link r s ≡ s
     unfolding completeBinary
     binary-one y is one = goes-on s _ on ∙ rw (eq-eqb (getD rs r noRule .second) none (sym is ∙ one)) refl
 
     -- A rule that does not wait is passed over.
-    pub binary-passed : false ≡ waits rs rows k x r → completeBinary rs rows k x r s ≡ s
+    pub binary-passed : false ≡ waits rs rows k x r → completeBinary rs rows k x link r s ≡ s
     unfolding completeBinary
     binary-passed passed = goes-on s _ on ∙ by-second (not (eqb (getD rs r noRule .second) none))
       where
-        by-second : (b : Bool) → elim (b && waits rs rows k x r) [ true ↦ store k r s | false ↦ s ] ≡ s
+        by-second : (b : Bool) → elim (b && waits rs rows k x r) [ true ↦ store k r link s | false ↦ s ] ≡ s
         by-second true = rw (← passed) refl
         by-second false = refl
 
     -- A rule that waits for the symbol and another behind it is stored.
     pub binary-waits : (y : ℕ) → y ≡ getD rs r noRule .second → (y ≡ none → ⊥) → true ≡ waits rs rows k x r
-        → completeBinary rs rows k x r s ≡ store k r s
+        → completeBinary rs rows k x link r s ≡ store k r link s
     unfolding completeBinary
     binary-waits y is two waiting = goes-on s _ on ∙ rw (ne-eqb (getD rs r noRule .second) none (λ e. two (is ∙ e)), ← waiting) refl
 
   -- A pass that was refused stays as it is.
-  pub unary-stopped : (s : Pass) → (s .at .stopped ≡ 0 → ⊥) → completeUnary rs rows k x r s ≡ s
+  pub unary-stopped : (link : ℕ) (s : Pass) → (s .at .stopped ≡ 0 → ⊥) → completeUnary rs rows k x link r s ≡ s
   unfolding completeUnary
-  unary-stopped s stopped = stays s _ stopped
+  unary-stopped link s stopped = stays s _ stopped
 
-  pub binary-stopped : (s : Pass) → (s .at .stopped ≡ 0 → ⊥) → completeBinary rs rows k x r s ≡ s
+  pub binary-stopped : (link : ℕ) (s : Pass) → (s .at .stopped ≡ 0 → ⊥) → completeBinary rs rows k x link r s ≡ s
   unfolding completeBinary
-  binary-stopped s stopped = stays s _ stopped
+  binary-stopped link s stopped = stays s _ stopped
 
 -- Items are more by one where storing was not refused.
-pub store-place : (origin rule : ℕ) (s : Pass) → store origin rule s .at .stopped ≡ 0 → s .at .items < store origin rule s .at .items
-store-place origin rule s on =
+pub store-place : (origin rule handle : ℕ) (s : Pass) → store origin rule handle s .at .stopped ≡ 0 → s .at .items < store origin rule handle s .at .items
+store-place origin rule handle s on =
     elim (decLt (s .at .items) (length (s .items) / itemWords)) [
-      | yes place ↦ subst (λ (u : Pass). s .at .items < u .at .items) (sym (store-done s origin rule place)) (omega arith)
+      | yes place ↦ subst (λ (u : Pass). s .at .items < u .at .items) (sym (store-done s origin rule handle place)) (omega arith)
       | no full ↦
-          let stopped : _≡_ {A = ℕ} 7 0 = subst (λ (u : Pass). u .at .stopped ≡ 0) (store-refused s origin rule (omega arith)) on in
+          let stopped : _≡_ {A = ℕ} 7 0 = subst (λ (u : Pass). u .at .stopped ≡ 0) (store-refused s origin rule handle (omega arith)) on in
           absurd (omega arith)
     ]
 
-module _ (rs : List Rule) (rows : List ℕ) (k x r : ℕ) (s : Pass) (sound : PassFits s) where
+module _ (rs : List Rule) (rows : List ℕ) (k x link r : ℕ) (s : Pass) (sound : PassFits s) where
   -- Completing a rule keeps a pass sound.
-  pub unary-sound : PassFits (completeUnary rs rows k x r s)
+  pub unary-sound : PassFits (completeUnary rs rows k x link r s)
   unfolding completeUnary
   unary-sound =
       then-sound s _ sound (λ on. by-fit (eqb (getD rs r noRule .second) none && waits rs rows k x r))
     where
-      stored-sound : PassFits (store k r s)
-      stored-sound = store-sound k r s sound
+      stored-sound : PassFits (store k r link s)
+      stored-sound = store-sound k r link s sound
 
-      by-fit : (b : Bool) → PassFits (elim b [ true ↦ andThen (store k r s) (enqueue (s .at .items)) | false ↦ s ])
-      by-fit true = then-sound (store k r s) _ stored-sound (λ on. enqueue-sound (s .at .items) (store k r s) stored-sound (store-place k r s on))
+      by-fit : (b : Bool) → PassFits (elim b [ true ↦ andThen (store k r link s) (enqueue (s .at .items) allOnes) | false ↦ s ])
+      by-fit true = then-sound (store k r link s) _ stored-sound (λ on. enqueue-sound (s .at .items) allOnes (store k r link s) stored-sound (store-place k r link s on))
       by-fit false = sound
 
-  pub binary-sound : PassFits (completeBinary rs rows k x r s)
+  pub binary-sound : PassFits (completeBinary rs rows k x link r s)
   unfolding completeBinary
   binary-sound = then-sound s _ sound (λ on. by-fit (not (eqb (getD rs r noRule .second) none) && waits rs rows k x r))
     where
-      by-fit : (b : Bool) → PassFits (elim b [ true ↦ store k r s | false ↦ s ])
-      by-fit true = store-sound k r s sound
+      by-fit : (b : Bool) → PassFits (elim b [ true ↦ store k r link s | false ↦ s ])
+      by-fit true = store-sound k r link s sound
       by-fit false = sound
 
 -- Completing rule after rule keeps a pass sound.
-pub unaries-sound : (rs : List Rule) (rows : List ℕ) (k x n : ℕ) (s : Pass) → PassFits s → PassFits (over n (completeUnary rs rows k x) s)
-unaries-sound rs rows k x n s sound = over-keeps PassFits n (completeUnary rs rows k x) (λ r s h sound. unary-sound rs rows k x r s sound) s sound
+pub unaries-sound : (rs : List Rule) (rows : List ℕ) (k x link n : ℕ) (s : Pass) → PassFits s → PassFits (over n (completeUnary rs rows k x link) s)
+unaries-sound rs rows k x link n s sound = over-keeps PassFits n (completeUnary rs rows k x link) (λ r s h sound. unary-sound rs rows k x link r s sound) s sound

@@ -14,15 +14,16 @@ ghost use Rattle.completion.specs.inner.Ready.{RulesFit, IsSet, Rowed, P
 ghost use Rattle.completion.specs.Complete.{complete};
 use grammar::rules::Rules;
 
-// How far a completion pass has come: the refusal that a push met, or 0; the items stored so far, those of the sets included; the
-// entries of the queue.
+// How far a completion pass has come: the refusal that it met, or 0; the items stored so far, those of the sets included; the entries of the
+// queue; the used units of the store.
 pub struct Progress {
     pub stopped: u32,
     pub items: usize,
     pub queued: usize,
+    pub used: usize,
 }
 
-// Completes set `k` and symbol `x`: nothing if `x` is not predicted there.
+// Completes set `k` and symbol `x`, whose node has the handle `link`: nothing if `x` is not predicted there.
 pub fn complete(
     rules: &Rules,
     count: usize,
@@ -32,6 +33,7 @@ pub fn complete(
     queue: &mut [u32],
     k: usize,
     x: usize,
+    link: u32,
     at: Progress,
 ) -> Progress
     requires { ⌜ RulesFit (rulesIn (now rules) count) × Rowed (now starts) (now rows) ⌝ }
@@ -39,12 +41,12 @@ pub fn complete(
     requires { ⌜ PassFits (passOf at (now items) (now queue)) × Charted (rulesIn (now rules) count) (now starts)
         (passOf at (now items) (now queue)) ⌝ }
     ensures { λ r. ⌜ passOf r (now (items .exit)) (now (queue .exit)) ≡ complete (rulesIn (now (rules .entry)) count)
-        (now (starts .entry)) (now (rows .entry)) k x (passOf at (now (items .entry)) (now (queue .entry))) ⌝ }
+        (now (starts .entry)) (now (rows .entry)) k x link (passOf at (now (items .entry)) (now (queue .entry))) ⌝ }
 {
     if !bits::has_at(rows, k, x) {
         return at;
     }
-    let medial = medial::complete_medial_items(rules, count, items, starts, queue, k, x, at);
+    let medial = medial::complete_medial_items(rules, count, items, starts, queue, k, x, link, at);
     let unary = predictions::complete_unary_predictions(
         rules,
         count,
@@ -53,7 +55,8 @@ pub fn complete(
         queue,
         k,
         x,
+        link,
         medial,
     );
-    predictions::complete_binary_predictions(rules, count, items, rows, k, x, unary)
+    predictions::complete_binary_predictions(rules, count, items, rows, k, x, link, unary)
 }

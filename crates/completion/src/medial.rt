@@ -90,7 +90,7 @@ pub fn medial_item_set_range(
     }
 }
 
-// Queues each item of set `k` whose second is `x`.
+// Queues each item of set `k` whose second is `x`, with the link for its right factor.
 pub fn complete_medial_items(
     rules: &Rules,
     count: usize,
@@ -99,13 +99,14 @@ pub fn complete_medial_items(
     queue: &mut [u32],
     k: usize,
     x: usize,
+    link: u32,
     at: Progress,
 ) -> Progress
     requires { ⌜ (count ≤ maxRules) × IsSet (now starts) k × (x < 65536) ⌝ }
     requires { ⌜ PassFits (passOf at (now items) (now queue)) × Charted (rulesIn (now rules) count) (now starts)
         (passOf at (now items) (now queue)) ⌝ }
     ensures { λ r. ⌜ passOf r (now (items .entry)) (now (queue .exit))
-        ≡ completeMedialItems (rulesIn (now (rules .entry)) count) (now (starts .entry)) k x
+        ≡ completeMedialItems (rulesIn (now (rules .entry)) count) (now (starts .entry)) k x link
         (passOf at (now (items .entry)) (now (queue .entry))) ⌝ }
 {
     let range = medial_item_set_range(
@@ -120,7 +121,7 @@ pub fn complete_medial_items(
     let number = range.number;
     let mut now = at;
     for i in 0..number {
-        now = pass::enqueue(items, queue, first + i, now);
+        now = pass::enqueue(items, queue, first + i, link, now);
     }
     now
 }

@@ -10,6 +10,7 @@ use crate::Progress;
 use crate::pass;
 use grammar::rules::NONE;
 use grammar::rules::Rules;
+use node::factor::NO_FACTOR;
 
 // Whether rule `r` begins with `x`, and its left side is predicted at set `k`.
 fn waits(rules: &Rules, count: usize, rows: &[u64], k: usize, x: usize, r: usize) -> bool
@@ -31,13 +32,14 @@ fn complete_unary(
     queue: &mut [u32],
     k: usize,
     x: usize,
+    link: u32,
     r: usize,
     at: Progress,
 ) -> Progress
     requires { ⌜ RulesFit (rulesIn (now rules) count) × HasRow (now rows) k × (r < count)
         × PassFits (passOf at (now items) (now queue)) ⌝ }
     ensures { λ s. ⌜ passOf s (now (items .exit)) (now (queue .exit))
-        ≡ completeUnary (rulesIn (now (rules .entry)) count) (now (rows .entry)) k x r
+        ≡ completeUnary (rulesIn (now (rules .entry)) count) (now (rows .entry)) k x link r
         (passOf at (now (items .entry)) (now (queue .entry))) ⌝ }
 {
     if at.stopped != 0 {
@@ -50,8 +52,8 @@ fn complete_unary(
         return at;
     }
     let place = at.items;
-    let stored = pass::store(items, k, r, at);
-    pass::enqueue(items, queue, place, stored)
+    let stored = pass::store(items, k, r, link, at);
+    pass::enqueue(items, queue, place, NO_FACTOR, stored)
 }
 
 // Stores and queues each rule that waits for `x` alone.
@@ -63,17 +65,18 @@ pub fn complete_unary_predictions(
     queue: &mut [u32],
     k: usize,
     x: usize,
+    link: u32,
     at: Progress,
 ) -> Progress
     requires { ⌜ RulesFit (rulesIn (now rules) count) × HasRow (now rows) k
         × PassFits (passOf at (now items) (now queue)) ⌝ }
     ensures { λ r. ⌜ passOf r (now (items .exit)) (now (queue .exit))
-        ≡ completeUnaryPredictions (rulesIn (now (rules .entry)) count) (now (rows .entry)) k x
+        ≡ completeUnaryPredictions (rulesIn (now (rules .entry)) count) (now (rows .entry)) k x link
         (passOf at (now (items .entry)) (now (queue .entry))) ⌝ }
 {
     let mut now = at;
     for r in 0..count {
-        now = complete_unary(rules, count, items, rows, queue, k, x, r, now);
+        now = complete_unary(rules, count, items, rows, queue, k, x, link, r, now);
     }
     now
 }
@@ -86,12 +89,13 @@ fn complete_binary(
     rows: &[u64],
     k: usize,
     x: usize,
+    link: u32,
     r: usize,
     at: Progress,
 ) -> Progress
     requires { ⌜ RulesFit (rulesIn (now rules) count) × HasRow (now rows) k × (r < count) ⌝ }
     ensures { λ s. ⌜ ((q : List ℕ) → passOf s (now (items .exit)) q ≡ completeBinary
-        (rulesIn (now (rules .entry)) count) (now (rows .entry)) k x r (passOf at (now (items .entry)) q)) ⌝ }
+        (rulesIn (now (rules .entry)) count) (now (rows .entry)) k x link r (passOf at (now (items .entry)) q)) ⌝ }
 {
     if at.stopped != 0 {
         return at;
@@ -102,7 +106,7 @@ fn complete_binary(
     if !waits(rules, count, rows, k, x, r) {
         return at;
     }
-    pass::store(items, k, r, at)
+    pass::store(items, k, r, link, at)
 }
 
 // Stores each rule that waits for `x` and another symbol behind it.
@@ -113,15 +117,16 @@ pub fn complete_binary_predictions(
     rows: &[u64],
     k: usize,
     x: usize,
+    link: u32,
     at: Progress,
 ) -> Progress
     requires { ⌜ RulesFit (rulesIn (now rules) count) × HasRow (now rows) k ⌝ }
     ensures { λ r. ⌜ ((q : List ℕ) → passOf r (now (items .exit)) q ≡ completeBinaryPredictions
-        (rulesIn (now (rules .entry)) count) (now (rows .entry)) k x (passOf at (now (items .entry)) q)) ⌝ }
+        (rulesIn (now (rules .entry)) count) (now (rows .entry)) k x link (passOf at (now (items .entry)) q)) ⌝ }
 {
     let mut now = at;
     for r in 0..count {
-        now = complete_binary(rules, count, items, rows, k, x, r, now);
+        now = complete_binary(rules, count, items, rows, k, x, link, r, now);
     }
     now
 }

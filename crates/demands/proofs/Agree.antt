@@ -94,11 +94,12 @@ module _ {file : List ℕ} where
         sound-same (λ (g : Grammar) (table : List (List ℕ)). inPlaceEnded w (ran g table s (within w) ts)) (ready .sound) (ready′ .sound)
 
     -- of finished,
-    pub finishes-agree : {n n′ : ℕ} {yes yes′ : Bool} → Finishes file s w n yes → Finishes file s w n′ yes′ → (n ≡ n′) × (yes ≡ yes′)
-    finishes-agree (Finishes.refused f) (Finishes.refused f′) = (call-number f f′, refl)
+    pub finishes-agree : {n n′ handle handle′ : ℕ} {yes yes′ : Bool} → Finishes file s w n yes handle → Finishes file s w n′ yes′ handle′
+        → (n ≡ n′) × (yes ≡ yes′) × (handle ≡ handle′)
+    finishes-agree (Finishes.refused f) (Finishes.refused f′) = (call-number f f′, refl, refl)
     finishes-agree (Finishes.refused f) (Finishes.done formed) = absurd (not-formed formed f)
     finishes-agree (Finishes.done formed) (Finishes.refused f) = absurd (not-formed formed f)
-    finishes-agree (Finishes.done formed) (Finishes.done formed′) = (refl, refl)
+    finishes-agree (Finishes.done formed) (Finishes.done formed′) = (refl, refl, refl)
 
     -- and of the set report.
     pub reports-agree : {n n′ : ℕ} {part part′ : List ℕ} → Reports file s w n part → Reports file s w n′ part′ → (n ≡ n′) × (part ≡ part′)

@@ -1,8 +1,8 @@
 -- THE PASS IS EXACT: a completion pass that is not refused completes what the rules of completion give, and nothing else.
-use mathlib.Core.Path.{_≡_, refl, sym, ap, _∙_, subst}
+use mathlib.Core.Path.{_≡_, refl, sym, ap, _∙_, subst, subst₂}
 use mathlib.Core.Bool.{true, false}
 use mathlib.Core.List.{List, [], _∷_, List·Memᴰ·head as here, List·Memᴰ·eq-of-singleton as only}
-use Prim.Native.Nat.{ℕ, zero, suc, _+_, _*_, _≤_, _<_}
+use Prim.Native.Nat.{ℕ, zero, suc, _+_, _*_, _<_}
 use native.Mathlib.Omega.{arith}
 use lib.ListN.{length}
 use Rattle.laws.specs.Bits.{Holds, rowOf}
@@ -11,31 +11,33 @@ use Rattle.laws.proofs.Bits.{holds-true, true-holds}
 use Rattle.laws.proofs.Tests.{either-way}
 use Rattle.laws.proofs.Turns.{until-rests, until-turns}
 use Rattle.bits.specs.Width.{rowWords}
-use Rattle.item.specs.Item.{Item, itemWords, itemAt, originAt, ruleAt}
+use Rattle.item.specs.Item.{itemAt, originAt, ruleAt}
 use Rattle.grammar.specs.Rules.{Rule, Grammar, Says, none, ruleAt as ruleAtG}
 use Rattle.grammar.specs.Accepted.{Accepted}
 use Rattle.parse.specs.declared.State.{State}
-use Rattle.parse.specs.Words.{Words, maxItems}
+use Rattle.parse.specs.Words.{Words}
 use Rattle.parse.specs.WellFormed.{WellFormed, leftOf}
-use Rattle.completion.specs.Pass.{Pass}
+use Rattle.node.specs.declared.Node.the-variants.{Sum, Evaluated}
+use Rattle.completion.specs.Pass.{Pass, append}
 use Rattle.completion.specs.Complete.{predicted, complete}
-use Rattle.completion.specs.Sums.{greatest, popSum, completeSum, rests, completeAllSums}
-use Rattle.completion.specs.inner.Ready.{IsSet, Rowed, Charted}
-use Rattle.completion.proofs.Entries.{entries-length, each-entry}
-use Rattle.completion.proofs.Turning.{not-resting, rest-empty, pop-items, pop-words}
+use Rattle.completion.specs.Sums.{greatest, summands, summed, completeSum, rests, completeAllSums}
+use Rattle.completion.specs.inner.Ready.{IsSet, Charted}
+use Rattle.completion.proofs.Entries.{append-queued, entries-length, each-entry}
+use Rattle.completion.proofs.Turning.{not-resting, rest-empty, summed-items, summed-words}
 use Rattle.completion.proofs.Through.{Begins}
 use Rattle.completion.proofs.Charting.{steady-refl, greatest-charts}
-use Rattle.completion.proofs.Heaped.{heaped-pop}
+use Rattle.completion.proofs.Heaped.{heaped-append, heaped-pop}
 use Rattle.completion.specs.inner.Pending.{Grounds, Pending}
-use Rattle.completion.proofs.Pending.{first-pending, all-sums-rest}
+use Rattle.completion.proofs.Pending.{pending-append, first-pending, all-sums-rest}
 use Rattle.completion.proofs.Beginning.{beginning, accepted-grounds, begins-pending, is-set}
 use Rattle.earley.proofs.Steps as steps
 use Rattle.earley.proofs.Next.{Stored}
-use Rattle.demands.specs.Steps.{completed}
+use Rattle.demands.specs.Steps.{scanned, completed}
 use Rattle.demands.proofs.Chart.{Has, chartOf, New, Completed}
+use Rattle.demands.proofs.Cut.{Cut}
 use Rattle.demands.proofs.Growing.{Step, new-grows}
-use Rattle.demands.proofs.Following.{OfPair, Calls, Met, Follows, Closed, Kept, kept-sound, follows-on, met-grows, calls-more, complete-step}
-use Rattle.demands.proofs.Popping.{pop-met, met-empty}
+use Rattle.demands.proofs.Following.{OfPair, Calls, Met, Follows, Closed, Kept, kept-sound, kept-append, follows-on, met-grows, calls-more, complete-step}
+use Rattle.demands.proofs.Popping.{summed-met, met-empty}
 
 -- `done`, and the pair of set `k` and symbol `x`.
 pub data With (done : ℕ → ℕ → Type 0) (k x : ℕ) : ℕ → ℕ → Type 0 where
@@ -90,20 +92,20 @@ module _ (g : Grammar) (st : State) (v : Words) (t : ℕ) (charted : Charted (g 
 
   -- One pair more is completed: what followed from those before it follows still, and what follows from it does.
   module _ (done : ℕ → ℕ → Type 0) (k x : ℕ) (set : IsSet (v .starts) k) (right : (l y : ℕ) → With done k x l y → Gives l y)
-      (scanned : With done k x (st .set) t) (s : Pass) (kept : Kept (g .rules) st v Gives (With done k x) s)
+      (scanned : With done k x (st .set) t) (link : ℕ) (s : Pass) (kept : Kept (g .rules) st v Gives (With done k x) s)
       (follows : s .at .stopped ≡ 0 → (l y : ℕ) → done l y → predicted (v .rows) l y ≡ true → Follows (g .rules) st v (With done k x) s l y) where
     abbrev after : Pass
-    after = complete (g .rules) (v .starts) (v .rows) k x s
+    after = complete (g .rules) (v .starts) (v .rows) k x link s
 
     pair-step : Step (Kept (g .rules) st v Gives (With done k x))
         (λ u. predicted (v .rows) k x ≡ true → Follows (g .rules) st v (With done k x) u k x) s after
-    pair-step = complete-step (g .rules) st v gives-closed charted k x set (right k x this) this s kept
+    pair-step = complete-step (g .rules) st v gives-closed charted k x link set (right k x this) this s kept
 
     pair-follows : after .at .stopped ≡ 0 → (l y : ℕ) → With done k x l y → predicted (v .rows) l y ≡ true
         → Follows (g .rules) st v (With done k x) after l y
     pair-follows on l y this there = pair-step .brings on there
     pair-follows on l y (before d) there =
-        follows-on (g .rules) st v (λ i. met-grows i (kept-sound (g .rules) st v kept) (pair-step .grows)) (λ o r. new-grows (pair-step .grows))
+        follows-on (g .rules) st v (λ o r. met-grows o r (kept-sound (g .rules) st v kept) (pair-step .grows)) (λ o r. new-grows (pair-step .grows))
         (follows (pair-step .before on) l y d there)
 
     pair-so-far : SoFar after
@@ -111,9 +113,10 @@ module _ (g : Grammar) (st : State) (v : Words) (t : ℕ) (charted : Charted (g 
 
   -- The first pair: the latest set and the token, which is predicted there.
   first-so-far : Pending (g .rules) (v .starts) (beginning st v) → IsSet (v .starts) (st .set) → Holds (rowOf rowWords (v .rows) (st .set)) t
-      → SoFar (complete (g .rules) (v .starts) (v .rows) (st .set) t (beginning st v))
+      → SoFar (complete (g .rules) (v .starts) (v .rows) (st .set) t (st .used) (scanned st v t))
   first-so-far pending set there =
-      pair-so-far (λ l y. ⊥) (st .set) t set right this (beginning st v) (begins-kept pending) (λ on l y never. absurd never)
+      pair-so-far (λ l y. ⊥) (st .set) t set right this (st .used) (scanned st v t)
+      (kept-append (g .rules) st v (Evaluated t) (beginning st v) (begins-kept pending)) (λ on l y never. absurd never)
     where
       right : (l y : ℕ) → With (λ l y. ⊥) (st .set) t l y → Gives l y
       right l y this = steps.Done.scanned (here refl) there
@@ -131,7 +134,7 @@ module _ (g : Grammar) (st : State) (v : Words) (t : ℕ) (charted : Charted (g 
     now = With (so-far .done) set symbol
 
     abbrev popped : Pass
-    popped = popSum (g .rules) set symbol s
+    popped = summed (g .rules) set symbol s
 
     some : 0 < s .at .queued
     some = not-resting s goes .1
@@ -145,25 +148,28 @@ module _ (g : Grammar) (st : State) (v : Words) (t : ℕ) (charted : Charted (g 
     popped-kept : Kept (g .rules) st v Gives now popped
     popped-kept =
         record {
-          heaped = heaped-pop (g .rules) (v .starts) (OfPair Gives (g .rules)) (beginning st v) set symbol s (so-far .kept .heaped);
+          heaped =
+              heaped-pop (g .rules) (v .starts) (OfPair Gives (g .rules)) (beginning st v) set symbol (append (Sum (summands (g .rules) set symbol s) symbol) s)
+              (heaped-append (g .rules) (v .starts) (OfPair Gives (g .rules)) (beginning st v) (Sum (summands (g .rules) set symbol s) symbol) s
+              (so-far .kept .heaped));
           calls = λ p from up-to.
               calls-more (λ l y d. before d)
-              (subst (λ (w : List ℕ). Calls (g .rules) (v .rows) (so-far .done) (itemAt w p)) (sym (pop-words (g .rules) set symbol s))
-              (so-far .kept .calls p from (omega (arith, pop-items (g .rules) set symbol s))));
+              (subst (λ (w : List ℕ). Calls (g .rules) (v .rows) (so-far .done) (originAt w p) (ruleAt w p)) (sym (summed-words (g .rules) set symbol s))
+              (so-far .kept .calls p from (omega (arith, summed-items (g .rules) set symbol s))));
         }
 
-    popped-met : (i : Item) → Met (g .rules) (so-far .done) s i → Met (g .rules) now popped i
-    popped-met i (Met.completed c) = Met.completed (before c)
-    popped-met i (Met.queued q) = pop-met (g .rules) set symbol this s (kept-sound (g .rules) st v (so-far .kept)) i q
+    popped-met : (o r : ℕ) → Met (g .rules) (so-far .done) s o r → Met (g .rules) now popped o r
+    popped-met o r (Met.completed c) = Met.completed (before c)
+    popped-met o r (Met.queued q) = summed-met (g .rules) set symbol this s (kept-sound (g .rules) st v (so-far .kept)) o r q
 
     popped-new : (o r : ℕ) → New st s o r → New st popped o r
     popped-new o r new =
         record {
           place = new .place;
           behind = new .behind;
-          before = omega (arith, new .before, pop-items (g .rules) set symbol s);
-          origin = ap (λ (w : List ℕ). originAt w (new .place)) (pop-words (g .rules) set symbol s) ∙ new .origin;
-          rule = ap (λ (w : List ℕ). ruleAt w (new .place)) (pop-words (g .rules) set symbol s) ∙ new .rule;
+          before = omega (arith, new .before, summed-items (g .rules) set symbol s);
+          origin = ap (λ (w : List ℕ). originAt w (new .place)) (summed-words (g .rules) set symbol s) ∙ new .origin;
+          rule = ap (λ (w : List ℕ). ruleAt w (new .place)) (summed-words (g .rules) set symbol s) ∙ new .rule;
         }
 
     sum-so-far : SoFar (completeSum (g .rules) (v .starts) (v .rows) s)
@@ -171,7 +177,7 @@ module _ (g : Grammar) (st : State) (v : Words) (t : ℕ) (charted : Charted (g 
     sum-so-far =
         pair-so-far (so-far .done) set symbol
         (greatest-charts (g .rules) (v .starts) (beginning st v) s some (so-far .kept .heaped .steady) .is-set) sum-right (before (so-far .scanned))
-        popped popped-kept
+        (s .at .used) popped popped-kept
         (λ on l y d there. follows-on (g .rules) st v popped-met popped-new (so-far .follows (not-resting s goes .0) l y d there))
 
   -- All sums.
@@ -224,9 +230,8 @@ module _ (g : Grammar) (st : State) (v : Words) (t : ℕ) (charted : Charted (g 
 
     exact-called : (o r : ℕ) → New st s o r → (ruleAtG g r .second ≡ none → ⊥) → Stored g (chartOf st v) (so-far .done) o r
     exact-called o r new two =
-        let is : itemAt (s .items) (new .place) ≡ record { origin = o; rule = r } = λ k. record { origin = new .origin k; rule = new .rule k } in
-        let calls : Calls (g .rules) (v .rows) (so-far .done) (record { origin = o; rule = r }) =
-        subst (Calls (g .rules) (v .rows) (so-far .done)) is (so-far .kept .calls (new .place) (new .behind) (new .before)) in
+        let calls : Calls (g .rules) (v .rows) (so-far .done) o r =
+        subst₂ (Calls (g .rules) (v .rows) (so-far .done)) (new .origin) (new .rule) (so-far .kept .calls (new .place) (new .behind) (new .before)) in
         record {
           there = subst (λ (n : ℕ). n < length (g .rules)) (new .rule) (so-far .kept .heaped .steady .charted .rules (new .place) (new .before));
           two = two;
@@ -237,10 +242,10 @@ module _ (g : Grammar) (st : State) (v : Words) (t : ℕ) (charted : Charted (g 
 
 -- The pass of a predicted token on a well-formed state of an accepted grammar, unless it is refused.
 pub completed-exactly : (g : Grammar) → Accepted g → (s : State) (v : Words) → WellFormed (g .symbols) (g .rules) s v
-    → length (v .items) ≤ itemWords * maxItems → Rowed (v .starts) (v .rows) → (t : ℕ) → Holds (rowOf rowWords (v .rows) (s .set)) t
+    → Cut v → (t : ℕ) → Holds (rowOf rowWords (v .rows) (s .set)) t
     → completed g s v t .at .stopped ≡ 0 → Completed g s v t
 unfolding completeAllSums
-completed-exactly g accepted s v well few-items rowed t there on =
+completed-exactly g accepted s v well cut t there on =
     record {
       done = so-far .done;
       pass = exact-pass g s v t (pending .charted) (completed g s v t) so-far on none-left;
@@ -249,22 +254,23 @@ completed-exactly g accepted s v well few-items rowed t there on =
     }
   where
     pending : Pending (g .rules) (v .starts) (beginning s v)
-    pending = begins-pending well (accepted .few-rules) few-items rowed
+    pending = begins-pending well (accepted .few-rules) (cut .few-items) (cut .few-entries) (cut .rowed)
 
     grounds : Grounds (g .rules) (v .starts) (v .rows)
-    grounds = accepted-grounds g accepted (v .starts) (v .rows) rowed
+    grounds = accepted-grounds g accepted (v .starts) (v .rows) (cut .rowed)
 
     set : IsSet (v .starts) (s .set)
-    set = is-set well (accepted .few-rules) few-items rowed (s .set) (omega arith)
+    set = is-set well (accepted .few-rules) (cut .few-items) (cut .few-entries) (cut .rowed) (s .set) (omega arith)
 
     so-far : SoFar g s v t (pending .charted) (completed g s v t)
     so-far =
         sums-so-far g s v t (pending .charted) (length (v .starts) * length (g .rules))
-        (complete (g .rules) (v .starts) (v .rows) (s .set) t (beginning s v))
+        (complete (g .rules) (v .starts) (v .rows) (s .set) t (s .used) (scanned s v t))
         (first-so-far g s v t (pending .charted) pending set there)
 
     none-left : completed g s v t .at .queued ≡ 0
     none-left =
         rest-empty (completed g s v t)
-        (all-sums-rest grounds (complete (g .rules) (v .starts) (v .rows) (s .set) t (beginning s v))
-        (first-pending grounds (beginning s v) pending (s .set) t set refl)) on
+        (all-sums-rest grounds (complete (g .rules) (v .starts) (v .rows) (s .set) t (s .used) (scanned s v t))
+        (first-pending grounds (scanned s v t) (pending-append (beginning s v) pending (Evaluated t)) (s .set) t (s .used) set
+        (append-queued (Evaluated t) (beginning s v)))) on

@@ -7,6 +7,7 @@ use lib.ListN.{length, replicate}
 use Rattle.laws.specs.Bits.{union}
 use Rattle.laws.specs.Records as records
 use Rattle.laws.specs.Turns.{over, until}
+use Rattle.laws.specs.Counts.{count}
 use Rattle.binary_heap.specs.Entry.{entriesIn}
 use Rattle.binary_heap.specs.Sift.{move, goesUp, rise, siftUp, takesRight, child, goesDown, sink, siftDown}
 use Rattle.binary_heap.specs.Heap.{pushed, popped}
@@ -18,13 +19,17 @@ use Rattle.grammar.specs.Accepted.{Accepted}
 use Rattle.grammar.specs.Prediction.{Predicts}
 use Rattle.grammar.specs.File.{Malformed, headerBytes, ruleBytes, versionOf, lengthOf, ruleCountOf, rulesFrom, grammarOf}
 use Rattle.parse.specs.declared.State.{State}
-use Rattle.parse.specs.Words.{Words}
-use Rattle.completion.specs.Pass.{andThen, store, enqueue}
+use Rattle.parse.specs.Words.{Words, padded, filled}
+use Rattle.node.specs.Choice.{bothBelow}
+use Rattle.node.specs.Rows.{unitsOf, rowOf, sumRow, longProduct, aloneRow, pairRow, productRow, leafRow, unfit, unfitProduct, unfitRight}
+use Rattle.node.specs.Reading.{filler, longRight}
+use Rattle.node.specs.Writing.{put, place, writeUnits}
+use Rattle.completion.specs.Pass.{andThen, store, enqueue, written, append, storeFull}
 use Rattle.completion.specs.Complete.{completeMedial, completeMedialItems, completeUnary, completeUnaryPredictions, completeBinary, completeBinaryPredictions, complete}
-use Rattle.completion.specs.Sums.{nextSummand, popSum, completeSum, completeAllSums}
+use Rattle.completion.specs.Sums.{popGreatest, nextSummand, popSum, completeSum, completeAllSums}
 use Rattle.advance.specs.NewItems.{itemsFrom, insert, sortInto, binary}
 use Rattle.advance.specs.Advance.{highest, greatestOrigin, predictions}
-use Rattle.demands.specs.Steps.{Ended, advanced, stepped, ran}
+use Rattle.demands.specs.Steps.{Ended, withNodes, advanced, stepped, ran}
 use Rattle.demands.specs.Calls.{Sound, asItWas, Starts, Takes, Runs, Finishes}
 use Rattle.demands.specs.Histories.{History}
 use Rattle.demands.proofs.Again.{Reading, reading-start, reading-on}
@@ -40,8 +45,8 @@ whole file long first real told (Malformed.version n) = n first
 whole file long first real told (Malformed.real-length n) = n real
 whole file long first real told (Malformed.told-length n) = n told
 
-abbrev pub state : ℕ → ℕ → State
-state set items = record { set = set; items = items }
+abbrev pub state : ℕ → ℕ → ℕ → State
+state set items used = record { set = set; items = items; used = used }
 
 abbrev rule : ℕ → ℕ → ℕ → Rule
 rule left first second = record { left = left; first = first; second = second }
@@ -86,22 +91,50 @@ unfolding rulesFrom
 sound-a = record { checked = record { whole = whole file-a (omega arith) refl refl refl; is = refl; accepted = accepted-a }; predicts = predicts-a }
 
 abbrev pub words-a0 : Words
-words-a0 = record { items = 0 ∷ 0 ∷ 0 ∷ 0 ∷ 0 ∷ 0 ∷ 0 ∷ 0 ∷ 0 ∷ 0 ∷ 0 ∷ 0 ∷ 0 ∷ 0 ∷ 0 ∷ 0 ∷ []; starts = 0 ∷ 0 ∷ 0 ∷ 0 ∷ 0 ∷ []; rows = wordRows (21 ∷ 0 ∷ 0 ∷ 0 ∷ []); queue = 0 ∷ 0 ∷ 0 ∷ 0 ∷ [] }
+words-a0 =
+    record {
+      items = replicate 24 0;
+      starts = 0 ∷ 0 ∷ 0 ∷ 0 ∷ 0 ∷ [];
+      rows = wordRows (21 ∷ 0 ∷ 0 ∷ 0 ∷ []);
+      queue = replicate 8 0;
+      store = replicate 16 filler;
+    }
 
 abbrev pub words-a1 : Words
-words-a1 = record { items = 0 ∷ 1 ∷ 0 ∷ 0 ∷ 0 ∷ 0 ∷ 0 ∷ 0 ∷ 0 ∷ 0 ∷ 0 ∷ 0 ∷ 0 ∷ 0 ∷ 0 ∷ 0 ∷ []; starts = 0 ∷ 0 ∷ 2 ∷ 0 ∷ 0 ∷ []; rows = wordRows (21 ∷ 42 ∷ 0 ∷ 0 ∷ []); queue = 0 ∷ 0 ∷ 0 ∷ 0 ∷ [] }
+words-a1 =
+    record {
+      items = padded 24 (0 ∷ 1 ∷ 1 ∷ 0 ∷ 0 ∷ 1 ∷ []);
+      starts = 0 ∷ 0 ∷ 2 ∷ 0 ∷ 0 ∷ [];
+      rows = wordRows (21 ∷ 42 ∷ 0 ∷ 0 ∷ []);
+      queue = replicate 8 0;
+      store = filled 16 (0x8000 ∷ 0x0102 ∷ 0x2202 ∷ []);
+    }
 
 abbrev words-a2 : Words
-words-a2 = record { items = 0 ∷ 1 ∷ 0 ∷ 0 ∷ 1 ∷ 3 ∷ 0 ∷ 0 ∷ 0 ∷ 0 ∷ 0 ∷ 0 ∷ 0 ∷ 0 ∷ 0 ∷ 0 ∷ []; starts = 0 ∷ 0 ∷ 2 ∷ 3 ∷ 0 ∷ []; rows = wordRows (21 ∷ 42 ∷ 5 ∷ 0 ∷ []); queue = 0 ∷ 0 ∷ 0 ∷ 0 ∷ [] }
+words-a2 =
+    record {
+      items = padded 24 (0 ∷ 1 ∷ 1 ∷ 0 ∷ 0 ∷ 1 ∷ 1 ∷ 3 ∷ 3 ∷ []);
+      starts = 0 ∷ 0 ∷ 2 ∷ 3 ∷ 0 ∷ [];
+      rows = wordRows (21 ∷ 42 ∷ 5 ∷ 0 ∷ []);
+      queue = replicate 8 0;
+      store = filled 16 (0x8000 ∷ 0x0102 ∷ 0x2202 ∷ 0x8001 ∷ []);
+    }
 
 abbrev pub words-a3 : Words
-words-a3 = record { items = 0 ∷ 1 ∷ 0 ∷ 0 ∷ 1 ∷ 3 ∷ 0 ∷ 1 ∷ 2 ∷ 1 ∷ 0 ∷ 0 ∷ 0 ∷ 0 ∷ 0 ∷ 0 ∷ []; starts = 0 ∷ 0 ∷ 2 ∷ 3 ∷ 6 ∷ []; rows = wordRows (21 ∷ 42 ∷ 5 ∷ 42 ∷ []); queue = 0 ∷ 0 ∷ 0 ∷ 0 ∷ [] }
+words-a3 =
+    record {
+      items = padded 24 (0 ∷ 1 ∷ 1 ∷ 0 ∷ 0 ∷ 1 ∷ 1 ∷ 3 ∷ 3 ∷ 0 ∷ 1 ∷ 10 ∷ 2 ∷ 1 ∷ 5 ∷ 0 ∷ 0 ∷ 10 ∷ []);
+      starts = 0 ∷ 0 ∷ 2 ∷ 3 ∷ 6 ∷ [];
+      rows = wordRows (21 ∷ 42 ∷ 5 ∷ 42 ∷ []);
+      queue = replicate 8 0;
+      store = filled 16 (0x8000 ∷ 0x0102 ∷ 0x2202 ∷ 0x8001 ∷ 0x8000 ∷ 0x0102 ∷ 0x2202 ∷ 0x0103 ∷ 0x6305 ∷ 0x0003 ∷ 0x0102 ∷ 0x640A ∷ 0x0001 ∷ []);
+    }
 
 -- Words that were anything else before.
 abbrev pub old-a : Words
-old-a = record { items = replicate 16 9; starts = replicate 5 9; rows = replicate (rowWords * 4) 9; queue = replicate 4 9 }
+old-a = record { items = replicate 24 9; starts = replicate 5 9; rows = replicate (rowWords * 4) 9; queue = replicate 8 9; store = replicate 16 9 }
 
-pub began-a : Starts file-a (state 7 7) old-a (asItWas 0 (state 0 0) words-a0)
+pub began-a : Starts file-a (state 7 7 7) old-a (asItWas 0 (state 0 0 0) words-a0)
 unfolding rowsOf
 began-a = Starts.done sound-a (omega arith)
 
@@ -109,18 +142,18 @@ began-a = Starts.done sound-a (omega arith)
 abbrev Reads : State → Words → List ℕ → Type 0
 Reads = Reading file-a grammar-a (tableOf rows-a)
 
-pub start-a : Reads (state 0 0) words-a0 []
+pub start-a : Reads (state 0 0 0) words-a0 []
 unfolding rowsOf
-start-a = reading-start (state 7 7) old-a sound-a (omega arith) refl
+start-a = reading-start (state 7 7 7) old-a sound-a (omega arith) refl
 
-pub one-a : Reads (state 1 2) words-a1 (0 ∷ [])
-unfolding entriesIn advanced stepped ran andThen store enqueue completeMedial completeMedialItems completeUnary completeUnaryPredictions completeBinary completeBinaryPredictions complete nextSummand popSum completeSum completeAllSums over until union records.flat highest greatestOrigin predictions itemsFrom insert sortInto binary pushQueue popQueue pushed popped move goesUp rise siftUp takesRight child goesDown sink siftDown rowsOf
+pub one-a : Reads (state 1 2 3) words-a1 (0 ∷ [])
+unfolding entriesIn advanced stepped ran andThen store enqueue append written writeUnits place put unitsOf rowOf sumRow longProduct aloneRow pairRow productRow leafRow unfit unfitProduct unfitRight bothBelow longRight count completeMedial completeMedialItems completeUnary completeUnaryPredictions completeBinary completeBinaryPredictions complete popGreatest nextSummand popSum completeSum completeAllSums over until union records.flat highest greatestOrigin predictions itemsFrom insert sortInto binary pushQueue popQueue pushed popped move goesUp rise siftUp takesRight child goesDown sink siftDown rowsOf
 one-a = reading-on start-a 0 refl
 
 -- A READS "0 1 0".
-pub read-a : Reads (state 3 6) words-a3 (0 ∷ 1 ∷ 0 ∷ [])
-unfolding entriesIn advanced stepped ran andThen store enqueue completeMedial completeMedialItems completeUnary completeUnaryPredictions completeBinary completeBinaryPredictions complete nextSummand popSum completeSum completeAllSums over until union records.flat highest greatestOrigin predictions itemsFrom insert sortInto binary pushQueue popQueue pushed popped move goesUp rise siftUp takesRight child goesDown sink siftDown rowsOf
-read-a = reading-on (reading-on {s′ = state 2 3} {w′ = words-a2} one-a 1 refl) 0 refl
+pub read-a : Reads (state 3 6 13) words-a3 (0 ∷ 1 ∷ 0 ∷ [])
+unfolding entriesIn advanced stepped ran andThen store enqueue append written writeUnits place put unitsOf rowOf sumRow longProduct aloneRow pairRow productRow leafRow unfit unfitProduct unfitRight bothBelow longRight count completeMedial completeMedialItems completeUnary completeUnaryPredictions completeBinary completeBinaryPredictions complete popGreatest nextSummand popSum completeSum completeAllSums over until union records.flat highest greatestOrigin predictions itemsFrom insert sortInto binary pushQueue popQueue pushed popped move goesUp rise siftUp takesRight child goesDown sink siftDown rowsOf
+read-a = reading-on (reading-on {s′ = state 2 3 4} {w′ = words-a2} one-a 1 refl) 0 refl
 
 -- So it is a sentence, since finished says yes;
 pub sentence-a : Sentence (grammarOf file-a) (0 ∷ 1 ∷ 0 ∷ [])
@@ -135,13 +168,25 @@ none-a = token-tells {t = 0} (Takes.done (one-a .ready)) .sentences (0 ∷ []) (
 abbrev pub ended : State → Words → ℕ → Ended
 ended s w taken = record { outcome = asItWas 0 s w; taken = taken }
 
-pub run-a : Runs file-a (state 0 0) words-a0 (0 ∷ 1 ∷ 0 ∷ []) (ended (state 3 6) words-a3 3)
-unfolding entriesIn advanced stepped ran andThen store enqueue completeMedial completeMedialItems completeUnary completeUnaryPredictions completeBinary completeBinaryPredictions complete nextSummand popSum completeSum completeAllSums over until union records.flat highest greatestOrigin predictions itemsFrom insert sortInto binary pushQueue popQueue pushed popped move goesUp rise siftUp takesRight child goesDown sink siftDown rowsOf
+pub run-a : Runs file-a (state 0 0 0) words-a0 (0 ∷ 1 ∷ 0 ∷ []) (ended (state 3 6 13) words-a3 3)
+unfolding entriesIn advanced stepped ran andThen store enqueue append written writeUnits place put unitsOf rowOf sumRow longProduct aloneRow pairRow productRow leafRow unfit unfitProduct unfitRight bothBelow longRight count completeMedial completeMedialItems completeUnary completeUnaryPredictions completeBinary completeBinaryPredictions complete popGreatest nextSummand popSum completeSum completeAllSums over until union records.flat highest greatestOrigin predictions itemsFrom insert sortInto binary pushQueue popQueue pushed popped move goesUp rise siftUp takesRight child goesDown sink siftDown rowsOf
 run-a = Runs.done (start-a .ready)
 
-pub run-one-a : Runs file-a (state 0 0) words-a0 (0 ∷ []) (ended (state 1 2) words-a1 1)
-unfolding entriesIn advanced stepped ran andThen store enqueue completeMedial completeMedialItems completeUnary completeUnaryPredictions completeBinary completeBinaryPredictions complete nextSummand popSum completeSum completeAllSums over until union records.flat highest greatestOrigin predictions itemsFrom insert sortInto binary pushQueue popQueue pushed popped move goesUp rise siftUp takesRight child goesDown sink siftDown rowsOf
+pub run-one-a : Runs file-a (state 0 0 0) words-a0 (0 ∷ []) (ended (state 1 2 3) words-a1 1)
+unfolding entriesIn advanced stepped ran andThen store enqueue append written writeUnits place put unitsOf rowOf sumRow longProduct aloneRow pairRow productRow leafRow unfit unfitProduct unfitRight bothBelow longRight count completeMedial completeMedialItems completeUnary completeUnaryPredictions completeBinary completeBinaryPredictions complete popGreatest nextSummand popSum completeSum completeAllSums over until union records.flat highest greatestOrigin predictions itemsFrom insert sortInto binary pushQueue popQueue pushed popped move goesUp rise siftUp takesRight child goesDown sink siftDown rowsOf
 run-one-a = Runs.done (start-a .ready)
+
+-- With room for one unit the token's node is written and its sum's is not: 14, and everything is as it was.
+abbrev pub narrow-a : Words
+narrow-a = withNodes (filler ∷ []) words-a0
+
+start-narrow-a : Reads (state 0 0 0) narrow-a []
+unfolding rowsOf
+start-narrow-a = reading-start (state 7 7 7) (withNodes (9 ∷ []) old-a) sound-a (omega arith) refl
+
+pub full-a : Takes file-a (state 0 0 0) narrow-a 0 (asItWas storeFull (state 0 0 0) narrow-a)
+unfolding entriesIn advanced stepped ran andThen store enqueue append written writeUnits place put unitsOf rowOf sumRow longProduct aloneRow pairRow productRow leafRow unfit unfitProduct unfitRight bothBelow longRight count completeMedial completeMedialItems completeUnary completeUnaryPredictions completeBinary completeBinaryPredictions complete popGreatest nextSummand popSum completeSum completeAllSums over until union records.flat highest greatestOrigin predictions itemsFrom insert sortInto binary pushQueue popQueue pushed popped move goesUp rise siftUp takesRight child goesDown sink siftDown rowsOf
+full-a = Takes.done (start-narrow-a .ready)
 
 -- Grammar B: its file, its rules, and the words of its table.
 abbrev pub file-b : List ℕ
@@ -183,35 +228,63 @@ unfolding rulesFrom
 sound-b = record { checked = record { whole = whole file-b (omega arith) refl refl refl; is = refl; accepted = accepted-b }; predicts = predicts-b }
 
 abbrev words-b0 : Words
-words-b0 = record { items = 0 ∷ 0 ∷ 0 ∷ 0 ∷ 0 ∷ 0 ∷ 0 ∷ 0 ∷ 0 ∷ 0 ∷ 0 ∷ 0 ∷ []; starts = 0 ∷ 0 ∷ 0 ∷ 0 ∷ []; rows = wordRows (89 ∷ 0 ∷ 0 ∷ []); queue = 0 ∷ 0 ∷ [] }
+words-b0 =
+    record {
+      items = replicate 18 0;
+      starts = 0 ∷ 0 ∷ 0 ∷ 0 ∷ [];
+      rows = wordRows (89 ∷ 0 ∷ 0 ∷ []);
+      queue = replicate 4 0;
+      store = replicate 16 filler;
+    }
 
 abbrev pub words-b3 : Words
-words-b3 = record { items = 0 ∷ 3 ∷ 0 ∷ 1 ∷ 0 ∷ 0 ∷ 0 ∷ 0 ∷ 0 ∷ 0 ∷ 0 ∷ 0 ∷ []; starts = 0 ∷ 0 ∷ 1 ∷ 3 ∷ []; rows = wordRows (89 ∷ 0 ∷ 145 ∷ []); queue = 0 ∷ 0 ∷ [] }
+words-b3 =
+    record {
+      items = padded 18 (0 ∷ 3 ∷ 0 ∷ 0 ∷ 1 ∷ 9 ∷ 0 ∷ 0 ∷ 9 ∷ []);
+      starts = 0 ∷ 0 ∷ 1 ∷ 3 ∷ [];
+      rows = wordRows (89 ∷ 0 ∷ 145 ∷ []);
+      queue = replicate 4 0;
+      store = filled 16 (0x8000 ∷ 0x8001 ∷ 0x8002 ∷ 0x0105 ∷ 0x6203 ∷ 0x0004 ∷ 0x0104 ∷ 0x6407 ∷ 0x0003 ∷ 0x0103 ∷ 0x2402 ∷ []);
+    }
 
 -- Words that were anything else before.
 abbrev old-b : Words
-old-b = record { items = replicate 12 9; starts = replicate 4 9; rows = replicate (rowWords * 3) 9; queue = replicate 2 9 }
+old-b = record { items = replicate 18 9; starts = replicate 4 9; rows = replicate (rowWords * 3) 9; queue = replicate 4 9; store = replicate 16 9 }
 
-start-b : Reading file-b grammar-b (tableOf rows-b) (state 0 0) words-b0 []
+start-b : Reading file-b grammar-b (tableOf rows-b) (state 0 0 0) words-b0 []
 unfolding rowsOf
-start-b = reading-start (state 7 7) old-b sound-b (omega arith) refl
+start-b = reading-start (state 7 7 7) old-b sound-b (omega arith) refl
 
 -- B READS "0 1 2" IN ONE RUN, and drops a set: three tokens, and the latest set is set 2.
-pub read-b : History file-b (state 2 3) words-b3 (0 ∷ 1 ∷ 2 ∷ [])
-unfolding entriesIn advanced stepped ran andThen store enqueue completeMedial completeMedialItems completeUnary completeUnaryPredictions completeBinary completeBinaryPredictions complete nextSummand popSum completeSum completeAllSums over until union records.flat highest greatestOrigin predictions itemsFrom insert sortInto binary pushQueue popQueue pushed popped move goesUp rise siftUp takesRight child goesDown sink siftDown rowsOf
+pub read-b : History file-b (state 2 3 11) words-b3 (0 ∷ 1 ∷ 2 ∷ [])
+unfolding entriesIn advanced stepped ran andThen store enqueue append written writeUnits place put unitsOf rowOf sumRow longProduct aloneRow pairRow productRow leafRow unfit unfitProduct unfitRight bothBelow longRight count completeMedial completeMedialItems completeUnary completeUnaryPredictions completeBinary completeBinaryPredictions complete popGreatest nextSummand popSum completeSum completeAllSums over until union records.flat highest greatestOrigin predictions itemsFrom insert sortInto binary pushQueue popQueue pushed popped move goesUp rise siftUp takesRight child goesDown sink siftDown rowsOf
 read-b = History.run {us = 0 ∷ 1 ∷ 2 ∷ []} (start-b .history) (Runs.done (start-b .ready))
 
 -- A START IN THE MIDDLE BEGINS ANEW: over the words that B's parse left, "0 1" is read and a second 0 is answered 6. No sentence begins so.
 abbrev words-b1 : Words
-words-b1 = record { items = 0 ∷ 3 ∷ 0 ∷ 0 ∷ 0 ∷ 0 ∷ 0 ∷ 0 ∷ 0 ∷ 0 ∷ 0 ∷ 0 ∷ []; starts = 0 ∷ 0 ∷ 1 ∷ 0 ∷ []; rows = wordRows (89 ∷ 34 ∷ 0 ∷ []); queue = 0 ∷ 0 ∷ [] }
+words-b1 =
+    record {
+      items = padded 18 (0 ∷ 3 ∷ 0 ∷ []);
+      starts = 0 ∷ 0 ∷ 1 ∷ 0 ∷ [];
+      rows = wordRows (89 ∷ 34 ∷ 0 ∷ []);
+      queue = replicate 4 0;
+      store = filled 16 (0x8000 ∷ []);
+    }
 
 abbrev words-b2 : Words
-words-b2 = record { items = 0 ∷ 3 ∷ 1 ∷ 4 ∷ 0 ∷ 0 ∷ 0 ∷ 0 ∷ 0 ∷ 0 ∷ 0 ∷ 0 ∷ []; starts = 0 ∷ 0 ∷ 1 ∷ 2 ∷ []; rows = wordRows (89 ∷ 34 ∷ 4 ∷ []); queue = 0 ∷ 0 ∷ [] }
+words-b2 =
+    record {
+      items = padded 18 (0 ∷ 3 ∷ 0 ∷ 1 ∷ 4 ∷ 1 ∷ []);
+      starts = 0 ∷ 0 ∷ 1 ∷ 2 ∷ [];
+      rows = wordRows (89 ∷ 34 ∷ 4 ∷ []);
+      queue = replicate 4 0;
+      store = filled 16 (0x8000 ∷ 0x8001 ∷ []);
+    }
 
-again-b : Reading file-b grammar-b (tableOf rows-b) (state 2 2) words-b2 (0 ∷ 1 ∷ [])
-unfolding entriesIn advanced stepped ran andThen store enqueue completeMedial completeMedialItems completeUnary completeUnaryPredictions completeBinary completeBinaryPredictions complete nextSummand popSum completeSum completeAllSums over until union records.flat highest greatestOrigin predictions itemsFrom insert sortInto binary pushQueue popQueue pushed popped move goesUp rise siftUp takesRight child goesDown sink siftDown rowsOf
+again-b : Reading file-b grammar-b (tableOf rows-b) (state 2 2 2) words-b2 (0 ∷ 1 ∷ [])
+unfolding entriesIn advanced stepped ran andThen store enqueue append written writeUnits place put unitsOf rowOf sumRow longProduct aloneRow pairRow productRow leafRow unfit unfitProduct unfitRight bothBelow longRight count completeMedial completeMedialItems completeUnary completeUnaryPredictions completeBinary completeBinaryPredictions complete popGreatest nextSummand popSum completeSum completeAllSums over until union records.flat highest greatestOrigin predictions itemsFrom insert sortInto binary pushQueue popQueue pushed popped move goesUp rise siftUp takesRight child goesDown sink siftDown rowsOf
 again-b =
-    reading-on (reading-on {s′ = state 1 1} {w′ = words-b1} (reading-start {s′ = state 0 0} {w′ = words-b0} (state 2 3) words-b3 sound-b (omega arith) refl) 0 refl) 1 refl
+    reading-on (reading-on {s′ = state 1 1 1} {w′ = words-b1} (reading-start {s′ = state 0 0 0} {w′ = words-b0} (state 2 3 11) words-b3 sound-b (omega arith) refl) 0 refl) 1 refl
 
 pub none-b : Begins (grammarOf file-b) (0 ∷ 1 ∷ 0 ∷ []) → ⊥
 unfolding stepped

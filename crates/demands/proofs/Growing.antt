@@ -10,18 +10,19 @@ use borrow.Author.Tests.{eqb-true, eq-eqb, ne-eqb}
 use Rattle.laws.specs.Counts.{once, count}
 use Rattle.laws.specs.Turns.{over}
 use Rattle.laws.proofs.Counts.{Passes, found}
-use Rattle.item.specs.Item.{Item, itemAt}
+use Rattle.item.specs.Item.{Item, itemAt, originAt, ruleAt}
 use Rattle.binary_heap.specs.Entry.{Entry, noEntry, entryKey}
 use Rattle.binary_heap.specs.Sift.{entryAt}
 use Rattle.binary_heap.proofs.PushLaws.{pushed-counts}
 use Rattle.binary_heap.proofs.PopLaws.{popped-counts}
 use Rattle.parse.specs.declared.State.{State}
-use Rattle.completion.specs.Pass.{Pass, andThen, store, enqueue}
-use Rattle.completion.specs.Sums.{nextSummand}
+use Rattle.node.specs.declared.Node.{Node}
+use Rattle.completion.specs.Pass.{Pass, andThen, store, enqueue, append}
+use Rattle.completion.specs.Sums.{productNode, popGreatest, nextSummand}
 use Rattle.completion.specs.inner.Ready.{PassFits}
 use Rattle.completion.proofs.Pushes.{goes-on, stays}
-use Rattle.completion.proofs.Entries.{entriesOf, queuedPass, poppedPass, store-cases, enqueue-cases, next-is, entry-at, some-entries, queued-entries, popped-entries}
-use Rattle.completion.proofs.Onward.{Onward, onward-refl, onward-trans, onward-store, onward-enqueue}
+use Rattle.completion.proofs.Entries.{entriesOf, queuedPass, poppedPass, store-cases, enqueue-cases, append-cases, pop-is, entry-at, some-entries, queued-entries, popped-entries}
+use Rattle.completion.proofs.Onward.{Onward, onward-refl, onward-trans, onward-store, onward-enqueue, onward-append}
 use Rattle.completion.proofs.Heaped.{sound-entries}
 use Rattle.demands.proofs.Chart.{New}
 
@@ -34,9 +35,14 @@ pub record IsEntry (s : Pass) (p : ℕ) : Type 0 where
   pub counted : 0 < count (names p) (entriesOf s)
 
 -- A store leaves the entries.
-pub entry-store : (origin rule : ℕ) (s : Pass) (p : ℕ) → IsEntry s p → IsEntry (store origin rule s) p
-entry-store origin rule s p entry =
-    store-cases (λ (t : Pass). IsEntry t p) s origin rule (λ place. record { counted = entry .counted }) (record { counted = entry .counted })
+pub entry-store : (origin rule handle : ℕ) (s : Pass) (p : ℕ) → IsEntry s p → IsEntry (store origin rule handle s) p
+entry-store origin rule handle s p entry =
+    store-cases (λ (t : Pass). IsEntry t p) s origin rule handle (λ place. record { counted = entry .counted }) (record { counted = entry .counted })
+
+-- So does a node that is written.
+pub entry-append : (n : Node) (s : Pass) (p : ℕ) → IsEntry s p → IsEntry (append n s) p
+entry-append n s p entry =
+    append-cases (λ (t : Pass). IsEntry t p) s n entry (λ us on is some room. record { counted = entry .counted }) (record { counted = entry .counted })
 
 module _ (s : Pass) (sound : PassFits s) where
   -- An entry is a place of an item.
@@ -46,28 +52,32 @@ module _ (s : Pass) (sound : PassFits s) where
       subst (λ (n : ℕ). n < s .at .items) (sym (eqb-true p (entryAt (entriesOf s) (at .place) .place) (at .passes)))
       (sound-entries s sound .each (at .place) (at .within))
 
-  queued-counts : (place p : ℕ) → count (names p) (entriesOf (queuedPass place s)) ≡ count (names p) (entriesOf s) + once (eqb p place)
-  queued-counts place p =
-      ap (count (names p)) (queued-entries s (sound .queued-fit) place) ∙ pushed-counts (entryKey (s .items)) (entriesOf s) (record { place = place }) (names p)
+  queued-counts : (place right p : ℕ) → count (names p) (entriesOf (queuedPass place right s)) ≡ count (names p) (entriesOf s) + once (eqb p place)
+  queued-counts place right p =
+      ap (count (names p)) (queued-entries s (sound .queued-fit) place right)
+      ∙ pushed-counts (entryKey (s .items)) (entriesOf s) (record { place = place; right = right }) (names p)
 
   -- A push leaves the entries that are there,
-  pub entry-enqueue : (place p : ℕ) → IsEntry s p → IsEntry (enqueue place s) p
-  entry-enqueue place p entry =
-      enqueue-cases (λ (t : Pass). IsEntry t p) s place (λ free. record { counted = omega (arith, queued-counts place p, entry .counted) })
+  pub entry-enqueue : (place right p : ℕ) → IsEntry s p → IsEntry (enqueue place right s) p
+  entry-enqueue place right p entry =
+      enqueue-cases (λ (t : Pass). IsEntry t p) s place right (λ free. record { counted = omega (arith, queued-counts place right p, entry .counted) })
       (record { counted = entry .counted })
 
   -- and one that is not refused adds its own.
-  pub entry-new : (place : ℕ) → enqueue place s .at .stopped ≡ 0 → IsEntry (enqueue place s) place
-  entry-new place =
-      enqueue-cases (λ (t : Pass). t .at .stopped ≡ 0 → IsEntry t place) s place
-      (λ free on. record { counted = omega (arith, queued-counts place place, ap once (eq-eqb place place refl)) }) (λ on. absurd (omega arith))
+  pub entry-new : (place right : ℕ) → enqueue place right s .at .stopped ≡ 0 → IsEntry (enqueue place right s) place
+  entry-new place right =
+      enqueue-cases (λ (t : Pass). t .at .stopped ≡ 0 → IsEntry t place) s place right
+      (λ free on. record { counted = omega (arith, queued-counts place right place, ap once (eq-eqb place place refl)) }) (λ on. absurd (omega arith))
 
-  -- A pop takes away the greatest, and no other.
+  -- A summand takes away the greatest, and no other.
   pub entry-next : 0 < s .at .queued → (p : ℕ) → IsEntry s p → (p ≡ entryAt (s .queue) 0 .place) ⊎ IsEntry (nextSummand s) p
+  unfolding nextSummand
   entry-next some p entry =
       elim (ℕ-discrete p (entryAt (s .queue) 0 .place)) [
         | yes top ↦ inl top
-        | no other ↦ inr (next-is (λ (t : Pass). IsEntry t p) s some (record { counted = left other }))
+        | no other ↦
+            inr (entry-append (productNode (s .items) (entryAt (s .queue) 0)) (popGreatest s) p
+            (pop-is (λ (t : Pass). IsEntry t p) s some (record { counted = left other })))
       ]
     where
       left : (p ≡ entryAt (s .queue) 0 .place → ⊥) → 0 < count (names p) (entriesOf (poppedPass s))
@@ -81,11 +91,12 @@ module _ (s : Pass) (sound : PassFits s) where
             ap once (ne-eqb p (entryAt (entriesOf s) 0 .place) (λ same. other (same ∙ first))),
           )
 
--- Item `i` is queued.
-pub record Queued (s : Pass) (i : Item) : Type 0 where
+-- An item of origin `o` and rule `r` is queued.
+pub record Queued (s : Pass) (o r : ℕ) : Type 0 where
   pub place : ℕ
   pub entry : IsEntry s place
-  pub is : itemAt (s .items) place ≡ i
+  pub origin : originAt (s .items) place ≡ o
+  pub rule : ruleAt (s .items) place ≡ r
 
 -- Pass `t` has the items and the entries of pass `s`.
 pub record Grows (s t : Pass) : Type 0 where
@@ -98,19 +109,25 @@ grows-refl s = record { onward = onward-refl s; entries = λ p entry. entry }
 pub grows-trans : {s t u : Pass} → Grows s t → Grows t u → Grows s u
 grows-trans a b = record { onward = onward-trans (a .onward) (b .onward); entries = λ p entry. b .entries p (a .entries p entry) }
 
-pub grows-store : (origin rule : ℕ) (s : Pass) → Grows s (store origin rule s)
-grows-store origin rule s = record { onward = onward-store origin rule s; entries = entry-store origin rule s }
+pub grows-store : (origin rule handle : ℕ) (s : Pass) → Grows s (store origin rule handle s)
+grows-store origin rule handle s = record { onward = onward-store origin rule handle s; entries = entry-store origin rule handle s }
 
-pub grows-enqueue : (place : ℕ) (s : Pass) → PassFits s → Grows s (enqueue place s)
-grows-enqueue place s sound = record { onward = onward-enqueue place s (sound .queued-fit); entries = entry-enqueue s sound place }
+pub grows-enqueue : (place right : ℕ) (s : Pass) → PassFits s → Grows s (enqueue place right s)
+grows-enqueue place right s sound = record { onward = onward-enqueue place right s (sound .queued-fit); entries = entry-enqueue s sound place right }
+
+pub grows-append : (n : Node) (s : Pass) → Grows s (append n s)
+grows-append n s = record { onward = onward-append n s; entries = entry-append n s }
 
 -- What is queued stays queued, and what was stored stays stored.
-pub queued-grows : {s t : Pass} {i : Item} → PassFits s → Grows s t → Queued s i → Queued t i
-queued-grows {s} {t} {i} sound grows queued =
+pub queued-grows : {s t : Pass} {o r : ℕ} → PassFits s → Grows s t → Queued s o r → Queued t o r
+queued-grows {s} {t} {o} {r} sound grows queued =
+    let same : itemAt (t .items) (queued .place) ≡ itemAt (s .items) (queued .place) =
+    grows .onward .same-items (queued .place) (entry-place s sound (queued .place) (queued .entry)) in
     record {
       place = queued .place;
       entry = grows .entries (queued .place) (queued .entry);
-      is = grows .onward .same-items (queued .place) (entry-place s sound (queued .place) (queued .entry)) ∙ queued .is;
+      origin = ap (λ (i : Item). i .origin) same ∙ queued .origin;
+      rule = ap (λ (i : Item). i .rule) same ∙ queued .rule;
     }
 
 pub new-grows : {st : State} {s t : Pass} {o r : ℕ} → Grows s t → New st s o r → New st t o r

@@ -76,7 +76,7 @@ module _ {g : Grammar} {table : List (List ℕ)} (accepted : Accepted g) (predic
     goes : t < g .tokens → Predicted s v t → completed g s v t .at .stopped ≡ 0 → keptOf g s v t + 1 < length (v .rows) / rowWords
         → Accepts g a v t (following g table s v t)
     goes small there going room =
-        let exact : Completed g s v t = completed-exactly g accepted s v (h .well) (h .cut .few-items) (h .cut .rowed) t there going in
+        let exact : Completed g s v t = completed-exactly g accepted s v (h .well) (h .cut) t there going in
         record {
           zero = refl;
           small = small;

@@ -46,7 +46,7 @@ fault-some (FileFault.malformed m) e = omega arith
 fault-some (FileFault.broken w n) e = omega arith
 
 -- A start that is refused is not answered 0.
-start-some : {file : List ℕ} {w : Words} {n : ℕ} → StartFault file w n → n ≡ 0 → ⊥
+pub start-some : {file : List ℕ} {w : Words} {n : ℕ} → StartFault file w n → n ≡ 0 → ⊥
 start-some (StartFault.file-fault f) e = fault-some f e
 start-some (StartFault.no-sets checked none) e = omega arith
 

@@ -1,10 +1,11 @@
 -- Laws on the steps of a token and on histories.
 pub mod Chart
+pub mod Cut
 pub mod Growing
 pub mod Following
 pub mod Popping
 pub mod Exact
-pub mod Cut
+pub mod Readable
 pub mod Tables
 pub mod Starting
 pub mod Ways

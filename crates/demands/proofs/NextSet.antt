@@ -1,5 +1,5 @@
 -- A step that is done: its state is well formed, and its chart is what earley calls the next one.
-use mathlib.Core.Path.{_≡_, refl, sym, ap, _∙_, subst}
+use mathlib.Core.Path.{_≡_, refl, sym, ap, _∙_, subst, subst₂}
 use mathlib.Core.Logic.{_⊎_, inl, inr}
 use mathlib.Core.List.{List}
 use Prim.Native.Nat.{ℕ, suc, _+_, _-_, _*_, _/_, _≤_, _<_}
@@ -12,12 +12,14 @@ use Rattle.bits.specs.Width.{rowWords}
 use Rattle.item.specs.Item.{Item, itemWords, itemAt}
 use Rattle.grammar.specs.Rules.{Grammar, none, ruleAt as ruleAtG}
 use Rattle.grammar.specs.Accepted.{Accepted, maxSymbols}
-use Rattle.grammar.specs.Prediction.{Predicts}
+use Rattle.grammar.specs.Prediction.{Predicts, Reaches}
 use Rattle.grammar.proofs.Facts.{second-low}
 use Rattle.parse.specs.declared.State.{State}
 use Rattle.parse.specs.Words.{Words, startOf}
+use Rattle.parse.specs.Heads.{Meets}
 use Rattle.parse.specs.WellFormed.{WellFormed, InSet, secondOf}
 use Rattle.parse.proofs.Capacities.{SameSizes}
+use Rattle.node.specs.declared.Node.the-variants.{Evaluated}
 use Rattle.completion.specs.Pass.{Pass}
 use Rattle.completion.proofs.Beginning.{beginning, start-fits}
 use Rattle.completion.proofs.Passed.{Passed, token-passed, passed-apart}
@@ -32,9 +34,10 @@ use Rattle.advance.proofs.Advancing.{new-few, greatest-below}
 use Rattle.advance.proofs.Keeping.{Newcomer, well-formed-again}
 use Rattle.advance.proofs.Steps.{without-new}
 use Rattle.earley.proofs.Next.{Stored, Led, Unpruned, Pruned, Next}
-use Rattle.demands.specs.Steps.{completed}
+use Rattle.demands.specs.Steps.{completed, withNodes}
 use Rattle.demands.proofs.Chart.{Has, New, chartOf, Completed}
 use Rattle.demands.proofs.Cut.{Cut}
+use Rattle.demands.proofs.Readable.{usedOf, Readable, readable-completed}
 use Rattle.demands.proofs.Tables.{holds-same, table-shape, predictions-below, Leads, predictions-lead, lead-predictions}
 use Rattle.demands.proofs.Ways.{newOf, reachOf, keptOf, following}
 use Rattle.demands.proofs.Members.{PlaceIn, Standing, among-place, place-among, new-standing, new-second, new-there, new-rises, greatest-among}
@@ -64,33 +67,44 @@ module _ {g : Grammar} {table : List (List ℕ)} {s : State} {v : Words} (accept
   v′ = following g table s v t .words
 
   passed : Passed (g .rules) (v .starts) (s .set) (beginning s v) pass
-  passed = token-passed g accepted well (cut .few-items) (cut .rowed) t
+  passed = token-passed g accepted well (cut .few-items) (cut .few-entries) (cut .rowed) t (s .used) (Evaluated t)
+
+  readable : Readable pass
+  readable = readable-completed g well t
+
+  -- The state and the words with the nodes that the pass has written.
+  abbrev written-state : State
+  written-state = record { set = s .set; items = s .items; used = pass .at .used }
+
+  abbrev written : Words
+  written = withNodes (pass .units) v
 
   -- A new item stands where the pass has stored it.
-  standing : {i : Item} → Among i new → Standing (pass .items) (s .items) (pass .at .items) i
+  pub standing : {i : Item} → Among i new → Standing (pass .items) (s .items) (pass .at .items) i
   standing among = new-standing (g .rules) (pass .items) (s .items) (pass .at .items) among
 
   two : {i : Item} → Among i new → secondOf (g .rules) i ≡ none → ⊥
   two among = new-second (g .rules) (pass .items) (s .items) (pass .at .items) among
 
-  newcomer : {i : Item} → Among i new → Newcomer (g .rules) (s .set) i
+  newcomer : {i : Item} → Among i new → Newcomer (g .rules) (s .set) (usedOf pass) i
   newcomer {i} among =
       let at : Standing (pass .items) (s .items) (pass .at .items) i = standing among in
       record {
         origin-low = omega (arith, ap (λ (j : Item). j .origin) (at .is), passed .origins (at .place) (at .from-on) (at .up-to));
         is-rule = omega (arith, ap (λ (j : Item). j .rule) (at .is), passed .charted .rules (at .place) (at .up-to));
         has-second = two among;
+        met = subst (λ (j : Item). Meets (usedOf pass) (j .handle) 0) (at .is) (readable .handles (at .place) (at .up-to));
       }
 
-  newcomers : All (Newcomer (g .rules) (s .set)) new
+  newcomers : All (Newcomer (g .rules) (s .set) (usedOf pass)) new
   newcomers = at-all new (λ q l. newcomer (place-among new q l))
 
   -- Its second is a symbol.
-  second-symbol : {i : Item} → Newcomer (g .rules) (s .set) i → secondOf (g .rules) i < g .symbols
+  second-symbol : {i : Item} → Newcomer (g .rules) (s .set) (usedOf pass) i → secondOf (g .rules) i < g .symbols
   second-symbol {i} comer = second-low g accepted (i .rule) (comer .is-rule) (comer .has-second)
 
   reaches : m ≤ s .set
-  reaches = greatest-below (s .set) (all-map (λ (i : Item) (f : Newcomer (g .rules) (s .set) i). f .origin-low) newcomers)
+  reaches = greatest-below (s .set) (all-map (λ (i : Item) (f : Newcomer (g .rules) (s .set) (usedOf pass) i). f .origin-low) newcomers)
 
   items-room : itemWords * (s .items + length new) ≤ length (v .items)
   items-room = omega (arith, new-few (g .rules) (pass .items) (s .items) (pass .at .items), passed .onward .more-items, passed .onward .item-words, passed .sound .items-fit)
@@ -98,7 +112,7 @@ module _ {g : Grammar} {table : List (List ℕ)} {s : State} {v : Words} (accept
   row-wide : length row ≡ rowWords
   row-wide =
       predictions-wide (g .rules) table new (table-shape accepted predicts)
-      (all-map (λ (i : Item) (f : Newcomer (g .rules) (s .set) i). let l : secondOf (g .rules) i < maxSymbols = omega (arith, second-symbol f, accepted .few-symbols) in l) newcomers)
+      (all-map (λ (i : Item) (f : Newcomer (g .rules) (s .set) (usedOf pass) i). let l : secondOf (g .rules) i < maxSymbols = omega (arith, second-symbol f, accepted .few-symbols) in l) newcomers)
 
   movable : Movable s v m new row
   movable = record {
@@ -106,20 +120,47 @@ module _ {g : Grammar} {table : List (List ℕ)} {s : State} {v : Words} (accept
     latest-fits = well .set-fits;
     set-fits = room;
     reaches = reaches;
-    items-fit = omega (arith, items-room, start-fits well (accepted .few-rules) (cut .few-items) (cut .rowed) (kept + 1));
+    items-fit = omega (arith, items-room, start-fits well (accepted .few-rules) (cut .few-items) (cut .few-entries) (cut .rowed) (kept + 1));
     row-wide = row-wide;
   }
 
   -- A step leaves as many words as there were.
   pub following-sizes : SameSizes v′ v
-  following-sizes = moved-sizes movable
+  following-sizes =
+      let moved = moved-sizes movable in
+      record { items = moved .items; starts = moved .starts; rows = moved .rows; queue = moved .queue; store = passed .onward .unit-words }
+
+  -- The nodes that the pass has written leave it well formed.
+  written-well : WellFormed (g .symbols) (g .rules) written-state written
+  written-well = record {
+    set-fits = well .set-fits;
+    items-fit = well .items-fit;
+    units-fit = readable .used-fit;
+    first-start = well .first-start;
+    second-start = well .second-start;
+    never-falls = well .never-falls;
+    last-start = well .last-start;
+    fit = λ k p there inside. well .fit k p there (record { from = inside .from; up-to = inside .up-to });
+    rise = λ k p there inside next.
+        well .rise k p there (record { from = inside .from; up-to = inside .up-to }) (record { from = next .from; up-to = next .up-to });
+    symbols = well .symbols;
+    spare-items = well .spare-items;
+    spare-starts = well .spare-starts;
+    spare-rows = well .spare-rows;
+    spare-queue = well .spare-queue;
+    spare-units = readable .spare .unit;
+    reads = readable .reads;
+    handles = λ p there.
+        subst (λ (i : Item). Meets (usedOf pass) (i .handle) 0) (passed .onward .same-items p there)
+        (readable .handles p (omega (arith, passed .onward .more-items)));
+  }
 
   -- THE STATE STAYS WELL FORMED.
   pub following-well : WellFormed (g .symbols) (g .rules) s′ v′
   following-well =
-      well-formed-again (g .symbols) (g .rules) s v new row
+      well-formed-again (g .symbols) (g .rules) written-state written new row
       (record {
-        sets = subst (WellFormed (g .symbols) (g .rules) s) (sym same) well;
+        sets = subst (WellFormed (g .symbols) (g .rules) written-state) (sym same) written-well;
         starts-fit = cut .rowed .sets;
         items-fit = items-room;
         set-fits = room;
@@ -131,25 +172,31 @@ module _ {g : Grammar} {table : List (List ℕ)} {s : State} {v : Words} (accept
         row-below = predictions-below accepted predicts new;
       })
     where
-      items : withoutNew s v .items ≡ v .items
+      items : withoutNew written-state written .items ≡ v .items
       items = without-new s v v (omega (arith, well .items-fit)) (record { zero = well .spare-items }) refl refl
 
-      same : withoutNew s v ≡ v
-      same = λ k. record { items = items k; starts = v .starts; rows = v .rows; queue = v .queue }
+      same : withoutNew written-state written ≡ written
+      same = λ k. record { items = items k; starts = v .starts; rows = v .rows; queue = v .queue; store = pass .units }
 
   -- Where a set that is kept ends the next starts at the latest.
   below-base : (k p : ℕ) → k ≤ kept → InSet v k p → p < startOf v (kept + 1)
   below-base k p l i =
       omega (arith, i .up-to, last-greatest (v .starts) kept (λ j b. well .never-falls j (omega (arith, kept-below movable))) (k + 1) (omega arith))
 
-  -- A set that is kept has the items that it had.
+  -- A set that is kept has the items that it had, at their places.
+  pub kept-place : (k p : ℕ) → k ≤ kept → InSet v′ k p → InSet v k p
+  kept-place k p l i = record {
+    from = omega (arith, i .from, start-kept movable k (omega arith));
+    up-to = omega (arith, i .up-to, start-kept movable (k + 1) (omega arith));
+  }
+
+  pub kept-item : (k p : ℕ) → k ≤ kept → InSet v k p → itemAt (v′ .items) p ≡ itemAt (v .items) p
+  kept-item k p l i = item-kept movable p (below-base k p l i)
+
   old-has : (k o r : ℕ) → k ≤ kept → Has v′ k o r → Has v k o r
   old-has k o r l has =
-      let inside : InSet v k (has .place) = record {
-        from = omega (arith, has .in-set .from, start-kept movable k (omega arith));
-        up-to = omega (arith, has .in-set .up-to, start-kept movable (k + 1) (omega arith));
-      } in
-      let same : itemAt (v′ .items) (has .place) ≡ itemAt (v .items) (has .place) = item-kept movable (has .place) (below-base k (has .place) l inside) in
+      let inside : InSet v k (has .place) = kept-place k (has .place) l (has .in-set) in
+      let same : itemAt (v′ .items) (has .place) ≡ itemAt (v .items) (has .place) = kept-item k (has .place) l inside in
       record {
         place = has .place;
         in-set = inside;
@@ -159,7 +206,7 @@ module _ {g : Grammar} {table : List (List ℕ)} {s : State} {v : Words} (accept
 
   has-old : (k o r : ℕ) → k ≤ kept → Has v k o r → Has v′ k o r
   has-old k o r l has =
-      let same : itemAt (v′ .items) (has .place) ≡ itemAt (v .items) (has .place) = item-kept movable (has .place) (below-base k (has .place) l (has .in-set)) in
+      let same : itemAt (v′ .items) (has .place) ≡ itemAt (v .items) (has .place) = kept-item k (has .place) l (has .in-set) in
       record {
         place = has .place;
         in-set = record {
@@ -177,26 +224,32 @@ module _ {g : Grammar} {table : List (List ℕ)} {s : State} {v : Words} (accept
   end-new : startOf v′ (suc kept + 1) ≡ startOf v (kept + 1) + length new
   end-new = start-last movable (suc kept + 1) (omega arith)
 
-  abbrev itemOf : ℕ → ℕ → Item
-  itemOf o r = record { origin = o; rule = r }
+  -- One of the new items has the origin `o` and the rule `r`.
+  record Newly (o r : ℕ) : Type 0 where
+    pub item : Item
+    pub among : Among item new
+    pub origin : item .origin ≡ o
+    pub rule : item .rule ≡ r
 
-  has-new : (o r : ℕ) → Has v′ (suc kept) o r → Among (itemOf o r) new
-  has-new o r has = subst (λ (i : Item). Among i new) (sym there ∙ same) (place-among new q few)
+  -- The item at a place of the new set is one of them.
+  pub new-place : (p : ℕ) → InSet v′ (suc kept) p → Among (itemAt (v′ .items) p) new
+  new-place p i = subst (λ (j : Item). Among j new) (sym there) (place-among new q few)
     where
       q : ℕ
-      q = has .place - startOf v (kept + 1)
+      q = p - startOf v (kept + 1)
 
       few : q < length new
-      few = omega (arith, has .in-set .from, has .in-set .up-to, start-new, end-new)
+      few = omega (arith, i .from, i .up-to, start-new, end-new)
 
-      at : startOf v (kept + 1) + q ≡ has .place
-      at = omega (arith, has .in-set .from, start-new)
+      at : startOf v (kept + 1) + q ≡ p
+      at = omega (arith, i .from, start-new)
 
-      there : itemAt (v′ .items) (has .place) ≡ getD new q noItem
+      there : itemAt (v′ .items) p ≡ getD new q noItem
       there = ap (itemAt (v′ .items)) (sym at) ∙ item-new movable q few
 
-      same : itemAt (v′ .items) (has .place) ≡ itemOf o r
-      same = λ k. record { origin = has .origin k; rule = has .rule k }
+  has-new : (o r : ℕ) → Has v′ (suc kept) o r → Newly o r
+  has-new o r has =
+      record { item = itemAt (v′ .items) (has .place); among = new-place (has .place) (has .in-set); origin = has .origin; rule = has .rule }
 
   new-has : {i : Item} → Among i new → Has v′ (suc kept) (i .origin) (i .rule)
   new-has {i} among =
@@ -223,9 +276,11 @@ module _ {g : Grammar} {table : List (List ℕ)} {s : State} {v : Words} (accept
 
   led-new : (x : ℕ) → Led g (chartOf s′ v′) (suc kept) x → Holds (rowOf rowWords (v′ .rows) (suc kept)) x
   led-new x led =
-      let among : Among (itemOf (led .origin) (led .rule)) new = has-new (led .origin) (led .rule) (led .item) in
+      let newly : Newly (led .origin) (led .rule) = has-new (led .origin) (led .rule) (led .item) in
       holds-same (rowOf rowWords (v′ .rows) (suc kept)) row x (row-new movable (suc kept) (sym (add-one kept)))
-      (lead-predictions (g .rules) table x among (predicts .all (ruleAtG g (led .rule) .second) x (second-symbol (newcomer among)) (led .reaches)))
+      (lead-predictions (g .rules) table x (newly .among)
+      (predicts .all (secondOf (g .rules) (newly .item)) x (second-symbol (newcomer (newly .among)))
+      (subst (λ (r : ℕ). Reaches g (ruleAtG g r .second) x) (sym (newly .rule)) (led .reaches))))
 
   module _ (exactly : Completed g s v t) where
     -- What the completed pairs call for are the new items.
@@ -242,19 +297,31 @@ module _ {g : Grammar} {table : List (List ℕ)} {s : State} {v : Words} (accept
         })
         (two among)
 
-    stored-new : (o r : ℕ) → Stored g (chartOf s v) (exactly .done) o r → Among (itemOf o r) new
+    stored-new : (o r : ℕ) → Stored g (chartOf s v) (exactly .done) o r → Newly o r
     stored-new o r stored =
         let at : New s pass o r = exactly .stored o r stored in
-        let same : itemAt (pass .items) (at .place) ≡ itemOf o r = λ k. record { origin = at .origin k; rule = at .rule k } in
-        subst (λ (i : Item). Among i new) same
-        (new-there (g .rules) (pass .items) (s .items) (pass .at .items) (at .place) (at .behind) (at .before)
-        (λ e. stored .two (ap (λ (i : Item). secondOf (g .rules) i) (sym same) ∙ e)))
+        record {
+          item = itemAt (pass .items) (at .place);
+          among =
+              new-there (g .rules) (pass .items) (s .items) (pass .at .items) (at .place) (at .behind) (at .before)
+              (λ e. stored .two (ap (λ (q : ℕ). ruleAtG g q .second) (sym (at .rule)) ∙ e));
+          origin = at .origin;
+          rule = at .rule;
+        }
+
+    newly-stored : {o r : ℕ} → Newly o r → Stored g (chartOf s v) (exactly .done) o r
+    newly-stored newly = subst₂ (Stored g (chartOf s v) (exactly .done)) (newly .origin) (newly .rule) (new-stored (newly .among))
+
+    newly-has : {o r : ℕ} → Newly o r → Has v′ (suc kept) o r
+    newly-has newly = subst₂ (Has v′ (suc kept)) (newly .origin) (newly .rule) (new-has (newly .among))
 
     pruning : Unpruned (chartOf s v) kept (chartOf s′ v′) ⊎ Pruned g (chartOf s v) (exactly .done) kept (chartOf s′ v′)
     pruning = elim (decLt 1 (s .set - m)) [
       | yes a ↦ inr (record {
         fewer = omega (arith, kept-pruned (s .set) m a);
-        origins = λ {o} {r} stored. omega (arith, kept-pruned (s .set) m a, greatest-among (g .rules) (s .set) new (stored-new o r stored));
+        origins = λ {o} {r} stored.
+            let newly : Newly o r = stored-new o r stored in
+            omega (arith, kept-pruned (s .set) m a, newly .origin, greatest-among (g .rules) (s .set) new (newly .among));
         row = λ {x} held. row-cleared movable a x held;
       })
       | no a ↦
@@ -278,6 +345,6 @@ module _ {g : Grammar} {table : List (List ℕ)} {s : State} {v : Words} (accept
         (λ held. holds-same (rowOf rowWords (v′ .rows) k) (rowOf rowWords (v .rows) k) x (row-kept movable k l) held),
       );
       pruning = pruning;
-      new-items = λ {o} {r}. ((λ has. new-stored (has-new o r has)), (λ stored. new-has (stored-new o r stored)));
+      new-items = λ {o} {r}. ((λ has. newly-stored (has-new o r has)), (λ stored. newly-has (stored-new o r stored)));
       new-row = λ {x}. (new-led x, led-new x);
     }

@@ -12,6 +12,7 @@ use Rattle.parse.specs.declared.State.{State}
 use Rattle.parse.specs.Words.{Words}
 use Rattle.parse.specs.WellFormed.{WellFormed}
 use Rattle.parse.proofs.Capacities.{SameSizes}
+use Rattle.node.specs.declared.Node.the-variants.{Evaluated}
 use Rattle.completion.specs.Pass.{Pass}
 use Rattle.completion.proofs.Refusals.{Ends}
 use Rattle.completion.proofs.Passed.{token-passed}
@@ -21,11 +22,12 @@ use Rattle.demands.proofs.Cut.{Cut, sizes-refl}
 use Rattle.demands.proofs.Ways.{Ways, Predicted, ways}
 use Rattle.demands.proofs.NextSet.{following-sizes, following-well}
 
--- A pass that ended was not refused, or met full items or a full queue: 0, 7 or 8.
+-- A pass that ended was not refused, or met full items, a full queue or a full store: 0, 7, 8 or 14.
 ends-full : {p : Pass} → Ends p → AcceptedOrNoRoom (p .at .stopped)
 ends-full (Ends.empty going none) = subst AcceptedOrNoRoom (sym going) AcceptedOrNoRoom.accepted
 ends-full (Ends.full-items stopped full) = subst AcceptedOrNoRoom (sym stopped) AcceptedOrNoRoom.no-item
 ends-full (Ends.full-queue stopped full) = subst AcceptedOrNoRoom (sym stopped) AcceptedOrNoRoom.no-entry
+ends-full (Ends.full-store stopped) = subst AcceptedOrNoRoom (sym stopped) AcceptedOrNoRoom.no-unit
 
 -- Those are neither 5 nor 6.
 pub room-other : {n : ℕ} → AcceptedOrNoRoom n → (n ≡ noToken → ⊥) × (n ≡ notPredicted → ⊥)
@@ -33,8 +35,9 @@ room-other AcceptedOrNoRoom.accepted = ((λ e. omega arith), (λ e. omega arith)
 room-other AcceptedOrNoRoom.no-item = ((λ e. omega arith), (λ e. omega arith))
 room-other AcceptedOrNoRoom.no-entry = ((λ e. omega arith), (λ e. omega arith))
 room-other AcceptedOrNoRoom.no-set = ((λ e. omega arith), (λ e. omega arith))
+room-other AcceptedOrNoRoom.no-unit = ((λ e. omega arith), (λ e. omega arith))
 
--- 5 where the token is none; else 6 where it is not predicted; else 0, 7, 8 or 9.
+-- 5 where the token is none; else 6 where it is not predicted; else 0, 7, 8, 9 or 14.
 pub data Answered (g : Grammar) (s : State) (v : Words) (t : ℕ) : ℕ → Type 0 where
   no-token : g .tokens ≤ t → Answered g s v t noToken
   not-predicted : t < g .tokens → (Predicted s v t → ⊥) → Answered g s v t notPredicted
@@ -53,9 +56,9 @@ module _ {g : Grammar} {s : State} {v : Words} {t : ℕ} where
   answered-six (Answered.otherwise l there room) = ((λ e. absurd (room-other room .1 e)), (λ m. absurd (m .1 there)))
 
 module _ {g : Grammar} {s : State} {v : Words} (accepted : Accepted g) (well : WellFormed (g .symbols) (g .rules) s v) (cut : Cut v) (t : ℕ) where
-  -- A token's pass was not refused, or met full items or a full queue.
+  -- A token's pass was not refused, or met full items, a full queue or a full store.
   pub stopped-room : AcceptedOrNoRoom (completed g s v t .at .stopped)
-  stopped-room = ends-full (token-passed g accepted well (cut .few-items) (cut .rowed) t .ends)
+  stopped-room = ends-full (token-passed g accepted well (cut .few-items) (cut .few-entries) (cut .rowed) t (s .used) (Evaluated t) .ends)
 
   module _ {table : List (List ℕ)} (predicts : Predicts g rowWords table) where
     by-way : {o : Outcome} → Ways g table s v t o → Answered g s v t (o .number)

@@ -1,9 +1,9 @@
 -- A start gives a fresh chart in a well-formed state.
-use mathlib.Core.Path.{_≡_, refl, sym, _∙_, subst}
-use mathlib.Core.List.{List}
+use mathlib.Core.Path.{_≡_, refl, sym, ap, _∙_, subst}
+use mathlib.Core.List.{List, []}
 use Prim.Native.Nat.{ℕ, _+_, _-_, _/_, _<_}
 use native.Mathlib.Omega.{arith}
-use lib.ListN.{length, replicate, length-replicate, List·getD-eq-default}
+use lib.ListN.{length, getD, replicate, length-replicate, List·getD-eq-default}
 use lib.Seq.{take-at}
 use Rattle.laws.specs.Bits.{Holds, Below, rowOf}
 use Rattle.bits.specs.Width.{rowWords}
@@ -14,7 +14,9 @@ use Rattle.parse.specs.Words.{Words}
 use Rattle.parse.specs.WellFormed.{WellFormed}
 use Rattle.parse.proofs.Capacities.{SameSizes}
 use Rattle.laws.proofs.Lists.{zeros-word}
-use Rattle.parse.proofs.Padded.{padded-length, padded-word}
+use Rattle.node.specs.Reading.{filler}
+use Rattle.parse.proofs.Padded.{padded-length, padded-word, filled-unit}
+use Rattle.parse.proofs.Heads.{to-end-empty}
 use Rattle.earley.proofs.Charts.{Fresh}
 use Rattle.demands.specs.Steps.{Outcome, started}
 use Rattle.demands.proofs.Chart.{chartOf}
@@ -44,6 +46,7 @@ module _ {g : Grammar} {table : List (List ℕ)} (accepted : Accepted g) (predic
     starts = length-replicate (length (v .starts)) 0;
     rows = rows-long;
     queue = length-replicate (length (v .queue)) 0;
+    store = length-replicate (length (v .store)) filler;
   }
 
   -- The chart is fresh.
@@ -62,6 +65,7 @@ module _ {g : Grammar} {table : List (List ℕ)} (accepted : Accepted g) (predic
   started-well = record {
     set-fits = omega (arith, rows-long);
     items-fit = omega arith;
+    units-fit = omega arith;
     first-start = zeros-word (length (v .starts)) 0;
     second-start = zeros-word (length (v .starts)) 1;
     never-falls = λ k l. omega (arith, zeros-word (length (v .starts)) k);
@@ -76,4 +80,9 @@ module _ {g : Grammar} {table : List (List ℕ)} (accepted : Accepted g) (predic
     spare-starts = λ i l. zeros-word (length (v .starts)) i;
     spare-rows = λ i l. padded-word (length (v .rows)) first-row i ∙ List·getD-eq-default first-row 0 {n = i} (omega (arith, wide));
     spare-queue = λ i. zeros-word (length (v .queue)) i;
+    spare-units = λ i l.
+        let all : length (v .store) ≡ length (v .store) - 0 = omega arith in
+        ap (λ (n : ℕ). getD (replicate n filler) i filler) all ∙ filled-unit (length (v .store)) [] i;
+    reads = to-end-empty;
+    handles = λ p l. absurd (omega arith);
   }

@@ -77,7 +77,7 @@ module _ {file : List ℕ} {s : State} {w : Words} where
   }
 
   -- Of finished.
-  pub finished-tells : {n : ℕ} {yes : Bool} → Finishes file s w n yes → FinishedTells file s w n yes
+  pub finished-tells : {n handle : ℕ} {yes : Bool} → Finishes file s w n yes handle → FinishedTells file s w n yes
   finished-tells (Finishes.refused fault) = record { sentences = λ ts h. absurd (no-fault (lasts h) fault) }
   finished-tells (Finishes.done formed) = record {
     sentences = λ ts h. record {
@@ -95,5 +95,5 @@ module _ {file : List ℕ} {s : State} {w : Words} where
   pub run-means : {us : List ℕ} {e : Ended} → Runs file s w us e → Runs file s w us e × RunTells file s w us e
   run-means runs = (runs, run-tells runs)
 
-  pub finished-means : {n : ℕ} {yes : Bool} → Finishes file s w n yes → Finishes file s w n yes × FinishedTells file s w n yes
+  pub finished-means : {n handle : ℕ} {yes : Bool} → Finishes file s w n yes handle → Finishes file s w n yes handle × FinishedTells file s w n yes
   finished-means finishes = (finishes, finished-tells finishes)

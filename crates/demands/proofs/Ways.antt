@@ -16,7 +16,7 @@ use Rattle.parse.specs.declared.State.{State}
 use Rattle.parse.specs.Words.{Words}
 use Rattle.advance.specs.NewItems.{newItems}
 use Rattle.advance.specs.Advance.{greatestOrigin, lastKept, predictions, nextState, nextWords}
-use Rattle.demands.specs.Steps.{Outcome, noToken, notPredicted, setsFull, completed, advanced, stepped}
+use Rattle.demands.specs.Steps.{Outcome, noToken, notPredicted, setsFull, completed, withNodes, advanced, stepped}
 
 -- The new items of a step, their greatest origin, and the latest set that is kept.
 abbrev pub newOf : Grammar → State → Words → ℕ → List Item
@@ -33,8 +33,8 @@ abbrev pub following : Grammar → List (List ℕ) → State → Words → ℕ �
 following g table s v t =
     record {
       number = 0;
-      state = nextState (keptOf g s v t) v (newOf g s v t);
-      words = nextWords (s .set) (reachOf g s v t) v (newOf g s v t) (predictions (g .rules) table (newOf g s v t));
+      state = nextState (completed g s v t .at .used) (keptOf g s v t) v (newOf g s v t);
+      words = nextWords (s .set) (reachOf g s v t) (withNodes (completed g s v t .units) v) (newOf g s v t) (predictions (g .rules) table (newOf g s v t));
     }
 
 -- What a step that is refused leaves.
@@ -71,7 +71,7 @@ module _ (g : Grammar) (table : List (List ℕ)) (s : State) (v : Words) (t : �
           rw (stepped, lt-ltb t (g .tokens) small, true-holds (rowOf rowWords (v .rows) (s .set)) t there, ne-eqb (completed g s v t .at .stopped) 0 n) refl
 
       module _ (going : completed g s v t .at .stopped ≡ 0) where
-        goes : stepped g table s v t ≡ advanced g table s v (newOf g s v t)
+        goes : stepped g table s v t ≡ advanced g table s v (newOf g s v t) (completed g s v t .at .used) (completed g s v t .units)
         unfolding stepped
         goes =
             rw (stepped, lt-ltb t (g .tokens) small, true-holds (rowOf rowWords (v .rows) (s .set)) t there, eq-eqb (completed g s v t .at .stopped) 0 going) refl

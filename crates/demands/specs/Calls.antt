@@ -4,6 +4,7 @@ use mathlib.Core.Bool.{Bool, false}
 use mathlib.Core.List.{List, []}
 use Prim.Native.Nat.{ℕ, _<_}
 use Rattle.bits.specs.Width.{rowWords}
+use Rattle.node.specs.Rows.{allOnes}
 use Rattle.grammar.specs.Rules.{Grammar}
 use Rattle.grammar.specs.Accepted.{Accepted}
 use Rattle.grammar.specs.File.{Malformed, grammarOf}
@@ -11,7 +12,7 @@ use Rattle.grammar.specs.Prediction.{Predicts}
 use Rattle.parse.specs.declared.State.{State}
 use Rattle.parse.specs.Words.{Words, setRoom, within, beyond, behind}
 use Rattle.parse.specs.WellFormed.{WellFormed}
-use Rattle.demands.specs.Steps.{Outcome, Ended, started, stepped, ran, lastWraps, latestPart}
+use Rattle.demands.specs.Steps.{Outcome, Ended, started, stepped, ran, lastWraps, finishedHandle, latestPart}
 
 -- The grammar that a file gives, where the check accepts it.
 pub record Checked (file : List ℕ) (g : Grammar) : Type 0 where
@@ -76,10 +77,10 @@ pub data Runs (file : List ℕ) (s : State) (w : Words) (ts : List ℕ) : Ended 
       {g : Grammar} {table : List (List ℕ)} → Ready file s w g table
       → Runs file s w ts (inPlaceEnded w (ran g table s (within w) ts))
 
--- Finished: its number, and whether it says yes.
-pub data Finishes (file : List ℕ) (s : State) (w : Words) : ℕ → Bool → Type 0 where
-  refused : {n : ℕ} → CallFault file s w n → Finishes file s w n false
-  done : {g : Grammar} → Formed file s w g → Finishes file s w 0 (lastWraps s (within w))
+-- Finished: its number, whether it says yes, and the handle, all ones where it does not.
+pub data Finishes (file : List ℕ) (s : State) (w : Words) : ℕ → Bool → ℕ → Type 0 where
+  refused : {n : ℕ} → CallFault file s w n → Finishes file s w n false allOnes
+  done : {g : Grammar} → Formed file s w g → Finishes file s w 0 (lastWraps s (within w)) (finishedHandle s (within w))
 
 -- The set report: its number, and the part.
 pub data Reports (file : List ℕ) (s : State) (w : Words) : ℕ → List ℕ → Type 0 where

@@ -11,7 +11,7 @@ use Rattle.grammar.specs.Sentences.{Sentence, Begins}
 use Rattle.grammar.specs.File.{grammarOf}
 use Rattle.parse.specs.declared.State.{State}
 use Rattle.parse.specs.Words.{Words}
-use Rattle.completion.specs.Pass.{itemsFull, queueFull}
+use Rattle.completion.specs.Pass.{itemsFull, queueFull, storeFull}
 use Rattle.demands.specs.Steps.{Ended, notPredicted, setsFull}
 use Rattle.demands.specs.Histories.{History}
 
@@ -21,6 +21,7 @@ pub data AcceptedOrNoRoom : ℕ → Type 0 where
   no-item : AcceptedOrNoRoom itemsFull
   no-entry : AcceptedOrNoRoom queueFull
   no-set : AcceptedOrNoRoom setsFull
+  no-unit : AcceptedOrNoRoom storeFull
 
 -- Of the ordinary token `t`, with the tokens `ts` accepted: it is refused as impossible exactly when no sentence begins with those tokens
 -- and it; otherwise it is accepted or meets a room refusal.

@@ -5,11 +5,14 @@ use Prim.Native.Nat.{ℕ, _+_, _-_, _*_, _/_}
 use lib.ListN.{length, getD, take, drop, replicate}
 use lib.Dec.{eqb, ltb}
 use Rattle.bits.specs.Width.{rowWords}
-use Rattle.item.specs.Item.{itemWords, ruleAt, Item}
+use Rattle.item.specs.Item.{itemWords, ruleAt, handleAt, Item}
 use Rattle.grammar.specs.Rules.{Grammar, wrapper}
 use Rattle.parse.specs.declared.State.{State}
 use Rattle.parse.specs.Words.{Words, startOf, padded}
-use Rattle.completion.specs.Pass.{Pass, passOf}
+use Rattle.node.specs.Rows.{allOnes}
+use Rattle.node.specs.Reading.{filler}
+use Rattle.node.specs.declared.Node.the-variants.{Evaluated}
+use Rattle.completion.specs.Pass.{Pass, passOver, append}
 use Rattle.completion.specs.Complete.{predicted, complete}
 use Rattle.completion.specs.Sums.{completeAllSums}
 use Rattle.advance.specs.NewItems.{newItems}
@@ -31,37 +34,45 @@ notPredicted = 6
 abbrev pub setsFull : ℕ
 setsFull = 9
 
--- Starting clears everything and sets row 0 to W's row.
+-- Starting clears everything, fills the store, and sets row 0 to W's row.
 abbrev pub started : Grammar → List (List ℕ) → Words → Outcome
 started g table v =
     record {
       number = 0;
-      state = record { set = 0; items = 0 };
+      state = record { set = 0; items = 0; used = 0 };
       words =
           record {
             items = replicate (length (v .items)) 0;
             starts = replicate (length (v .starts)) 0;
             rows = padded (length (v .rows)) (getD table (wrapper g) []);
             queue = replicate (length (v .queue)) 0;
+            store = replicate (length (v .store)) filler;
           };
     }
+
+-- The pass of a token begins: its node is written.
+abbrev pub scanned : State → Words → ℕ → Pass
+scanned s v t =
+    append (Evaluated t) (passOver (record { stopped = 0; items = s .items; queued = 0; used = s .used }) (v .items) (v .queue) (v .store))
 
 -- Steps 2 and 3: complete (e, t), and then sum after sum.
 abbrev pub completed : Grammar → State → Words → ℕ → Pass
 completed g s v t =
-    completeAllSums (g .rules) (v .starts) (v .rows)
-    (complete (g .rules) (v .starts) (v .rows) (s .set) t
-    (passOf (record { stopped = 0; items = s .items; queued = 0 }) (v .items) (v .queue)))
+    completeAllSums (g .rules) (v .starts) (v .rows) (complete (g .rules) (v .starts) (v .rows) (s .set) t (s .used) (scanned s v t))
 
--- Steps 4 to 6, with `new` for the new items as step 4 leaves them.
-unfoldable pub advanced : Grammar → List (List ℕ) → State → Words → List Item → Outcome
-advanced g table s v new =
+-- The words with the nodes that a pass wrote.
+abbrev pub withNodes : List ℕ → Words → Words
+withNodes units v = record { items = v .items; starts = v .starts; rows = v .rows; queue = v .queue; store = units }
+
+-- Steps 4 to 6, with `new` for the new items as step 4 leaves them, and the used units as steps 2 and 3 left them.
+unfoldable pub advanced : Grammar → List (List ℕ) → State → Words → List Item → ℕ → List ℕ → Outcome
+advanced g table s v new used units =
     elim (ltb (lastKept (s .set) (greatestOrigin (s .set) new) + 1) (length (v .rows) / rowWords)) [
       | true ↦
           record {
             number = 0;
-            state = nextState (lastKept (s .set) (greatestOrigin (s .set) new)) v new;
-            words = nextWords (s .set) (greatestOrigin (s .set) new) v new (predictions (g .rules) table new);
+            state = nextState used (lastKept (s .set) (greatestOrigin (s .set) new)) v new;
+            words = nextWords (s .set) (greatestOrigin (s .set) new) (withNodes units v) new (predictions (g .rules) table new);
           }
       | false ↦ record { number = setsFull; state = s; words = v }
     ]
@@ -77,7 +88,9 @@ stepped g table s v t =
             | true ↦
                 elim (eqb (completed g s v t .at .stopped) 0) [
                   | false ↦ record { number = completed g s v t .at .stopped; state = s; words = v }
-                  | true ↦ advanced g table s v (newItems (g .rules) (completed g s v t .items) (s .items) (completed g s v t .at .items))
+                  | true ↦
+                      advanced g table s v (newItems (g .rules) (completed g s v t .items) (s .items) (completed g s v t .at .items))
+                      (completed g s v t .at .used) (completed g s v t .units)
                 ]
           ]
     ]
@@ -102,6 +115,10 @@ ran g table s v (t ∷ ts) =
 -- The last item of the latest set has rule 0. A set without items has none.
 abbrev pub lastWraps : State → Words → Bool
 lastWraps s v = ltb (startOf v (s .set)) (s .items) && eqb (ruleAt (v .items) (s .items - 1)) 0
+
+-- Its handle: the node of the start symbol. All ones where the answer is no.
+abbrev pub finishedHandle : State → Words → ℕ
+finishedHandle s v = elim (lastWraps s v) [ true ↦ handleAt (v .items) (s .items - 1) | false ↦ allOnes ]
 
 -- The part of the item words that holds the latest set.
 abbrev pub latestPart : State → Words → List ℕ

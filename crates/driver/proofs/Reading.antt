@@ -115,26 +115,27 @@ module _ {file : List ℕ} {s₀ : State} {w₀ : Words} where
       record { bytes = before; in-parts = full-all 0 (subst (Full before) zero f); runs = runs }
   all-read (SoFar.over all) nothing = all
 
-pub record Reading (file : List ℕ) (s₀ : State) (items₀ starts₀ rows₀ queue₀ : List ℕ) (s : State) (items starts rows queue : List ℕ) (taken parts : ℕ) : Type 0 where
-  pub so-far : SoFar file s₀ (wordsOf items₀ starts₀ rows₀ queue₀) s (wordsOf items starts rows queue) taken parts
+pub record Reading (file : List ℕ) (s₀ : State) (items₀ starts₀ rows₀ queue₀ store₀ : List ℕ) (s : State) (items starts rows queue store : List ℕ) (taken parts : ℕ) : Type 0 where
+  pub so-far : SoFar file s₀ (wordsOf items₀ starts₀ rows₀ queue₀ store₀) s (wordsOf items starts rows queue store) taken parts
   pub few : taken + partTokens * parts ≤ mostTokens
   pub items-long : length items ≡ length items₀
   pub starts-long : length starts ≡ length starts₀
   pub rows-long : length rows ≡ length rows₀
   pub queue-long : length queue ≡ length queue₀
+  pub store-long : length store ≡ length store₀
 
-pub reading-start : (file : List ℕ) (s : State) (items starts rows queue : List ℕ) → Reading file s items starts rows queue s items starts rows queue 0 mostParts
-reading-start file s items starts rows queue =
-    record { so-far = SoFar.none; few = omega arith; items-long = refl; starts-long = refl; rows-long = refl; queue-long = refl }
+pub reading-start : (file : List ℕ) (s : State) (items starts rows queue store : List ℕ) → Reading file s items starts rows queue store s items starts rows queue store 0 mostParts
+reading-start file s items starts rows queue store =
+    record { so-far = SoFar.none; few = omega arith; items-long = refl; starts-long = refl; rows-long = refl; queue-long = refl; store-long = refl }
 
 module _
-    {file : List ℕ} {s₀ s : State} {items₀ starts₀ rows₀ queue₀ items starts rows queue : List ℕ} {taken parts : ℕ} (items′ starts′ rows′ queue′ : List ℕ) (r : Ran) (next : State)
-    (before : Reading file s₀ items₀ starts₀ rows₀ queue₀ s items starts rows queue taken parts)
-    (part : RunsPart file s (wordsOf items starts rows queue) (endedOf r (wordsOf items′ starts′ rows′ queue′))) (is : r .answer ≡ Done next) (few : r .taken ≤ partTokens) (some : 0 < parts)
-    (i : length items′ ≡ length items) (st : length starts′ ≡ length starts) (w : length rows′ ≡ length rows) (q : length queue′ ≡ length queue) where
+    {file : List ℕ} {s₀ s : State} {items₀ starts₀ rows₀ queue₀ store₀ items starts rows queue store : List ℕ} {taken parts : ℕ} (items′ starts′ rows′ queue′ store′ : List ℕ) (r : Ran) (next : State)
+    (before : Reading file s₀ items₀ starts₀ rows₀ queue₀ store₀ s items starts rows queue store taken parts)
+    (part : RunsPart file s (wordsOf items starts rows queue store) (endedOf r (wordsOf items′ starts′ rows′ queue′ store′))) (is : r .answer ≡ Done next) (few : r .taken ≤ partTokens) (some : 0 < parts)
+    (i : length items′ ≡ length items) (st : length starts′ ≡ length starts) (w : length rows′ ≡ length rows) (q : length queue′ ≡ length queue) (u : length store′ ≡ length store) where
   -- One part more, with fewer parts left.
-  reading-next : (left : ℕ) → left < parts → SoFar file s₀ (wordsOf items₀ starts₀ rows₀ queue₀) next (wordsOf items′ starts′ rows′ queue′) (taken + r .taken) left
-      → Reading file s₀ items₀ starts₀ rows₀ queue₀ next items′ starts′ rows′ queue′ (taken + r .taken) left
+  reading-next : (left : ℕ) → left < parts → SoFar file s₀ (wordsOf items₀ starts₀ rows₀ queue₀ store₀) next (wordsOf items′ starts′ rows′ queue′ store′) (taken + r .taken) left
+      → Reading file s₀ items₀ starts₀ rows₀ queue₀ store₀ next items′ starts′ rows′ queue′ store′ (taken + r .taken) left
   reading-next left fewer so-far = record {
     so-far = so-far;
     few = omega (arith, before .few, few, fewer);
@@ -142,11 +143,12 @@ module _
     starts-long = st ∙ before .starts-long;
     rows-long = w ∙ before .rows-long;
     queue-long = q ∙ before .queue-long;
+    store-long = u ∙ before .store-long;
   }
 
   -- Behind a part that is not full none is left, behind a full one all but it.
-  pub reading-last : r .taken < partTokens → Reading file s₀ items₀ starts₀ rows₀ queue₀ next items′ starts′ rows′ queue′ (taken + r .taken) 0
+  pub reading-last : r .taken < partTokens → Reading file s₀ items₀ starts₀ rows₀ queue₀ store₀ next items′ starts′ rows′ queue′ store′ (taken + r .taken) 0
   reading-last short = reading-next 0 some (last-by r (before .so-far) some part is short)
 
-  pub reading-full : partTokens ≤ r .taken → Reading file s₀ items₀ starts₀ rows₀ queue₀ next items′ starts′ rows′ queue′ (taken + r .taken) (parts - 1)
+  pub reading-full : partTokens ≤ r .taken → Reading file s₀ items₀ starts₀ rows₀ queue₀ store₀ next items′ starts′ rows′ queue′ store′ (taken + r .taken) (parts - 1)
   reading-full many = reading-next (parts - 1) (omega (arith, some)) (full-by r (before .so-far) some part is many (omega (arith, some)))

@@ -10,15 +10,15 @@ use Rattle.recognizer.specs.declared.Answer.the-variants.{Done, Refused}
 use Rattle.recognizer.specs.declared.Refusal.{Refusal}
 use Rattle.recognizer.specs.declared.Ran.{Ran}
 use Rattle.recognizer.specs.declared.Whether.{Whether}
-use Rattle.recognizer.specs.Answers.{refusalNumber, numberOf, stateOf, outcomeOf, endedOf, finishedNumber, saysYes}
+use Rattle.recognizer.specs.Answers.{refusalNumber, numberOf, stateOf, outcomeOf, endedOf, finishedNumber, saysYes, saysHandle}
 use Rattle.demands.specs.Calls.{Starts, Finishes}
 use Rattle.recognizer.proofs.Turning.{number-some}
 use Rattle.driver.specs.Text.{grammarHead, Line, Report}
 use Rattle.driver.specs.Writes.{RunsOver, SaysFinished, Followed, Recognized}
 
 -- What finished says, once its case is known.
-pub says-by : {file : List ℕ} {s : State} {w : Words} {r c : Whether} → Finishes file s w (finishedNumber r) (saysYes r) → r ≡ c → SaysFinished file s w (saysYes c)
-says-by {file} {s} {w} {r} finishes is = subst (λ (x : Whether). SaysFinished file s w (saysYes x)) is (record { number = finishedNumber r; finishes = finishes })
+pub says-by : {file : List ℕ} {s : State} {w : Words} {r c : Whether} → Finishes file s w (finishedNumber r) (saysYes r) (saysHandle r) → r ≡ c → SaysFinished file s w (saysYes c)
+says-by {file} {s} {w} {r} finishes is = subst (λ (x : Whether). SaysFinished file s w (saysYes x)) is (record { number = finishedNumber r; handle = saysHandle r; finishes = finishes })
 
 module _ {file : List ℕ} {s : State} {w v : Words} where
   -- The lines on a run.

@@ -4,8 +4,9 @@ use mathlib.Core.Bool.{Bool}
 use mathlib.Core.List.{List, []}
 use Prim.Native.Nat.{ℕ, _≤_}
 use lib.ListN.{length, take}
+use Rattle.node.specs.Writing.{usableUnits}
 use Rattle.parse.specs.declared.State.{State}
-use Rattle.parse.specs.Words.{Words, maxItems, maxQueued, itemRoom, setRoom, queueRoom}
+use Rattle.parse.specs.Words.{Words, maxItems, maxQueued, itemRoom, setRoom, queueRoom, storeRoom}
 use Rattle.demands.specs.Steps.{Outcome, Ended}
 use Rattle.demands.specs.Calls.{Starts, Runs, Finishes}
 use Rattle.driver.specs.declared.header.Header.the-variants.{Malformed, Broken, Length}
@@ -29,10 +30,11 @@ pub record RunsOver (file : List ℕ) (s : State) (w : Words) (e : Ended) : Type
   pub in-parts : InParts (e .outcome .number) mostParts bytes
   pub runs : Runs file s w (tokensOf bytes) e
 
--- Whether a parse is finished, whatever the report's number.
+-- Whether a parse is finished, whatever the report's number and handle.
 pub record SaysFinished (file : List ℕ) (s : State) (w : Words) (yes : Bool) : Type 0 where
   pub number : ℕ
-  pub finishes : Finishes file s w number yes
+  pub handle : ℕ
+  pub finishes : Finishes file s w number yes handle
 
 -- The four lines on a parse: tokens taken, the first refusal's number or 0, whether it is finished, the set.
 pub record Followed (file : List ℕ) (s : State) (w : Words) (text : List ℕ) : Type 0 where
@@ -47,12 +49,13 @@ pub data Recognized (file : List ℕ) (w : Words) (text : List ℕ) : Type 0 whe
   refused : {s : State} {o : Outcome} → Starts file s w o → (o .number ≡ 0 → ⊥) → Line [] grammarHead (o .number) text → Recognized file w text
   followed : {s : State} {o : Outcome} → Starts file s w o → o .number ≡ 0 → Followed file (o .state) (o .words) text → Recognized file w text
 
--- The same with what the driver lends: 256 sets, items and queue at their largest.
+-- The same with what the driver lends: 256 sets, items, queue and store at their largest.
 pub record Answered (file text : List ℕ) : Type 0 where
   pub words : Words
   pub most-items : itemRoom words ≡ maxItems
   pub all-sets : setRoom words ≡ lentSets
   pub most-queued : queueRoom words ≡ maxQueued
+  pub most-units : storeRoom words ≡ usableUnits
   pub recognized : Recognized file words text
 
 -- All that is ever written: the line on a grammar that is refused for the bytes that came, or what is answered for the L bytes of the file.

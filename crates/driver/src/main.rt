@@ -34,14 +34,16 @@ const LONGEST: usize = HEADER + RULE * RULES;
 // The sets that are lent.
 const SETS: usize = 256;
 
-// The words of so many sets; items and queue at their largest.
-const ITEMS: usize = 2 * parse::room::ITEMS;
+// The words of so many sets; items, queue and store at their largest.
+const ITEMS: usize = item::ITEM_WORDS * parse::room::ITEMS;
 
 const STARTS: usize = SETS + 1;
 
 const ROWS: usize = bits::WIDTH * SETS;
 
-const QUEUE: usize = parse::room::QUEUED;
+const QUEUE: usize = binary_heap::entry::ENTRY_WORDS * parse::room::QUEUED;
+
+const STORE: usize = parse::room::UNITS;
 
 fn wide(number: u32) -> usize
     ensures { λ r. ⌜ r ≡ number ⌝ }
@@ -86,12 +88,13 @@ fn is_finished(
     starts: &[u32],
     rows: &[u64],
     queue: &[u32],
+    store: &[u16],
 ) -> bool
     ensures { λ r. ⌜ SaysFinished (now (file .entry)) state
-        (wordsOf (now (items .entry)) (now (starts .entry)) (now (rows .entry)) (now (queue .entry))) r ⌝ }
+        (wordsOf (now (items .entry)) (now (starts .entry)) (now (rows .entry)) (now (queue .entry)) (now (store .entry))) r ⌝ }
 {
-    match recognizer::finished(file, state, items, starts, rows, queue) {
-        Whether::Yes => true,
+    match recognizer::finished(file, state, items, starts, rows, queue, store) {
+        Whether::Yes(_) => true,
         Whether::No => false,
         Whether::Refused(_) => false,
     }
@@ -105,18 +108,19 @@ fn follow(
     starts: &mut [u32],
     rows: &mut [u64],
     queue: &mut [u32],
+    store: &mut [u16],
     out: &mut [u8],
 ) -> usize
     requires { ⌜ textRoom ≤ lengthOf (now out) ⌝ }
     ensures place { λ r. ⌜ Counts r (now (out .exit)) ⌝ }
     ensures text { λ r. ⌜ Followed (now (file .entry)) state
-        (wordsOf (now (items .entry)) (now (starts .entry)) (now (rows .entry)) (now (queue .entry)))
+        (wordsOf (now (items .entry)) (now (starts .entry)) (now (rows .entry)) (now (queue .entry)) (now (store .entry)))
         (take r (now (out .exit))) ⌝ }
 {
-    let ran = read_tokens(file, state, items, starts, rows, queue);
+    let ran = read_tokens(file, state, items, starts, rows, queue, store);
     let answer = ran.answer;
     let end = state_of(answer);
-    let yes = is_finished(file, end, items, starts, rows, queue);
+    let yes = is_finished(file, end, items, starts, rows, queue, store);
     text::report(out, ran.taken, wide(number_of(answer)), yes, end.set)
 }
 
@@ -127,17 +131,22 @@ fn recognize(
     starts: &mut [u32],
     rows: &mut [u64],
     queue: &mut [u32],
+    store: &mut [u16],
     out: &mut [u8],
 ) -> usize
     requires { ⌜ textRoom ≤ lengthOf (now out) ⌝ }
     ensures place { λ r. ⌜ Counts r (now (out .exit)) ⌝ }
     ensures text { λ r. ⌜ Recognized (now (file .entry))
-        (wordsOf (now (items .entry)) (now (starts .entry)) (now (rows .entry)) (now (queue .entry)))
+        (wordsOf (now (items .entry)) (now (starts .entry)) (now (rows .entry)) (now (queue .entry)) (now (store .entry)))
         (take r (now (out .exit))) ⌝ }
 {
-    let fresh = State { set: 0, items: 0 };
-    match recognizer::start(file, fresh, items, starts, rows, queue) {
-        Answer::Done(state) => follow(file, state, items, starts, rows, queue, out),
+    let fresh = State {
+        set: 0,
+        items: 0,
+        used: 0,
+    };
+    match recognizer::start(file, fresh, items, starts, rows, queue, store) {
+        Answer::Done(state) => follow(file, state, items, starts, rows, queue, store, out),
         Answer::Refused(why, _) => text::refusal(out, wide(refusal_number(why))),
     }
 }
@@ -152,7 +161,16 @@ fn recognize_whole(file: &[u8], out: &mut [u8]) -> usize
     let mut starts = [0u32; STARTS];
     let mut rows = [0u64; ROWS];
     let mut queue = [0u32; QUEUE];
-    recognize(file, &mut items, &mut starts, &mut rows, &mut queue, out)
+    let mut store = [0u16; STORE];
+    recognize(
+        file,
+        &mut items,
+        &mut starts,
+        &mut rows,
+        &mut queue,
+        &mut store,
+        out,
+    )
 }
 
 // Writes what comes of the grammar in the bytes that came, and of the tokens behind it; answers how long that is.

@@ -55,18 +55,28 @@ fn run_part(
     starts: &mut [u32],
     rows: &mut [u64],
     queue: &mut [u32],
+    store: &mut [u16],
     part: &[u8],
 ) -> Ran
     requires { ⌜ length (now part) ≤ partBytes ⌝ }
     ensures calls { λ r. ⌜ Runs (now (file .entry)) state
-        (wordsOf (now (items .entry)) (now (starts .entry)) (now (rows .entry)) (now (queue .entry)))
+        (wordsOf (now (items .entry)) (now (starts .entry)) (now (rows .entry)) (now (queue .entry)) (now (store .entry)))
         (tokensOf (now (part .entry)))
-        (endedOf r (wordsOf (now (items .exit)) (now (starts .exit)) (now (rows .exit)) (now (queue .exit)))) ⌝ }
+        (endedOf r (wordsOf (now (items .exit)) (now (starts .exit)) (now (rows .exit)) (now (queue .exit)) (now (store .exit)))) ⌝ }
     ensures few { λ r. ⌜ r .taken ≤ partTokens ⌝ }
 {
     let mut tokens = [0u16; PART];
     let count = decode(part, &mut tokens);
-    recognizer::run(file, state, items, starts, rows, queue, &tokens[..count])
+    recognizer::run(
+        file,
+        state,
+        items,
+        starts,
+        rows,
+        queue,
+        store,
+        &tokens[..count],
+    )
 }
 
 // Whether a part of so many tokens is the last: one that is not full is.
@@ -84,15 +94,25 @@ fn read_part(
     starts: &mut [u32],
     rows: &mut [u64],
     queue: &mut [u32],
+    store: &mut [u16],
 ) -> Ran
     ensures read { λ r. ⌜ RunsPart (now (file .entry)) state
-        (wordsOf (now (items .entry)) (now (starts .entry)) (now (rows .entry)) (now (queue .entry)))
-        (endedOf r (wordsOf (now (items .exit)) (now (starts .exit)) (now (rows .exit)) (now (queue .exit)))) ⌝ }
+        (wordsOf (now (items .entry)) (now (starts .entry)) (now (rows .entry)) (now (queue .entry)) (now (store .entry)))
+        (endedOf r (wordsOf (now (items .exit)) (now (starts .exit)) (now (rows .exit)) (now (queue .exit)) (now (store .exit)))) ⌝ }
     ensures few { λ r. ⌜ r .taken ≤ partTokens ⌝ }
 {
     let mut part = [0u8; BYTES];
     let count = io::read_full(STDIN_FILENO, &mut part);
-    run_part(file, state, items, starts, rows, queue, &part[..count])
+    run_part(
+        file,
+        state,
+        items,
+        starts,
+        rows,
+        queue,
+        store,
+        &part[..count],
+    )
 }
 
 // Reads and runs what is left of the input, up to the first token that is refused. The count of parts falls from a number that no
@@ -104,16 +124,17 @@ pub fn read_tokens(
     starts: &mut [u32],
     rows: &mut [u64],
     queue: &mut [u32],
+    store: &mut [u16],
 ) -> Ran
     ensures { λ r. ⌜ RunsOver (now (file .entry)) state
-        (wordsOf (now (items .entry)) (now (starts .entry)) (now (rows .entry)) (now (queue .entry)))
-        (endedOf r (wordsOf (now (items .exit)) (now (starts .exit)) (now (rows .exit)) (now (queue .exit)))) ⌝ }
+        (wordsOf (now (items .entry)) (now (starts .entry)) (now (rows .entry)) (now (queue .entry)) (now (store .entry)))
+        (endedOf r (wordsOf (now (items .exit)) (now (starts .exit)) (now (rows .exit)) (now (queue .exit)) (now (store .exit)))) ⌝ }
 {
     let mut now = state;
     let mut taken = 0;
     let mut parts = usize::MAX / PART;
     while parts > 0 {
-        let ran = read_part(file, now, items, starts, rows, queue);
+        let ran = read_part(file, now, items, starts, rows, queue, store);
         let more = ran.taken;
         taken += more;
         let answer = ran.answer;

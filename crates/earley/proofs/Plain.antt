@@ -17,7 +17,7 @@ use Rattle.earley.proofs.Token.{token}
 use Rattle.earley.proofs.Answers.{Wrapped, row-viable, wrapped-sentence}
 
 -- The kind of a token's position is a token.
-one-kind : {g : Grammar} {t : ℕ} → t < g .tokens → Kinds g (t ∷ [])
+pub one-kind : {g : Grammar} {t : ℕ} → t < g .tokens → Kinds g (t ∷ [])
 one-kind {g} small = record { tokens = λ k m. subst (λ n. n < g .tokens) (sym (only m)) small }
 
 -- A token keeps the invariant.

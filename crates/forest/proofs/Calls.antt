@@ -11,7 +11,8 @@ use Rattle.earley.proofs.Charts.{Chart}
 use Rattle.forest.specs.Lists.{none as nothing, Once}
 use Rattle.forest.proofs.Lists.{ordered-append}
 use Rattle.forest.proofs.Tied.{Turn}
-use Rattle.forest.proofs.Entries.{Entry, entry, ones, Pair, Items, Medial, Lone, Stored, Calling}
+use Rattle.binary_heap.specs.Entry.{Entry}
+use Rattle.forest.proofs.Entries.{entry, ones, Pair, Items, Medial, Lone, Stored, Calling}
 use Rattle.forest.proofs.Loops.{gathered, gathered-from, gathers, gathered-once, passing, passing-rises}
 
 -- A list, or none.

@@ -8,17 +8,14 @@ use native.Mathlib.Omega.{arith}
 use lib.Dec.{eqb}
 use borrow.Author.Tests.{eq-eqb, ne-eqb, eqb-true}
 use Rattle.laws.proofs.Tests.{both-true}
+use Rattle.binary_heap.specs.Entry.{Entry}
 use Rattle.grammar.specs.Rules.{Grammar, Says, none, ruleAt, ruleCount}
 use Rattle.earley.proofs.Charts.{Chart}
 use Rattle.forest.specs.Forests.{Product, alone, paired}
 use Rattle.forest.proofs.Counted.{Telling}
 use Rattle.forest.proofs.Tied.{Turn, Terms}
 
--- An entry of the queue: a place of an item, and a right factor, or all ones for none.
-pub record Entry : Type 0 where
-  pub place : ℕ
-  pub right : ℕ
-
+-- An entry of the queue is a place of an item and a right factor, or all ones for none.
 abbrev pub entry : ℕ → ℕ → Entry
 entry place right = record { place = place; right = right }
 

@@ -16,10 +16,10 @@ abbrev grammar-a : Grammar
 grammar-a = record { symbols = 6; tokens = 2; rules = rule 4 2 5 ∷ rule 2 2 3 ∷ rule 2 0 none ∷ rule 3 1 2 ∷ [] }
 
 -- A number, and a sum and a number or sum behind it.
-abbrev number : Tree
+abbrev pub number : Tree
 number = one 2 (leaf 0)
 
-abbrev plus : Tree → Tree → Tree
+abbrev pub plus : Tree → Tree → Tree
 plus d e = two 1 d (two 3 (leaf 1) e)
 
 a-number : Derivation grammar-a number (start grammar-a) (0 ∷ [])
@@ -32,13 +32,13 @@ a-plus left right =
     (Derivation.binary (rule-says grammar-a 3 (omega arith)) (λ e. omega arith) (Derivation.token {t = 1} (omega arith)) right)
 
 -- The two trees: the first two numbers are a sum, or the last two are.
-abbrev first-two : Tree
+abbrev pub first-two : Tree
 first-two = plus (plus number number) number
 
-abbrev last-two : Tree
+abbrev pub last-two : Tree
 last-two = plus number (plus number number)
 
-abbrev word : List ℕ
+abbrev pub word : List ℕ
 word = 0 ∷ 1 ∷ 0 ∷ 1 ∷ 0 ∷ []
 
 pub first-two-derives : Derivation grammar-a first-two (start grammar-a) word

@@ -19,7 +19,8 @@ use Rattle.forest.specs.Every.{EveryTree}
 use Rattle.forest.proofs.Forests.{Exact}
 use Rattle.forest.proofs.Every.{every-tree}
 use Rattle.forest.proofs.Tied.{Turn}
-use Rattle.forest.proofs.Entries.{Entry, Pair, Items, Linked, Held}
+use Rattle.binary_heap.specs.Entry.{Entry}
+use Rattle.forest.proofs.Entries.{Pair, Items, Linked, Held}
 use Rattle.forest.proofs.Rooted.{Store}
 use Rattle.forest.proofs.Whole.{Lasting, Handled}
 

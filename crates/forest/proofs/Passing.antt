@@ -9,7 +9,8 @@ use Rattle.earley.proofs.Charts.{Chart}
 use Rattle.earley.proofs.Steps.{Done, Pass}
 use Rattle.forest.proofs.Forests.{Completed}
 use Rattle.forest.proofs.Tied.{Turn, Terms, Tied, Called, called-met, at-rest}
-use Rattle.forest.proofs.Entries.{Entry, entry, ones, Pair, Items, Order, terms, Stored, Calling, Charted, Linked, Read, Fed}
+use Rattle.binary_heap.specs.Entry.{Entry}
+use Rattle.forest.proofs.Entries.{entry, ones, Pair, Items, Order, terms, Stored, Calling, Charted, Linked, Read, Fed}
 use Rattle.forest.proofs.Sums.{handles}
 
 module _ (g : Grammar) (c : Chart) (is : Items) (o : Order) {past : List (Turn Entry Pair)} (charted : Charted g c is)

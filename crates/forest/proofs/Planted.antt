@@ -11,7 +11,8 @@ use Rattle.earley.proofs.Charts.{Chart}
 use Rattle.forest.specs.Forests.{Product, Node, token, sum, FactorOf, Under}
 use Rattle.forest.proofs.Forests.{ExactAt, Handles, Summand, Before, SumOf}
 use Rattle.forest.proofs.Tied.{Turn, Tied}
-use Rattle.forest.proofs.Entries.{Entry, Pair, Items, productOf, Order, terms, Calling, Charted, Rising, Linked}
+use Rattle.binary_heap.specs.Entry.{Entry}
+use Rattle.forest.proofs.Entries.{Pair, Items, productOf, Order, terms, Calling, Charted, Rising, Linked}
 use Rattle.forest.proofs.Sums.{handles, sums}
 use Rattle.forest.proofs.Rooted.{Store, Onward, Rooted, rooted-stays, exact-at-stays}
 
@@ -82,7 +83,7 @@ module _ {g : Grammar} {is : Items} {s₀ : Store} {used₀ : ℕ} where
   old-exact r e (Writing.writes before is-node at on stands) = exact-at-stays on (old-rooted r before) (old-exact r e before)
 
 -- A factor of a product that lies before a handle lies before it.
-factor-low : {h q : ℕ} {p : Product} → Before h p → FactorOf q p → q < h
+pub factor-low : {h q : ℕ} {p : Product} → Before h p → FactorOf q p → q < h
 factor-low (Before.one-before l) FactorOf.only = l
 factor-low (Before.both-before l m) FactorOf.left = l
 factor-low (Before.both-before l m) FactorOf.right = m

@@ -34,7 +34,8 @@ use Rattle.forest.specs.Every.{EveryTree}
 use Rattle.forest.specs.Stores.{nodeAt, treesAt}
 use Rattle.forest.proofs.Forests.{Completed}
 use Rattle.forest.proofs.Tied.{Turn, Run, run-tied}
-use Rattle.forest.proofs.Entries.{Entry, entry, ones, Pair, Items, Order, terms, Charted, Linked, Read, Fed}
+use Rattle.binary_heap.specs.Entry.{Entry}
+use Rattle.forest.proofs.Entries.{entry, ones, Pair, Items, Order, terms, Charted, Linked, Read, Fed}
 use Rattle.forest.proofs.Sums.{handles}
 use Rattle.forest.proofs.Loops.{gathered, passing}
 use Rattle.forest.proofs.Calls.{Begins, StoredAt, Looped}

@@ -10,7 +10,8 @@ use Rattle.forest.specs.Forests.{Product, alone, paired, Node, sum}
 use Rattle.forest.proofs.Lists.{once-map}
 use Rattle.forest.proofs.Forests.{Handles, Holding, Summand, Before, SumOf}
 use Rattle.forest.proofs.Tied.{Turn, Terms, Tied, Called, at-rest, products-once}
-use Rattle.forest.proofs.Entries.{Entry, entry, ones, Pair, same-pair, same-entry, Items, productOf, Order, terms, Medial, Lone, Stored, Calling, Charted, Rising}
+use Rattle.binary_heap.specs.Entry.{Entry}
+use Rattle.forest.proofs.Entries.{entry, ones, Pair, same-pair, same-entry, Items, productOf, Order, terms, Medial, Lone, Stored, Calling, Charted, Rising}
 use Rattle.forest.proofs.Entries.{Linked, Held, product-lone, product-two, medial-asker, lone-asker}
 
 -- What a product says.

@@ -28,7 +28,7 @@ standing-is s q n found none st =
     ap (λ x. standing s q x found none) (units-spell s q n st) ∙ ap (λ b. pick b (found n) none) st
 
 -- Units that are the same below b: what stands before b stands.
-stand-keeps : {b : ℕ} (s t : List ℕ) (h : ℕ) (us : List ℕ) → Same b s t → stand s h us ≡ true → h + length us ≤ b → stand t h us ≡ true
+pub stand-keeps : {b : ℕ} (s t : List ℕ) (h : ℕ) (us : List ℕ) → Same b s t → stand s h us ≡ true → h + length us ≤ b → stand t h us ≡ true
 stand-keeps s t h us same st le =
     stand-all t h us (within s h us st .some)
     (all-stand t h us

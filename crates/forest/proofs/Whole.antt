@@ -15,7 +15,8 @@ use Rattle.forest.proofs.Forests.{ExactAt, Completed}
 use Rattle.forest.proofs.Exactly.{forest-exact}
 use Rattle.forest.proofs.Every.{exact-stays}
 use Rattle.forest.proofs.Tied.{Turn, Tied, Run, run-tied}
-use Rattle.forest.proofs.Entries.{Entry, Pair, Items, productOf, Order, terms, Calling, Charted, Rising, Linked, Held, Read, Fed}
+use Rattle.binary_heap.specs.Entry.{Entry}
+use Rattle.forest.proofs.Entries.{Pair, Items, productOf, Order, terms, Calling, Charted, Rising, Linked, Held, Read, Fed}
 use Rattle.forest.proofs.Sums.{handles, holding, sums}
 use Rattle.forest.proofs.Passing.{closed-pass}
 use Rattle.forest.proofs.Calls.{Looped, calling-all}

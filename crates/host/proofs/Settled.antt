@@ -9,11 +9,12 @@ use Rattle.demands.proofs.Agree.{call-number, not-formed, finishes-agree}
 use Rattle.host.specs.Reports.{FinishesIn, ReportsIn}
 
 module _ {file : List ℕ} {s : State} {w : Words} where
-  pub finishes-in-agree : {n n′ yes yes′ : ℕ} → FinishesIn file s w n yes → FinishesIn file s w n′ yes′ → (n ≡ n′) × (yes ≡ yes′)
-  finishes-in-agree (FinishesIn.yes f) (FinishesIn.yes f′) = (finishes-agree f f′ .0, refl)
+  pub finishes-in-agree : {n n′ yes yes′ handle handle′ : ℕ} → FinishesIn file s w n yes handle → FinishesIn file s w n′ yes′ handle′
+      → (n ≡ n′) × ((yes ≡ yes′) × (handle ≡ handle′))
+  finishes-in-agree (FinishesIn.yes f) (FinishesIn.yes f′) = (finishes-agree f f′ .0, (refl, finishes-agree f f′ .2))
   finishes-in-agree (FinishesIn.yes f) (FinishesIn.no f′) = absurd (false≢true (sym (finishes-agree f f′ .1)))
   finishes-in-agree (FinishesIn.no f) (FinishesIn.yes f′) = absurd (false≢true (finishes-agree f f′ .1))
-  finishes-in-agree (FinishesIn.no f) (FinishesIn.no f′) = (finishes-agree f f′ .0, refl)
+  finishes-in-agree (FinishesIn.no f) (FinishesIn.no f′) = (finishes-agree f f′ .0, (refl, finishes-agree f f′ .2))
 
   pub reports-in-agree : {n n′ first first′ count count′ : ℕ} → ReportsIn file s w n first count → ReportsIn file s w n′ first′ count′
       → (n ≡ n′) × ((first ≡ first′) × (count ≡ count′))

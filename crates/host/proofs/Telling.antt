@@ -1,6 +1,6 @@
 -- An answer in the host's words is that answer.
-use mathlib.Core.Path.{_≡_, ap, sym, _∙_, subst, subst₂}
-use mathlib.Core.Bool.{Bool, false}
+use mathlib.Core.Path.{_≡_, ap, sym, subst, subst₂}
+use mathlib.Core.Bool.{Bool, true, false}
 use mathlib.Core.List.{List}
 use Prim.Native.Nat.{ℕ, min}
 use Rattle.grammar.specs.Answers as check
@@ -12,65 +12,68 @@ use Rattle.demands.specs.Steps.{Outcome, Ended}
 use Rattle.recognizer.specs.declared.Answer.{Answer}
 use Rattle.recognizer.specs.declared.Ran.{Ran}
 use Rattle.recognizer.specs.declared.Whether.{Whether}
-use Rattle.recognizer.specs.Answers.{numberOf, stateOf, outcomeOf, endedOf, finishedNumber, saysYes}
+use Rattle.recognizer.specs.Answers.{numberOf, stateOf, outcomeOf, endedOf, finishedNumber, saysYes, saysHandle}
 use Rattle.demands.specs.Calls.{Starts, Takes, Runs, Finishes}
 use Rattle.reports.specs.Lists.{Lists}
 use Rattle.host.specs.Answers.{outcomeIn, endedIn}
 use Rattle.demands.specs.Sentences.{FinishedTells}
 use Rattle.demands.proofs.Telling.{finished-tells}
-use Rattle.host.specs.Reports.{FinishesIn, saysIn}
+use Rattle.host.specs.Reports.{FinishesIn, yesWord, saysIn}
 use Rattle.host.proofs.Wide.{greatest, takes-wide}
 
 -- The number and the state that an answer tells.
-pub record Told (a : Answer) (number set held : ℕ) : Type 0 where
+pub record Told (a : Answer) (number set held used : ℕ) : Type 0 where
   pub is-number : number ≡ numberOf a
   pub is-set : set ≡ stateOf a .set
   pub is-held : held ≡ stateOf a .items
+  pub is-used : used ≡ stateOf a .used
 
-told-outcome : (a : Answer) (v : Words) {n set held : ℕ} → Told a n set held → outcomeOf a v ≡ outcomeIn n set held v
-told-outcome a v {n} {set} {held} t =
-    sym
-    (ap (λ (x : ℕ). outcomeIn x set held v) (t .is-number)
-    ∙ ap (λ (x : ℕ). outcomeIn (numberOf a) x held v) (t .is-set)
-    ∙ ap (λ (x : ℕ). outcomeIn (numberOf a) (stateOf a .set) x v) (t .is-held))
+told-outcome : (a : Answer) (v : Words) {n set held used : ℕ} → Told a n set held used → outcomeOf a v ≡ outcomeIn n set held used v
+told-outcome a v t = λ k. outcomeIn (sym (t .is-number) k) (sym (t .is-set) k) (sym (t .is-held) k) (sym (t .is-used) k) v
 
-told-ended : (r : Ran) (v : Words) {n set held : ℕ} → Told (r .answer) n set held → endedOf r v ≡ endedIn n set held v (r .taken)
+told-ended : (r : Ran) (v : Words) {n set held used : ℕ} → Told (r .answer) n set held used → endedOf r v ≡ endedIn n set held used v (r .taken)
 told-ended r v t = ap (λ (o : Outcome). record { outcome = o; taken = r .taken }) (told-outcome (r .answer) v t)
 
-module _ {file : List ℕ} {s : State} {w v : Words} {n set held : ℕ} where
-  pub starts-told : (a : Answer) → Starts file s w (outcomeOf a v) → Told a n set held → Starts file s w (outcomeIn n set held v)
+module _ {file : List ℕ} {s : State} {w v : Words} {n set held used : ℕ} where
+  pub starts-told : (a : Answer) → Starts file s w (outcomeOf a v) → Told a n set held used → Starts file s w (outcomeIn n set held used v)
   starts-told a c t = subst (λ (o : Outcome). Starts file s w o) (told-outcome a v t) c
 
   -- A number past a u16 is answered as the greatest u16 is.
-  pub takes-told : (t u : ℕ) (a : Answer) → Takes file s w u (outcomeOf a v) → u ≡ min t greatest → Told a n set held
-      → Takes file s w t (outcomeIn n set held v)
+  pub takes-told : (t u : ℕ) (a : Answer) → Takes file s w u (outcomeOf a v) → u ≡ min t greatest → Told a n set held used
+      → Takes file s w t (outcomeIn n set held used v)
   takes-told t u a c narrow told =
       takes-wide t
       (subst (λ (o : Outcome). Takes file s w (min t greatest) o) (told-outcome a v told)
       (subst (λ (x : ℕ). Takes file s w x (outcomeOf a v)) narrow c))
 
-  pub runs-told : {ts : List ℕ} (r : Ran) → Runs file s w ts (endedOf r v) → Told (r .answer) n set held
-      → Runs file s w ts (endedIn n set held v (r .taken))
+  pub runs-told : {ts : List ℕ} (r : Ran) → Runs file s w ts (endedOf r v) → Told (r .answer) n set held used
+      → Runs file s w ts (endedIn n set held used v (r .taken))
   runs-told {ts} r c t = subst (λ (e : Ended). Runs file s w ts e) (told-ended r v t) c
 
 -- The check's number, once its case is known.
 pub verdict-of : {file : List ℕ} {r c : Checked} → check.Verdict file (check.numberOf r) → r ≡ c → check.Verdict file (check.numberOf c)
 verdict-of {file} v e = subst (λ (x : Checked). check.Verdict file (check.numberOf x)) e v
 
--- What finished says, once its case is known.
-pub finishes-of : {file : List ℕ} {s : State} {w : Words} {r c : Whether} → Finishes file s w (finishedNumber r) (saysYes r) → r ≡ c
-    → Finishes file s w (finishedNumber c) (saysYes c)
-finishes-of {file} {s} {w} f e = subst (λ (x : Whether). Finishes file s w (finishedNumber x) (saysYes x)) e f
+-- What is told of finished is told of its case.
+pub case-told : {r c : Whether} → r ≡ c → (finishedNumber c ≡ finishedNumber r) × ((yesWord (saysYes c) ≡ yesWord (saysYes r)) × (saysHandle c ≡ saysHandle r))
+case-told is = (sym (ap finishedNumber is), (sym (ap (λ (x : Whether). yesWord (saysYes x)) is), sym (ap saysHandle is)))
 
-pub finishes-refused : {file : List ℕ} {s : State} {w : Words} {r c : Whether} {n : ℕ} → Finishes file s w (finishedNumber r) (saysYes r) → r ≡ c
-    → saysYes c ≡ false → n ≡ finishedNumber c → FinishesIn file s w n 0
-finishes-refused {file} {s} {w} {c = c} {n} f e says same =
-    FinishesIn.no (subst (λ (b : Bool). Finishes file s w n b) says (subst (λ (m : ℕ). Finishes file s w m (saysYes c)) (sym same) (finishes-of f e)))
+-- What finished says, in the host's words, ..
+module _ {file : List ℕ} {s : State} {w : Words} where
+  in-a-word : {n handle : ℕ} (b : Bool) → Finishes file s w n b handle → FinishesIn file s w n (yesWord b) handle
+  unfolding yesWord
+  in-a-word true f = FinishesIn.yes f
+  in-a-word false f = FinishesIn.no f
 
--- What the host's word says tells of sentences, as the call beneath does.
-pub finishes-in-means : {file : List ℕ} {s : State} {w : Words} {n word : ℕ} → FinishesIn file s w n word → FinishesIn file s w n word × FinishedTells file s w n (saysIn word)
-finishes-in-means (FinishesIn.yes f) = (FinishesIn.yes f, finished-tells f)
-finishes-in-means (FinishesIn.no f) = (FinishesIn.no f, finished-tells f)
+  pub finishes-told : {n word handle : ℕ} (r : Whether) → Finishes file s w (finishedNumber r) (saysYes r) (saysHandle r)
+      → n ≡ finishedNumber r → word ≡ yesWord (saysYes r) → handle ≡ saysHandle r → FinishesIn file s w n word handle
+  finishes-told r f number answer node =
+      subst (λ (t : ℕ × (ℕ × ℕ)). FinishesIn file s w (t .0) (t .1 .0) (t .1 .1)) (λ k. (sym number k, (sym answer k, sym node k))) (in-a-word (saysYes r) f)
+
+  -- .. tells of sentences, as the call beneath does.
+  pub finishes-in-means : {n word handle : ℕ} → FinishesIn file s w n word handle → FinishesIn file s w n word handle × FinishedTells file s w n (saysIn word)
+  finishes-in-means (FinishesIn.yes f) = (FinishesIn.yes f, finished-tells f)
+  finishes-in-means (FinishesIn.no f) = (FinishesIn.no f, finished-tells f)
 
 -- A report's number and count, in the host's words.
 pub lists-told : {A : Type 0} {file : List ℕ} {s : State} {w : Words} {list : Grammar → State → Words → List A} {place out : List A} {n c m d : ℕ} → m ≡ n → d ≡ c

@@ -9,10 +9,15 @@ use Rattle.parse.specs.declared.State.{State}
 use Rattle.parse.specs.Words.{Words, within, startOf}
 use Rattle.demands.specs.Calls.{CallFault, Formed, Finishes}
 
--- Finished: its number, and 1 for yes and 0 for no.
-pub data FinishesIn (file : List ℕ) (s : State) (w : Words) : ℕ → ℕ → Type 0 where
-  yes : {n : ℕ} → Finishes file s w n true → FinishesIn file s w n 1
-  no : {n : ℕ} → Finishes file s w n false → FinishesIn file s w n 0
+-- Finished: its number, 1 for yes and 0 for no, and the handle.
+pub data FinishesIn (file : List ℕ) (s : State) (w : Words) : ℕ → ℕ → ℕ → Type 0 where
+  yes : {n handle : ℕ} → Finishes file s w n true handle → FinishesIn file s w n 1 handle
+  no : {n handle : ℕ} → Finishes file s w n false handle → FinishesIn file s w n 0 handle
+
+-- The word of an answer.
+unfoldable pub yesWord : Bool → ℕ
+yesWord true = 1
+yesWord false = 0
 
 -- What the word says.
 abbrev pub saysIn : ℕ → Bool

@@ -1,5 +1,6 @@
 // The calls for hosts in C and Rust: numbers and slices, answers by document 01's numbers. A slice is a pointer and a length. The state
-// of a parse is two words of the host, the set number and the item count. include/brinesaddle.h describes each call for a host.
+// of a parse is three words of the host, the set number, the item count and the number of used units. include/brinesaddle.h describes each
+// call for a host.
 ghost use mathlib.Core.Path.{_≡_};
 ghost use lib.ListN.{take};
 ghost use Rattle.grammar.specs.Answers.{Verdict};
@@ -26,6 +27,7 @@ use crate::parse_words::first_word;
 use crate::parse_words::narrow;
 use crate::parse_words::tell;
 use crate::parse_words::tell_count;
+use crate::parse_words::tell_whether;
 use crate::records::SET_WORDS;
 use crate::records::fill;
 use crate::records::prepare;
@@ -34,7 +36,6 @@ use node::Found;
 use node::Walked;
 use node::Written;
 use parse::State;
-use recognizer::Whether;
 use reports::Record;
 
 // Checks a grammar file.
@@ -55,22 +56,25 @@ pub extern "C" fn brinesaddle_start(
     file: &[u8],
     set: &mut usize,
     held: &mut usize,
+    used: &mut usize,
     items: &mut [u32],
     starts: &mut [u32],
     rows: &mut [u64],
     queue: &mut [u32],
+    store: &mut [u16],
 ) -> u32
-    ensures calls { λ r. ⌜ Starts (now (file .entry)) (stateIn (now (set .entry)) (now (held .entry)))
-        (wordsOf (now (items .entry)) (now (starts .entry)) (now (rows .entry)) (now (queue .entry)))
-        (outcomeIn r (now (set .exit)) (now (held .exit))
-        (wordsOf (now (items .exit)) (now (starts .exit)) (now (rows .exit)) (now (queue .exit)))) ⌝ }
+    ensures calls { λ r. ⌜ Starts (now (file .entry)) (stateIn (now (set .entry)) (now (held .entry)) (now (used .entry)))
+        (wordsOf (now (items .entry)) (now (starts .entry)) (now (rows .entry)) (now (queue .entry)) (now (store .entry)))
+        (outcomeIn r (now (set .exit)) (now (held .exit)) (now (used .exit))
+        (wordsOf (now (items .exit)) (now (starts .exit)) (now (rows .exit)) (now (queue .exit)) (now (store .exit)))) ⌝ }
 {
     let state = State {
         set: *set,
         items: *held,
+        used: *used,
     };
-    let answer = recognizer::start(file, state, items, starts, rows, queue);
-    tell(answer, set, held)
+    let answer = recognizer::start(file, state, items, starts, rows, queue, store);
+    tell(answer, set, held, used)
 }
 
 // Reads one token. Every number is a token at this door; T and above is 5.
@@ -79,25 +83,28 @@ pub extern "C" fn brinesaddle_token(
     file: &[u8],
     set: &mut usize,
     held: &mut usize,
+    used: &mut usize,
     items: &mut [u32],
     starts: &mut [u32],
     rows: &mut [u64],
     queue: &mut [u32],
+    store: &mut [u16],
     t: u32,
 ) -> u32
-    ensures calls { λ r. ⌜ Takes (now (file .entry)) (stateIn (now (set .entry)) (now (held .entry)))
-        (wordsOf (now (items .entry)) (now (starts .entry)) (now (rows .entry)) (now (queue .entry))) t
-        (outcomeIn r (now (set .exit)) (now (held .exit))
-        (wordsOf (now (items .exit)) (now (starts .exit)) (now (rows .exit)) (now (queue .exit)))) ⌝ }
-    ensures sentences { λ r. ⌜ TokenTells (now (file .entry)) (stateIn (now (set .entry)) (now (held .entry)))
-        (wordsOf (now (items .entry)) (now (starts .entry)) (now (rows .entry)) (now (queue .entry))) t r ⌝ }
+    ensures calls { λ r. ⌜ Takes (now (file .entry)) (stateIn (now (set .entry)) (now (held .entry)) (now (used .entry)))
+        (wordsOf (now (items .entry)) (now (starts .entry)) (now (rows .entry)) (now (queue .entry)) (now (store .entry))) t
+        (outcomeIn r (now (set .exit)) (now (held .exit)) (now (used .exit))
+        (wordsOf (now (items .exit)) (now (starts .exit)) (now (rows .exit)) (now (queue .exit)) (now (store .exit)))) ⌝ }
+    ensures sentences { λ r. ⌜ TokenTells (now (file .entry)) (stateIn (now (set .entry)) (now (held .entry)) (now (used .entry)))
+        (wordsOf (now (items .entry)) (now (starts .entry)) (now (rows .entry)) (now (queue .entry)) (now (store .entry))) t r ⌝ }
 {
     let state = State {
         set: *set,
         items: *held,
+        used: *used,
     };
-    let answer = recognizer::token(file, state, items, starts, rows, queue, narrow(t));
-    tell(answer, set, held)
+    let answer = recognizer::token(file, state, items, starts, rows, queue, store, narrow(t));
+    tell(answer, set, held, used)
 }
 
 // Reads tokens up to the first that is refused, and tells how many were taken.
@@ -106,70 +113,68 @@ pub extern "C" fn brinesaddle_run(
     file: &[u8],
     set: &mut usize,
     held: &mut usize,
+    used: &mut usize,
     items: &mut [u32],
     starts: &mut [u32],
     rows: &mut [u64],
     queue: &mut [u32],
+    store: &mut [u16],
     tokens: &[u16],
     taken: &mut usize,
 ) -> u32
-    ensures calls { λ r. ⌜ Runs (now (file .entry)) (stateIn (now (set .entry)) (now (held .entry)))
-        (wordsOf (now (items .entry)) (now (starts .entry)) (now (rows .entry)) (now (queue .entry)))
+    ensures calls { λ r. ⌜ Runs (now (file .entry)) (stateIn (now (set .entry)) (now (held .entry)) (now (used .entry)))
+        (wordsOf (now (items .entry)) (now (starts .entry)) (now (rows .entry)) (now (queue .entry)) (now (store .entry)))
         (now (tokens .entry))
-        (endedIn r (now (set .exit)) (now (held .exit))
-        (wordsOf (now (items .exit)) (now (starts .exit)) (now (rows .exit)) (now (queue .exit)))
+        (endedIn r (now (set .exit)) (now (held .exit)) (now (used .exit))
+        (wordsOf (now (items .exit)) (now (starts .exit)) (now (rows .exit)) (now (queue .exit)) (now (store .exit)))
         (now (taken .exit))) ⌝ }
-    ensures sentences { λ r. ⌜ RunTells (now (file .entry)) (stateIn (now (set .entry)) (now (held .entry)))
-        (wordsOf (now (items .entry)) (now (starts .entry)) (now (rows .entry)) (now (queue .entry)))
+    ensures sentences { λ r. ⌜ RunTells (now (file .entry)) (stateIn (now (set .entry)) (now (held .entry)) (now (used .entry)))
+        (wordsOf (now (items .entry)) (now (starts .entry)) (now (rows .entry)) (now (queue .entry)) (now (store .entry)))
         (now (tokens .entry))
-        (endedIn r (now (set .exit)) (now (held .exit))
-        (wordsOf (now (items .exit)) (now (starts .exit)) (now (rows .exit)) (now (queue .exit)))
+        (endedIn r (now (set .exit)) (now (held .exit)) (now (used .exit))
+        (wordsOf (now (items .exit)) (now (starts .exit)) (now (rows .exit)) (now (queue .exit)) (now (store .exit)))
         (now (taken .exit))) ⌝ }
 {
     let state = State {
         set: *set,
         items: *held,
+        used: *used,
     };
-    let ran = recognizer::run(file, state, items, starts, rows, queue, tokens);
+    let ran = recognizer::run(file, state, items, starts, rows, queue, store, tokens);
     *taken = ran.taken;
     let answer = ran.answer;
-    tell(answer, set, held)
+    tell(answer, set, held, used)
 }
 
-// Whether the tokens so far are a sentence: 1 or 0 in `yes`.
+// Whether the tokens so far are a sentence: 1 or 0 in `yes`, and the start symbol's node in `handle`, all ones where it is 0.
 #[no_mangle]
 pub extern "C" fn brinesaddle_finished(
     file: &[u8],
     set: usize,
     held: usize,
+    used: usize,
     items: &[u32],
     starts: &[u32],
     rows: &[u64],
     queue: &[u32],
+    store: &[u16],
     yes: &mut u32,
+    handle: &mut u32,
 ) -> u32
-    ensures calls { λ r. ⌜ FinishesIn (now (file .entry)) (stateIn set held)
-        (wordsOf (now (items .entry)) (now (starts .entry)) (now (rows .entry)) (now (queue .entry))) r
-        (now (yes .exit)) ⌝ }
-    ensures sentences { λ r. ⌜ FinishedTells (now (file .entry)) (stateIn set held)
-        (wordsOf (now (items .entry)) (now (starts .entry)) (now (rows .entry)) (now (queue .entry))) r
+    ensures calls { λ r. ⌜ FinishesIn (now (file .entry)) (stateIn set held used)
+        (wordsOf (now (items .entry)) (now (starts .entry)) (now (rows .entry)) (now (queue .entry)) (now (store .entry))) r
+        (now (yes .exit)) (now (handle .exit)) ⌝ }
+    ensures sentences { λ r. ⌜ FinishedTells (now (file .entry)) (stateIn set held used)
+        (wordsOf (now (items .entry)) (now (starts .entry)) (now (rows .entry)) (now (queue .entry)) (now (store .entry))) r
         (saysIn (now (yes .exit))) ⌝ }
 {
-    let state = State { set, items: held };
-    match recognizer::finished(file, state, items, starts, rows, queue) {
-        Whether::Yes => {
-            *yes = 1;
-            0
-        }
-        Whether::No => {
-            *yes = 0;
-            0
-        }
-        Whether::Refused(why) => {
-            *yes = 0;
-            recognizer::refusal_number(why)
-        }
-    }
+    let state = State {
+        set,
+        items: held,
+        used,
+    };
+    let whether = recognizer::finished(file, state, items, starts, rows, queue, store);
+    tell_whether(whether, yes, handle)
 }
 
 // Where the latest set stands among the item words: the place of its first word, and the number of its words.
@@ -178,20 +183,26 @@ pub extern "C" fn brinesaddle_latest_set(
     file: &[u8],
     set: usize,
     held: usize,
+    used: usize,
     items: &[u32],
     starts: &[u32],
     rows: &[u64],
     queue: &[u32],
+    store: &[u16],
     first: &mut usize,
     count: &mut usize,
 ) -> u32
-    ensures calls { λ r. ⌜ ReportsIn (now (file .entry)) (stateIn set held)
-        (wordsOf (now (items .entry)) (now (starts .entry)) (now (rows .entry)) (now (queue .entry))) r
+    ensures calls { λ r. ⌜ ReportsIn (now (file .entry)) (stateIn set held used)
+        (wordsOf (now (items .entry)) (now (starts .entry)) (now (rows .entry)) (now (queue .entry)) (now (store .entry))) r
         (now (first .exit)) (now (count .exit)) ⌝ }
 {
-    let state = State { set, items: held };
+    let state = State {
+        set,
+        items: held,
+        used,
+    };
     let mut number = 0;
-    let part = recognizer::latest_set(file, state, items, starts, rows, queue, &mut number);
+    let part = recognizer::latest_set(file, state, items, starts, rows, queue, store, &mut number);
     let words = part.len();
     *count = words;
     *first = first_word(number, held, words);
@@ -204,22 +215,28 @@ pub extern "C" fn brinesaddle_expected(
     file: &[u8],
     set: usize,
     held: usize,
+    used: usize,
     items: &[u32],
     starts: &[u32],
     rows: &[u64],
     queue: &[u32],
+    store: &[u16],
     tokens: &mut [u16],
     count: &mut usize,
 ) -> u32
-    ensures calls { λ r. ⌜ Lists (now (file .entry)) (stateIn set held)
-        (wordsOf (now (items .entry)) (now (starts .entry)) (now (rows .entry)) (now (queue .entry))) expectedTokens
+    ensures calls { λ r. ⌜ Lists (now (file .entry)) (stateIn set held used)
+        (wordsOf (now (items .entry)) (now (starts .entry)) (now (rows .entry)) (now (queue .entry)) (now (store .entry))) expectedTokens
         (now (tokens .entry)) r (now (count .exit)) (now (tokens .exit)) ⌝ }
-    ensures sentences { λ r. ⌜ ExpectedTells (now (file .entry)) (stateIn set held)
-        (wordsOf (now (items .entry)) (now (starts .entry)) (now (rows .entry)) (now (queue .entry))) r
+    ensures sentences { λ r. ⌜ ExpectedTells (now (file .entry)) (stateIn set held used)
+        (wordsOf (now (items .entry)) (now (starts .entry)) (now (rows .entry)) (now (queue .entry)) (now (store .entry))) r
         (take (now (count .exit)) (now (tokens .exit))) ⌝ }
 {
-    let state = State { set, items: held };
-    let filled = reports::expected(file, state, items, starts, rows, queue, tokens);
+    let state = State {
+        set,
+        items: held,
+        used,
+    };
+    let filled = reports::expected(file, state, items, starts, rows, queue, store, tokens);
     tell_count(filled, count)
 }
 
@@ -229,19 +246,25 @@ pub extern "C" fn brinesaddle_listing(
     file: &[u8],
     set: usize,
     held: usize,
+    used: usize,
     items: &[u32],
     starts: &[u32],
     rows: &[u64],
     queue: &[u32],
+    store: &[u16],
     text: &mut [u8],
     count: &mut usize,
 ) -> u32
-    ensures calls { λ r. ⌜ Lists (now (file .entry)) (stateIn set held)
-        (wordsOf (now (items .entry)) (now (starts .entry)) (now (rows .entry)) (now (queue .entry))) latestText
+    ensures calls { λ r. ⌜ Lists (now (file .entry)) (stateIn set held used)
+        (wordsOf (now (items .entry)) (now (starts .entry)) (now (rows .entry)) (now (queue .entry)) (now (store .entry))) latestText
         (now (text .entry)) r (now (count .exit)) (now (text .exit)) ⌝ }
 {
-    let state = State { set, items: held };
-    let filled = reports::listing(file, state, items, starts, rows, queue, text);
+    let state = State {
+        set,
+        items: held,
+        used,
+    };
+    let filled = reports::listing(file, state, items, starts, rows, queue, store, text);
     tell_count(filled, count)
 }
 
@@ -251,19 +274,25 @@ pub extern "C" fn brinesaddle_latest_words(
     file: &[u8],
     set: usize,
     held: usize,
+    used: usize,
     items: &[u32],
     starts: &[u32],
     rows: &[u64],
     queue: &[u32],
+    store: &[u16],
     words: &mut [u32],
     count: &mut usize,
 ) -> u32
-    ensures calls { λ r. ⌜ Lists (now (file .entry)) (stateIn set held)
-        (wordsOf (now (items .entry)) (now (starts .entry)) (now (rows .entry)) (now (queue .entry))) latestWords
+    ensures calls { λ r. ⌜ Lists (now (file .entry)) (stateIn set held used)
+        (wordsOf (now (items .entry)) (now (starts .entry)) (now (rows .entry)) (now (queue .entry)) (now (store .entry))) latestWords
         (now (words .entry)) r (now (count .exit)) (now (words .exit)) ⌝ }
 {
-    let state = State { set, items: held };
-    let filled = reports::latest_words(file, state, items, starts, rows, queue, words);
+    let state = State {
+        set,
+        items: held,
+        used,
+    };
+    let filled = reports::latest_words(file, state, items, starts, rows, queue, store, words);
     tell_count(filled, count)
 }
 
@@ -273,15 +302,17 @@ pub extern "C" fn brinesaddle_latest_records(
     file: &[u8],
     set: usize,
     held: usize,
+    used: usize,
     items: &[u32],
     starts: &[u32],
     rows: &[u64],
     queue: &[u32],
+    store: &[u16],
     records: &mut [Record],
     count: &mut usize,
 ) -> u32
-    ensures calls { λ r. ⌜ Lists (now (file .entry)) (stateIn set held)
-        (wordsOf (now (items .entry)) (now (starts .entry)) (now (rows .entry)) (now (queue .entry))) latestRecords
+    ensures calls { λ r. ⌜ Lists (now (file .entry)) (stateIn set held used)
+        (wordsOf (now (items .entry)) (now (starts .entry)) (now (rows .entry)) (now (queue .entry)) (now (store .entry))) latestRecords
         (now (records .entry)) r (now (count .exit)) (now (records .exit)) ⌝ }
 {
     let mut words = [0; SET_WORDS];
@@ -289,10 +320,12 @@ pub extern "C" fn brinesaddle_latest_records(
         file,
         set,
         held,
+        used,
         items,
         starts,
         rows,
         queue,
+        store,
         records.len(),
         &mut words,
         count,

@@ -55,21 +55,27 @@ pub fn prepare(
     file: &[u8],
     set: usize,
     held: usize,
+    used: usize,
     items: &[u32],
     starts: &[u32],
     rows: &[u64],
     queue: &[u32],
+    store: &[u16],
     room: usize,
     words: &mut [u32],
     count: &mut usize,
 ) -> Filling
     requires { ⌜ length (now words) ≡ setWords ⌝ }
-    ensures { λ r. ⌜ Prepared (now (file .entry)) (stateIn set held)
-        (wordsOf (now (items .entry)) (now (starts .entry)) (now (rows .entry)) (now (queue .entry))) room
+    ensures { λ r. ⌜ Prepared (now (file .entry)) (stateIn set held used)
+        (wordsOf (now (items .entry)) (now (starts .entry)) (now (rows .entry)) (now (queue .entry)) (now (store .entry))) room
         (r .number) (r .fill) (now (count .exit)) (now (words .exit)) ⌝ }
 {
-    let state = State { set, items: held };
-    let told = reports::latest_words(file, state, items, starts, rows, queue, words);
+    let state = State {
+        set,
+        items: held,
+        used,
+    };
+    let told = reports::latest_words(file, state, items, starts, rows, queue, store, words);
     let mut told_words: usize = 0;
     let number = tell_count(told, &mut told_words);
     let records = told_words / RECORD_WORDS;

@@ -22,15 +22,14 @@ pub by-origin : (i j : Item) → i .rule < 4294967296 → j .rule < 4294967296 �
     → ltb (i .origin) (j .origin) ≡ ltb (keyOf i) (keyOf j)
 by-origin i j fi fj differ = same-test (i .origin) (j .origin) (keyOf i) (keyOf j) (λ h. omega arith) (λ h. omega arith)
 
--- Items of u32 words with one key are one item.
-pub same-key : (i j : Item) → Words i → Words j → keyOf i ≡ keyOf j → i ≡ j
-same-key i j wi wj e = λ k. record { origin = origins k; rule = rules k }
-  where
-    origins : i .origin ≡ j .origin
-    origins = omega arith
+-- Two items agree on what orders them.
+pub record Alike (i j : Item) : Type 0 where
+  pub origins : i .origin ≡ j .origin
+  pub rules : i .rule ≡ j .rule
 
-    rules : i .rule ≡ j .rule
-    rules = omega arith
+-- Items of u32 words with one key have one origin and one rule.
+pub same-key : (i j : Item) → Words i → Words j → keyOf i ≡ keyOf j → Alike i j
+same-key i j wi wj e = record { origins = omega arith; rules = omega arith }
 
 -- The order by origin, then rule.
 pub data Less (i j : Item) : Type 0 where
@@ -46,8 +45,8 @@ pub key-less : (i j : Item) → Words i → Words j → keyOf i < keyOf j → Le
 key-less i j wi wj h =
     elim (decLt (i .origin) (j .origin)) [ yes l ↦ lower-origin l | no l ↦ same-origin (omega arith) (omega arith) ]
 
--- The order is total: of two different items one is less.
-pub total : (i j : Item) → Words i → Words j → (i ≡ j → ⊥) → Less i j ⊎ Less j i
+-- The order is total: of two items that differ in origin or rule one is less.
+pub total : (i j : Item) → Words i → Words j → (Alike i j → ⊥) → Less i j ⊎ Less j i
 total i j wi wj differ =
     let other : keyOf i ≡ keyOf j → ⊥ = λ e. differ (same-key i j wi wj e) in
     elim (decLt (keyOf i) (keyOf j)) [

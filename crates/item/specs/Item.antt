@@ -1,4 +1,4 @@
--- An item is two words, its origin and then its rule. Items are ordered by origin, then by rule.
+-- An item is three words: its origin, its rule, and the handle of its first symbol's node. Items are ordered by origin, then by rule.
 use mathlib.Core.List.{List, [], _∷_}
 use Prim.Native.Nat.{ℕ, _+_, _*_, _≤_}
 use lib.ListN.{length, getD}
@@ -8,14 +8,15 @@ use Rattle.laws.specs.Records as records
 pub record Item : Type 0 where
   pub origin : ℕ
   pub rule : ℕ
+  pub handle : ℕ
 
 -- The words of an item, in their order.
 abbrev pub wordsOf : Item → List ℕ
-wordsOf i = i .origin ∷ i .rule ∷ []
+wordsOf i = i .origin ∷ i .rule ∷ i .handle ∷ []
 
 -- How many they are.
 abbrev pub itemWords : ℕ
-itemWords = 2
+itemWords = 3
 
 -- A list of items, held in words one behind another.
 abbrev pub flat : List Item → List ℕ
@@ -28,8 +29,11 @@ originAt words p = getD words (itemWords * p) 0
 abbrev pub ruleAt : List ℕ → ℕ → ℕ
 ruleAt words p = getD words (itemWords * p + 1) 0
 
+abbrev pub handleAt : List ℕ → ℕ → ℕ
+handleAt words p = getD words (itemWords * p + 2) 0
+
 abbrev pub itemAt : List ℕ → ℕ → Item
-itemAt words p = record { origin = originAt words p; rule = ruleAt words p }
+itemAt words p = record { origin = originAt words p; rule = ruleAt words p; handle = handleAt words p }
 
 -- The words have a place p: those of an item there are among them.
 abbrev pub HasPlace : List ℕ → ℕ → Type 0

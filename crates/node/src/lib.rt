@@ -5,6 +5,7 @@ ghost use Rattle.node.specs.Writing.{StoreOutcome, writeAt, usable};
 ghost use Rattle.node.specs.Reading.{readAt, Exactly};
 ghost use Rattle.node.specs.Walking.{walkAt};
 
+pub mod factor;
 mod placing;
 mod reading;
 mod rows;

@@ -7,13 +7,12 @@ ghost use Rattle.node.specs.Rows as U;
 use crate::Node;
 use crate::Right;
 use crate::Units;
+use crate::factor::NO_FACTOR;
 
 // Counts from COUNT_LIMIT on, actions from ACTION_LIMIT on and a present right factor NO_FACTOR are unfit at every position.
 const COUNT_LIMIT: u32 = 0x1000_0000;
 
 const ACTION_LIMIT: u32 = 0x2000_0000;
-
-pub const NO_FACTOR: u32 = 0xFFFF_FFFF;
 
 fn low(x: u32) -> u16
     ensures { λ r. ⌜ r ≡ U.low x ⌝ }

@@ -8,7 +8,7 @@ ghost use Rattle.node.specs.Reading as R;
 use crate::Node;
 use crate::Right;
 use crate::Spelt;
-use crate::rows::NO_FACTOR;
+use crate::factor::long_right;
 
 // The unit at a position, 0 past the end.
 fn unit(s: &[u16], i: usize) -> u32
@@ -65,16 +65,6 @@ fn paired(action: u32, left: Right, right: Right) -> Spelt
             right,
         }),
         Right::Nothing => Spelt::Unknown,
-    }
-}
-
-fn long_right(right: u32) -> Right
-    ensures { λ r. ⌜ r ≡ R.longRight right ⌝ }
-{
-    if right == NO_FACTOR {
-        Right::Nothing
-    } else {
-        Right::At(right)
     }
 }
 

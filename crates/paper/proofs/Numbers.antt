@@ -6,15 +6,20 @@ use Prim.Native.Nat.{ℕ}
 use Rattle.laws.specs.Bits.{union}
 use Rattle.laws.specs.Records as records
 use Rattle.laws.specs.Turns.{over, until}
+use Rattle.laws.specs.Counts.{count}
 use Rattle.binary_heap.specs.Entry.{entriesIn}
 use Rattle.binary_heap.specs.Sift.{move, goesUp, rise, siftUp, takesRight, child, goesDown, sink, siftDown}
 use Rattle.binary_heap.specs.Heap.{pushed, popped}
 use Rattle.binary_heap.specs.Queue.{pushQueue, popQueue}
 use Rattle.grammar.specs.Rules.{Grammar}
 use Rattle.grammar.specs.File.{rulesFrom, grammarOf}
-use Rattle.completion.specs.Pass.{andThen, store, enqueue}
+use Rattle.node.specs.Choice.{bothBelow}
+use Rattle.node.specs.Rows.{allOnes, unitsOf, rowOf, sumRow, longProduct, aloneRow, pairRow, productRow, leafRow, unfit, unfitProduct, unfitRight}
+use Rattle.node.specs.Reading.{longRight}
+use Rattle.node.specs.Writing.{put, place, writeUnits}
+use Rattle.completion.specs.Pass.{andThen, store, enqueue, written, append}
 use Rattle.completion.specs.Complete.{completeMedial, completeMedialItems, completeUnary, completeUnaryPredictions, completeBinary, completeBinaryPredictions, complete}
-use Rattle.completion.specs.Sums.{nextSummand, popSum, completeSum, completeAllSums}
+use Rattle.completion.specs.Sums.{popGreatest, nextSummand, popSum, completeSum, completeAllSums}
 use Rattle.advance.specs.NewItems.{itemsFrom, insert, sortInto, binary}
 use Rattle.advance.specs.Advance.{highest, greatestOrigin, predictions}
 use Rattle.demands.specs.Steps.{advanced, stepped, ran}
@@ -60,41 +65,87 @@ checked-a = subst (λ (g : Grammar). Sound A g (tableOf rows-a)) (sym (sound-a .
 pub checked-b : Sound B (grammarOf B) (tableOf rows-b)
 checked-b = subst (λ (g : Grammar). Sound B g (tableOf rows-b)) (sym (sound-b .checked .is)) sound-b
 
--- A trial of each, with the capacities I, E and Q.
-abbrev a : ℕ → ℕ → ℕ → List ℕ → Printed
-a i e q = tried A (tableOf rows-a) (zeroed i e q)
+-- A trial of each, with the capacities I, E, Q and U.
+abbrev a : ℕ → ℕ → ℕ → ℕ → List ℕ → Printed
+a i e q u = tried A (tableOf rows-a) (zeroed i e q u)
 
-abbrev b : ℕ → ℕ → ℕ → List ℕ → Printed
-b i e q = tried B (tableOf rows-b) (zeroed i e q)
+abbrev b : ℕ → ℕ → ℕ → ℕ → List ℕ → Printed
+b i e q u = tried B (tableOf rows-b) (zeroed i e q u)
+
+-- What is printed behind "0" of A, and behind nothing, with the number of a refusal and the tokens taken.
+abbrev behind-0 : ℕ → Printed
+behind-0 number =
+    record {
+      number = number;
+      taken = 1;
+      set = 1;
+      items = 0 ∷ 1 ∷ 1 ∷ 0 ∷ 0 ∷ 1 ∷ [];
+      finished = true;
+      units = 0x8000 ∷ 0x0102 ∷ 0x2202 ∷ [];
+      handle = 1;
+    }
+
+abbrev at-first : ℕ → Printed
+at-first number = record { number = number; taken = 0; set = 0; items = []; finished = false; units = []; handle = allOnes }
+
+-- Behind "0 1 2" of B.
+abbrev behind-012 : ℕ → Printed
+behind-012 number =
+    record {
+      number = number;
+      taken = 3;
+      set = 2;
+      items = 0 ∷ 3 ∷ 0 ∷ 0 ∷ 1 ∷ 9 ∷ 0 ∷ 0 ∷ 9 ∷ [];
+      finished = true;
+      units = 0x8000 ∷ 0x8001 ∷ 0x8002 ∷ 0x0105 ∷ 0x6203 ∷ 0x0004 ∷ 0x0104 ∷ 0x6407 ∷ 0x0003 ∷ 0x0103 ∷ 0x2402 ∷ [];
+      handle = 9;
+    }
 
 -- The rows of parses.
 unfoldable pub parseRows : List Row
 parseRows =
     -- A: "0" finished; items then 0 1, 0 0; set 1
-    row (a 8 4 4 (0 ∷ [])) (record { number = 0; taken = 1; set = 1; items = 0 ∷ 1 ∷ 0 ∷ 0 ∷ []; finished = true })
+    row (a 8 4 4 20 (0 ∷ [])) (behind-0 0)
     -- "0 1" accepted, not finished
-    ∷ row (a 8 4 4 (0 ∷ 1 ∷ [])) (record { number = 0; taken = 2; set = 2; items = 0 ∷ 1 ∷ 0 ∷ 0 ∷ 1 ∷ 3 ∷ []; finished = false })
+    ∷ row (a 8 4 4 20 (0 ∷ 1 ∷ []))
+    (record {
+      number = 0;
+      taken = 2;
+      set = 2;
+      items = 0 ∷ 1 ∷ 1 ∷ 0 ∷ 0 ∷ 1 ∷ 1 ∷ 3 ∷ 3 ∷ [];
+      finished = false;
+      units = 0x8000 ∷ 0x0102 ∷ 0x2202 ∷ 0x8001 ∷ [];
+      handle = allOnes;
+    })
     -- "0 1 0" finished, six items
-    ∷ row (a 8 4 4 (0 ∷ 1 ∷ 0 ∷ []))
-    (record { number = 0; taken = 3; set = 3; items = 0 ∷ 1 ∷ 0 ∷ 0 ∷ 1 ∷ 3 ∷ 0 ∷ 1 ∷ 2 ∷ 1 ∷ 0 ∷ 0 ∷ []; finished = true })
+    ∷ row (a 8 4 4 20 (0 ∷ 1 ∷ 0 ∷ []))
+    (record {
+      number = 0;
+      taken = 3;
+      set = 3;
+      items = 0 ∷ 1 ∷ 1 ∷ 0 ∷ 0 ∷ 1 ∷ 1 ∷ 3 ∷ 3 ∷ 0 ∷ 1 ∷ 10 ∷ 2 ∷ 1 ∷ 5 ∷ 0 ∷ 0 ∷ 10 ∷ [];
+      finished = true;
+      units = 0x8000 ∷ 0x0102 ∷ 0x2202 ∷ 0x8001 ∷ 0x8000 ∷ 0x0102 ∷ 0x2202 ∷ 0x0103 ∷ 0x6305 ∷ 0x0003 ∷ 0x0102 ∷ 0x640A ∷ 0x0001 ∷ [];
+      handle = 10;
+    })
     -- "1": 6
-    ∷ row (a 8 4 4 (1 ∷ [])) (record { number = 6; taken = 0; set = 0; items = []; finished = false })
+    ∷ row (a 8 4 4 20 (1 ∷ [])) (at-first 6)
     -- "0 0": 6 at the second
-    ∷ row (a 8 4 4 (0 ∷ 0 ∷ [])) (record { number = 6; taken = 1; set = 1; items = 0 ∷ 1 ∷ 0 ∷ 0 ∷ []; finished = true })
+    ∷ row (a 8 4 4 20 (0 ∷ 0 ∷ [])) (behind-0 6)
     -- token 2: 5
-    ∷ row (a 8 4 4 (2 ∷ [])) (record { number = 5; taken = 0; set = 0; items = []; finished = false })
+    ∷ row (a 8 4 4 20 (2 ∷ [])) (at-first 5)
     -- "0" with I = 2: 7; with I = 3: 0
-    ∷ row (a 2 4 4 (0 ∷ [])) (record { number = 7; taken = 0; set = 0; items = []; finished = false })
-    ∷ row (a 3 4 4 (0 ∷ [])) (record { number = 0; taken = 1; set = 1; items = 0 ∷ 1 ∷ 0 ∷ 0 ∷ []; finished = true })
+    ∷ row (a 2 4 4 20 (0 ∷ [])) (at-first 7)
+    ∷ row (a 3 4 4 20 (0 ∷ [])) (behind-0 0)
     -- B: "0 1 2" ends at set 2 with three items; E = 3 suffices
-    ∷ row (b 8 8 4 (0 ∷ 1 ∷ 2 ∷ [])) (record { number = 0; taken = 3; set = 2; items = 0 ∷ 3 ∷ 0 ∷ 1 ∷ 0 ∷ 0 ∷ []; finished = true })
-    ∷ row (b 8 3 4 (0 ∷ 1 ∷ 2 ∷ [])) (record { number = 0; taken = 3; set = 2; items = 0 ∷ 3 ∷ 0 ∷ 1 ∷ 0 ∷ 0 ∷ []; finished = true })
+    ∷ row (b 8 8 4 20 (0 ∷ 1 ∷ 2 ∷ [])) (behind-012 0)
+    ∷ row (b 8 3 4 20 (0 ∷ 1 ∷ 2 ∷ [])) (behind-012 0)
     -- a further 0 then gives 9
-    ∷ row (b 8 3 4 (0 ∷ 1 ∷ 2 ∷ 0 ∷ [])) (record { number = 9; taken = 3; set = 2; items = 0 ∷ 3 ∷ 0 ∷ 1 ∷ 0 ∷ 0 ∷ []; finished = true })
+    ∷ row (b 8 3 4 20 (0 ∷ 1 ∷ 2 ∷ 0 ∷ [])) (behind-012 9)
     ∷ []
 
 parse-numbers : All parseRows
-unfolding entriesIn parseRows tried ended rulesFrom rowsOf ran stepped advanced complete completeMedial completeMedialItems completeUnary completeUnaryPredictions completeBinary completeBinaryPredictions andThen store enqueue completeAllSums completeSum popSum nextSummand over until pushQueue popQueue pushed popped move goesUp rise siftUp takesRight child goesDown sink siftDown itemsFrom insert sortInto binary highest greatestOrigin predictions union records.flat
+unfolding entriesIn parseRows tried ended rulesFrom rowsOf ran stepped advanced complete completeMedial completeMedialItems completeUnary completeUnaryPredictions completeBinary completeBinaryPredictions andThen store enqueue append written writeUnits place put unitsOf rowOf sumRow longProduct aloneRow pairRow productRow leafRow unfit unfitProduct unfitRight bothBelow longRight completeAllSums completeSum popSum nextSummand popGreatest count over until pushQueue popQueue pushed popped move goesUp rise siftUp takesRight child goesDown sink siftDown itemsFrom insert sortInto binary highest greatestOrigin predictions union records.flat
 parse-numbers = (refl, (refl, (refl, (refl, (refl, (refl, (refl, (refl, (refl, (refl, (refl, tt)))))))))))
 
 -- ALL OF THEM, in one table.

@@ -6,10 +6,12 @@ use lib.ListN.{length, take-append-drop}
 use lib.Seq.{length-take-le, length-front, take-at, drop-at}
 use Rattle.item.specs.Item.{itemWords}
 use Rattle.bits.specs.Width.{rowWords}
-use Rattle.parse.specs.Words.{Words, itemRoom, setRoom, queueRoom, within, beyond, behind}
+use Rattle.binary_heap.specs.Entry.{entryWords}
+use Rattle.node.specs.Writing.{usableUnits}
+use Rattle.parse.specs.Words.{Words, itemRoom, setRoom, queueRoom, storeRoom, within, beyond, behind}
 
 module _ (w : Words) where
-  -- Within the capacities there are two words for each of I items ..
+  -- Within the capacities there are three words for each of I items ..
   pub items-within : length (within w .items) ≡ itemWords * itemRoom w
   items-within = length-take-le (itemWords * itemRoom w) (w .items) (omega arith)
 
@@ -21,16 +23,27 @@ module _ (w : Words) where
   pub rows-within : length (within w .rows) ≡ rowWords * setRoom w
   rows-within = length-take-le (rowWords * setRoom w) (w .rows) (omega arith)
 
-  -- .. and Q queue entries.
-  pub queue-within : length (within w .queue) ≡ queueRoom w
-  queue-within = length-take-le (queueRoom w) (w .queue) (omega arith)
+  -- .. two words for each of Q queue entries ..
+  pub queue-within : length (within w .queue) ≡ entryWords * queueRoom w
+  queue-within = length-take-le (entryWords * queueRoom w) (w .queue) (omega arith)
 
-  -- I, and E, read off those words.
+  -- .. and U units.
+  pub store-within : length (within w .store) ≡ storeRoom w
+  store-within = length-take-le (storeRoom w) (w .store) (omega arith)
+
+  -- These are usable.
+  pub store-usable : length (within w .store) ≤ usableUnits
+  store-usable = omega (arith, store-within)
+
+  -- I, E, and Q, read off those words.
   pub items-room : length (within w .items) / itemWords ≡ itemRoom w
   items-room = omega (arith, items-within)
 
   pub sets-room : length (within w .rows) / rowWords ≡ setRoom w
   sets-room = omega (arith, rows-within)
+
+  pub queue-room : length (within w .queue) / entryWords ≡ queueRoom w
+  queue-room = omega (arith, queue-within)
 
   -- With room for a set there is a start more than rows.
   pub starts-and-rows : 1 ≤ setRoom w → length (within w .starts) ≡ length (within w .rows) / rowWords + 1
@@ -42,7 +55,8 @@ module _ (w : Words) where
     items = take-append-drop (itemWords * itemRoom w) (w .items) k;
     starts = take-append-drop (setRoom w + 1) (w .starts) k;
     rows = take-append-drop (rowWords * setRoom w) (w .rows) k;
-    queue = take-append-drop (queueRoom w) (w .queue) k;
+    queue = take-append-drop (entryWords * queueRoom w) (w .queue) k;
+    store = take-append-drop (storeRoom w) (w .store) k;
   }
 
 -- Words of the same number of each kind.
@@ -51,6 +65,7 @@ pub record SameSizes (v u : Words) : Type 0 where
   pub starts : length (v .starts) ≡ length (u .starts)
   pub rows : length (v .rows) ≡ length (u .rows)
   pub queue : length (v .queue) ≡ length (u .queue)
+  pub store : length (v .store) ≡ length (u .store)
 
 -- With room for a set, words put in the place of those within the capacities are those within them, and leave those past them.
 module _ (w v : Words) (some : 1 ≤ setRoom w) (same : SameSizes v (within w)) where
@@ -68,14 +83,18 @@ module _ (w v : Words) (some : 1 ≤ setRoom w) (same : SameSizes v (within w)) 
   rows-new = length-front (w .rows) (v .rows) (rowWords * setRoom w) (same .rows)
 
   queue-new : length (new .queue) ≡ length (w .queue)
-  queue-new = length-front (w .queue) (v .queue) (queueRoom w) (same .queue)
+  queue-new = length-front (w .queue) (v .queue) (entryWords * queueRoom w) (same .queue)
+
+  store-new : length (new .store) ≡ length (w .store)
+  store-new = length-front (w .store) (v .store) (storeRoom w) (same .store)
 
   pub within-new : within new ≡ v
   within-new = λ k. record {
     items = take-at (v .items) (beyond w .items) (itemWords * itemRoom new) (omega (arith, same .items, items-within w, items-new)) k;
     starts = take-at (v .starts) (beyond w .starts) (setRoom new + 1) (omega (arith, same .starts, starts-within w some, starts-new, rows-new)) k;
     rows = take-at (v .rows) (beyond w .rows) (rowWords * setRoom new) (omega (arith, same .rows, rows-within w, starts-new, rows-new)) k;
-    queue = take-at (v .queue) (beyond w .queue) (queueRoom new) (omega (arith, same .queue, queue-within w, queue-new)) k;
+    queue = take-at (v .queue) (beyond w .queue) (entryWords * queueRoom new) (omega (arith, same .queue, queue-within w, queue-new)) k;
+    store = take-at (v .store) (beyond w .store) (storeRoom new) (omega (arith, same .store, store-within w, store-new)) k;
   }
 
   pub beyond-new : beyond new ≡ beyond w
@@ -83,5 +102,6 @@ module _ (w v : Words) (some : 1 ≤ setRoom w) (same : SameSizes v (within w)) 
     items = drop-at (v .items) (beyond w .items) (itemWords * itemRoom new) (omega (arith, same .items, items-within w, items-new)) k;
     starts = drop-at (v .starts) (beyond w .starts) (setRoom new + 1) (omega (arith, same .starts, starts-within w some, starts-new, rows-new)) k;
     rows = drop-at (v .rows) (beyond w .rows) (rowWords * setRoom new) (omega (arith, same .rows, rows-within w, starts-new, rows-new)) k;
-    queue = drop-at (v .queue) (beyond w .queue) (queueRoom new) (omega (arith, same .queue, queue-within w, queue-new)) k;
+    queue = drop-at (v .queue) (beyond w .queue) (entryWords * queueRoom new) (omega (arith, same .queue, queue-within w, queue-new)) k;
+    store = drop-at (v .store) (beyond w .store) (storeRoom new) (omega (arith, same .store, store-within w, store-new)) k;
   }

@@ -7,3 +7,7 @@ pub mod Padded
 pub mod Fitting
 pub mod Below
 pub mod Whole
+pub mod Heads
+pub mod Marking
+pub mod Appended
+pub mod Examples

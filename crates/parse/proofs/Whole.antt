@@ -8,16 +8,18 @@ use Rattle.bits.specs.Width.{rowWords}
 use Rattle.grammar.specs.Rules.{Rule}
 use Rattle.parse.specs.declared.State.{State}
 use Rattle.parse.specs.Words.{Words}
-use Rattle.parse.specs.WellFormed.{WellFormed}
-use Rattle.parse.specs.inner.Parts.{StartsFit, SetsFit, RowsBelow, SpareClear}
+use Rattle.parse.specs.WellFormed.{WellFormed, usedUnits}
+use Rattle.parse.specs.inner.Parts.{StartsFit, SetsFit, RowsBelow, SpareClear, StoreFits}
 
 module _ (n : ℕ) (rs : List Rule) (s : State) (v : Words) where
   -- The parts make the whole.
-  pub whole : s .set < length (v .rows) / rowWords → s .items ≤ length (v .items) / itemWords → StartsFit (v .starts) s → SetsFit rs (v .items) (v .starts) (s .set)
-      → RowsBelow n (v .rows) (s .set) → SpareClear s v → WellFormed n rs s v
-  whole a b st se ro sp = record {
+  pub whole : s .set < length (v .rows) / rowWords → s .items ≤ length (v .items) / itemWords → s .used ≤ length (v .store) → StartsFit (v .starts) s
+      → SetsFit rs (v .items) (v .starts) (s .set) → RowsBelow n (v .rows) (s .set) → SpareClear s v
+      → StoreFits (v .items) (usedUnits s v) (s .items) → WellFormed n rs s v
+  whole a b c st se ro sp un = record {
     set-fits = a;
     items-fit = b;
+    units-fit = c;
     first-start = st .first-start;
     second-start = st .second-start;
     never-falls = st .never-falls .each;
@@ -29,6 +31,9 @@ module _ (n : ℕ) (rs : List Rule) (s : State) (v : Words) where
     spare-starts = sp .starts .zero;
     spare-rows = sp .rows .zero;
     spare-queue = λ i. sp .queue .zero i (omega arith);
+    spare-units = sp .store .unit;
+    reads = un .reads;
+    handles = un .handles;
   }
 
   -- The whole has each part.
@@ -58,4 +63,8 @@ module _ (n : ℕ) (rs : List Rule) (s : State) (v : Words) where
       starts = record { zero = w .spare-starts };
       rows = record { zero = w .spare-rows };
       queue = record { zero = λ i l. w .spare-queue i };
+      store = record { unit = w .spare-units };
     }
+
+    pub its-store : StoreFits (v .items) (usedUnits s v) (s .items)
+    its-store = record { reads = w .reads; handles = w .handles }

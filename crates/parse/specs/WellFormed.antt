@@ -2,13 +2,15 @@
 use mathlib.Core.Path.{_≡_}
 use mathlib.Core.List.{List}
 use Prim.Native.Nat.{ℕ, _+_, _*_, _/_, _≤_, _<_}
-use lib.ListN.{length, getD}
+use lib.ListN.{length, getD, take}
 use Rattle.laws.specs.Bits.{rowOf, Below}
-use Rattle.item.specs.Item.{Item, itemWords, itemAt}
+use Rattle.item.specs.Item.{Item, itemWords, itemAt, handleAt}
 use Rattle.bits.specs.Width.{rowWords}
 use Rattle.grammar.specs.Rules.{Rule, none, noRule}
 use Rattle.parse.specs.declared.State.{State}
+use Rattle.node.specs.Reading.{filler}
 use Rattle.parse.specs.Words.{Words, startOf}
+use Rattle.parse.specs.Heads.{ToEnd, Meets}
 
 -- The rule of an item, its left side, and the symbol behind its dot.
 abbrev pub ruleOf : List Rule → Item → Rule
@@ -35,11 +37,16 @@ pub record InSet (v : Words) (k p : ℕ) : Type 0 where
   pub from : startOf v k ≤ p
   pub up-to : p < startOf v (k + 1)
 
+-- The used units, taken as a store of their own.
+abbrev pub usedUnits : State → Words → List ℕ
+usedUnits s v = take (s .used) (v .store)
+
 -- `n` is the number of symbols, and `rs` are the rules.
 pub record WellFormed (n : ℕ) (rs : List Rule) (s : State) (v : Words) : Type 0 where
   -- e < E, counts within capacity
   pub set-fits : s .set < length (v .rows) / rowWords
   pub items-fit : s .items ≤ length (v .items) / itemWords
+  pub units-fit : s .used ≤ length (v .store)
   -- e+2 starts, first two 0, never falling, last = item count
   pub first-start : startOf v 0 ≡ 0
   pub second-start : startOf v 1 ≡ 0
@@ -56,3 +63,8 @@ pub record WellFormed (n : ℕ) (rs : List Rule) (s : State) (v : Words) : Type 
   pub spare-starts : (i : ℕ) → s .set + 2 ≤ i → getD (v .starts) i 0 ≡ 0
   pub spare-rows : (i : ℕ) → rowWords * (s .set + 1) ≤ i → getD (v .rows) i 0 ≡ 0
   pub spare-queue : (i : ℕ) → getD (v .queue) i 0 ≡ 0
+  -- spare units 0xFFFF
+  pub spare-units : (i : ℕ) → s .used ≤ i → getD (v .store) i filler ≡ filler
+  -- the used units read from 0 to their end without a 12; each item's handle is the head of a node met on that way
+  pub reads : ToEnd (usedUnits s v) 0
+  pub handles : (p : ℕ) → p < s .items → Meets (usedUnits s v) (handleAt (v .items) p) 0

@@ -4,21 +4,30 @@ use Prim.Native.Nat.{ℕ, _+_, _-_, _*_, _/_, min}
 use lib.ListN.{length, getD, take, drop, replicate}
 use Rattle.item.specs.Item.{itemWords}
 use Rattle.bits.specs.Width.{rowWords}
+use Rattle.binary_heap.specs.Entry.{entryWords}
+use Rattle.node.specs.Writing.{usableUnits}
+use Rattle.node.specs.Reading.{filler}
 
--- Items are two words each, origin and rule; a start is a word; a predicted row is `rowWords` words; a queue entry is a word.
+-- Items are three words each, origin, rule and handle; a start is a word; a predicted row is `rowWords` words; a queue entry is two words, a
+-- place and a right factor; the store of nodes is u16 units.
 pub record Words : Type 0 where
   pub items : List ℕ
   pub starts : List ℕ
   pub rows : List ℕ
   pub queue : List ℕ
+  pub store : List ℕ
 
--- The words of a parse, from the four slices.
-abbrev pub wordsOf : List ℕ → List ℕ → List ℕ → List ℕ → Words
-wordsOf items starts rows queue = record { items = items; starts = starts; rows = rows; queue = queue }
+-- The words of a parse, from the five slices.
+abbrev pub wordsOf : List ℕ → List ℕ → List ℕ → List ℕ → List ℕ → Words
+wordsOf items starts rows queue store = record { items = items; starts = starts; rows = rows; queue = queue; store = store }
 
 -- Words, and 0 behind them up to `size` words.
 abbrev pub padded : ℕ → List ℕ → List ℕ
 padded size words = words ++ replicate (size - length words) 0
+
+-- Units, and fillers behind them up to `size` units.
+abbrev pub filled : ℕ → List ℕ → List ℕ
+filled size units = units ++ replicate (size - length units) filler
 
 -- The most items, sets and queue entries.
 abbrev pub maxItems : ℕ
@@ -30,7 +39,7 @@ maxSets = 1024
 abbrev pub maxQueued : ℕ
 maxQueued = 1024
 
--- I: half the item words.
+-- I: a third of the item words.
 abbrev pub itemRoomOf : List ℕ → ℕ
 itemRoomOf items = min maxItems (length items / itemWords)
 
@@ -44,12 +53,19 @@ setRoomOf starts rows = min maxSets (min (length starts - 1) (length rows / rowW
 abbrev pub setRoom : Words → ℕ
 setRoom w = setRoomOf (w .starts) (w .rows)
 
--- Q: the queue's words.
+-- Q: half the queue's words.
 abbrev pub queueRoomOf : List ℕ → ℕ
-queueRoomOf queue = min maxQueued (length queue)
+queueRoomOf queue = min maxQueued (length queue / entryWords)
 
 abbrev pub queueRoom : Words → ℕ
 queueRoom w = queueRoomOf (w .queue)
+
+-- U: the usable units.
+abbrev pub storeRoomOf : List ℕ → ℕ
+storeRoomOf store = min usableUnits (length store)
+
+abbrev pub storeRoom : Words → ℕ
+storeRoom w = storeRoomOf (w .store)
 
 -- The words within the capacities. Only they belong to the parse.
 abbrev pub within : Words → Words
@@ -58,7 +74,8 @@ within w =
       items = take (itemWords * itemRoom w) (w .items);
       starts = take (setRoom w + 1) (w .starts);
       rows = take (rowWords * setRoom w) (w .rows);
-      queue = take (queueRoom w) (w .queue);
+      queue = take (entryWords * queueRoom w) (w .queue);
+      store = take (storeRoom w) (w .store);
     }
 
 -- The words past the capacities, which no call touches.
@@ -68,7 +85,8 @@ beyond w =
       items = drop (itemWords * itemRoom w) (w .items);
       starts = drop (setRoom w + 1) (w .starts);
       rows = drop (rowWords * setRoom w) (w .rows);
-      queue = drop (queueRoom w) (w .queue);
+      queue = drop (entryWords * queueRoom w) (w .queue);
+      store = drop (storeRoom w) (w .store);
     }
 
 -- Words, and other words behind them.
@@ -79,6 +97,7 @@ behind v b =
       starts = v .starts ++ b .starts;
       rows = v .rows ++ b .rows;
       queue = v .queue ++ b .queue;
+      store = v .store ++ b .store;
     }
 
 -- Of words within their capacities: the place behind the last item of set `k - 1`, where those of set `k` start.

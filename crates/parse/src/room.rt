@@ -1,16 +1,19 @@
-// How many items, sets and queue entries the lent words have room for.
+// How many items, sets, queue entries and units the lent words have room for.
 ghost use mathlib.Core.Path.{_≡_};
 ghost use Prim.Native.Nat.{min};
-ghost use Rattle.parse.specs.Words.{itemRoomOf, setRoomOf, queueRoomOf};
+ghost use Rattle.parse.specs.Words.{itemRoomOf, setRoomOf, queueRoomOf, storeRoomOf};
+use binary_heap::entry::ENTRY_WORDS;
 use bits::WIDTH;
 use item::ITEM_WORDS;
 
-// The most items, sets and queue entries.
+// The most items, sets, queue entries and units.
 pub const ITEMS: usize = 4096;
 
 pub const SETS: usize = 1024;
 
 pub const QUEUED: usize = 1024;
+
+pub const UNITS: usize = 32768;
 
 // The smaller of two numbers.
 fn least(a: usize, b: usize) -> usize
@@ -44,5 +47,12 @@ pub fn set_room(starts: &[u32], rows: &[u64]) -> usize
 pub fn queue_room(queue: &[u32]) -> usize
     ensures { λ r. ⌜ r ≡ queueRoomOf (now (queue .entry)) ⌝ }
 {
-    least(QUEUED, queue.len())
+    least(QUEUED, queue.len() / ENTRY_WORDS)
+}
+
+// U, the room for units.
+pub fn store_room(store: &[u16]) -> usize
+    ensures { λ r. ⌜ r ≡ storeRoomOf (now (store .entry)) ⌝ }
+{
+    least(UNITS, store.len())
 }

@@ -1,10 +1,14 @@
-// Words that are 0 from a place on: whether they are, and clearing them. Items, starts and the queue are words of 32 bits, rows of 64.
+// Words that are 0 from a place on, and units that are fillers: whether they are, and making them so. Items, starts and the queue are words of
+// 32 bits, rows of 64, and the store is units of 16.
 ghost use mathlib.Core.Path.{_≡_};
 ghost use Prim.Native.Nat.{_≤_};
 ghost use lib.ListN.{length, take};
 ghost use Rattle.laws.specs.Decides.{Decides};
-ghost use Rattle.parse.specs.Words.{padded};
-ghost use Rattle.parse.specs.inner.Parts.{Clear};
+ghost use Rattle.parse.specs.Words.{padded, filled};
+ghost use Rattle.parse.specs.inner.Parts.{Clear, Filled};
+
+// The unit that stands for none.
+pub const FILLER: u16 = 0xFFFF;
 
 // Whether every word from `from` on is 0.
 pub fn is_clear(words: &[u32], from: usize) -> bool
@@ -34,6 +38,20 @@ pub fn is_clear_rows(words: &[u64], from: usize) -> bool
     true
 }
 
+// Whether every unit from `from` on is a filler.
+pub fn is_filled(units: &[u16], from: usize) -> bool
+    ensures { λ r. ⌜ Decides r (Filled (now (units .entry)) from) ⌝ }
+{
+    let mut i = from;
+    while i < units.len() {
+        if units[i] != FILLER {
+            return false;
+        }
+        i += 1;
+    }
+    true
+}
+
 // Clears the words from `from` up to and without `to`. Those behind are 0.
 pub fn clear(words: &mut [u32], from: usize, to: usize)
     requires { ⌜ (from ≤ length (now words)) × (to ≤ length (now words)) × Clear (now words) to ⌝ }
@@ -51,5 +69,15 @@ pub fn clear_rows(words: &mut [u64], from: usize, to: usize)
 {
     for i in from..to {
         words[i] = 0;
+    }
+}
+
+// Makes fillers of the units from `from` up to and without `to`. Those behind are fillers.
+pub fn fill(units: &mut [u16], from: usize, to: usize)
+    requires { ⌜ (from ≤ length (now units)) × (to ≤ length (now units)) × Filled (now units) to ⌝ }
+    ensures { λ _. ⌜ now (units .exit) ≡ filled (length (now (units .entry))) (take from (now (units .entry))) ⌝ }
+{
+    for i in from..to {
+        units[i] = FILLER;
     }
 }

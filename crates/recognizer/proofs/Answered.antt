@@ -7,18 +7,18 @@ use lib.ListN.{getD}
 use Rattle.laws.proofs.Decides.{false-true}
 use Rattle.parse.specs.Words.{Words}
 use Rattle.recognizer.specs.declared.Refusal.{Refusal}
-use Rattle.recognizer.specs.declared.Refusal.the-variants.{Malformed, Broken, NoSets, IllFormed, NoToken, NotPredicted, ItemsFull, QueueFull, SetsFull}
+use Rattle.recognizer.specs.declared.Refusal.the-variants.{Malformed, Broken, NoSets, IllFormed, NoToken, NotPredicted, ItemsFull, QueueFull, SetsFull, StoreFull}
 use Rattle.recognizer.specs.declared.Answer.{Answer}
 use Rattle.recognizer.specs.declared.Answer.the-variants.{Done, Refused}
 use Rattle.recognizer.specs.declared.Ran.{Ran}
 use Rattle.recognizer.specs.declared.Whether.{Whether}
 use Rattle.recognizer.specs.declared.Whether.the-variants as says
 use Rattle.demands.specs.Steps.{Outcome, Ended}
-use Rattle.recognizer.specs.Answers.{refusalNumber, numberOf, stateOf, finishedNumber, saysYes, outcomeOf, endedOf}
+use Rattle.recognizer.specs.Answers.{refusalNumber, numberOf, stateOf, finishedNumber, saysYes, saysHandle, outcomeOf, endedOf}
 
--- The refusals by their numbers, from 1 on.
+-- The refusals by their numbers: 1 to 9, and any other for 14.
 abbrev refusalOf : ℕ → Refusal
-refusalOf n = getD (Malformed ∷ Broken ∷ NoSets ∷ IllFormed ∷ NoToken ∷ NotPredicted ∷ ItemsFull ∷ QueueFull ∷ SetsFull ∷ []) (n - 1) Malformed
+refusalOf n = getD (Malformed ∷ Broken ∷ NoSets ∷ IllFormed ∷ NoToken ∷ NotPredicted ∷ ItemsFull ∷ QueueFull ∷ SetsFull ∷ []) (n - 1) StoreFull
 
 refusal-of : (r : Refusal) → refusalOf (refusalNumber r) ≡ r
 refusal-of Malformed = refl
@@ -30,6 +30,7 @@ refusal-of NotPredicted = refl
 refusal-of ItemsFull = refl
 refusal-of QueueFull = refl
 refusal-of SetsFull = refl
+refusal-of StoreFull = refl
 
 -- A refusal's number is its own, and not that of done.
 refusal-settled : (r r′ : Refusal) → refusalNumber r ≡ refusalNumber r′ → r ≡ r′
@@ -45,6 +46,7 @@ refusal-some NotPredicted = omega arith
 refusal-some ItemsFull = omega arith
 refusal-some QueueFull = omega arith
 refusal-some SetsFull = omega arith
+refusal-some StoreFull = omega arith
 
 -- Of start and token,
 answer-same : (a a′ : Answer) → numberOf a ≡ numberOf a′ → stateOf a ≡ stateOf a′ → a ≡ a′
@@ -63,13 +65,13 @@ run-settled r r′ w w′ e =
     (both .0, (ap (λ (o : Ended). o .taken) e, both .1))
 
 -- and of finished.
-pub whether-settled : (a a′ : Whether) → finishedNumber a ≡ finishedNumber a′ → saysYes a ≡ saysYes a′ → a ≡ a′
-whether-settled says.Yes says.Yes n e = refl
-whether-settled says.Yes says.No n e = absurd (false-true (sym e))
-whether-settled says.Yes (says.Refused r) n e = absurd (false-true (sym e))
-whether-settled says.No says.Yes n e = absurd (false-true e)
-whether-settled says.No says.No n e = refl
-whether-settled says.No (says.Refused r) n e = absurd (omega (arith, n, refusal-some r))
-whether-settled (says.Refused r) says.Yes n e = absurd (false-true e)
-whether-settled (says.Refused r) says.No n e = absurd (omega (arith, n, refusal-some r))
-whether-settled (says.Refused r) (says.Refused r′) n e = ap says.Refused (refusal-settled r r′ n)
+pub whether-settled : (a a′ : Whether) → finishedNumber a ≡ finishedNumber a′ → saysYes a ≡ saysYes a′ → saysHandle a ≡ saysHandle a′ → a ≡ a′
+whether-settled (says.Yes h) (says.Yes h′) n e same = ap says.Yes same
+whether-settled (says.Yes h) says.No n e same = absurd (false-true (sym e))
+whether-settled (says.Yes h) (says.Refused r) n e same = absurd (false-true (sym e))
+whether-settled says.No (says.Yes h) n e same = absurd (false-true e)
+whether-settled says.No says.No n e same = refl
+whether-settled says.No (says.Refused r) n e same = absurd (omega (arith, n, refusal-some r))
+whether-settled (says.Refused r) (says.Yes h) n e same = absurd (false-true e)
+whether-settled (says.Refused r) says.No n e same = absurd (omega (arith, n, refusal-some r))
+whether-settled (says.Refused r) (says.Refused r′) n e same = ap says.Refused (refusal-settled r r′ n)

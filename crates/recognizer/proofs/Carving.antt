@@ -7,9 +7,10 @@ use lib.ListN.{length, take, drop}
 use lib.Seq.{length-front}
 use Rattle.bits.specs.Width.{rowWords}
 use Rattle.item.specs.Item.{itemWords}
+use Rattle.binary_heap.specs.Entry.{entryWords}
 use Rattle.grammar.specs.Rules.{Rule}
 use Rattle.parse.specs.declared.State.{State}
-use Rattle.parse.specs.Words.{Words, itemRoom, setRoom, queueRoom, within, beyond, behind}
+use Rattle.parse.specs.Words.{Words, itemRoom, setRoom, queueRoom, storeRoom, within, beyond, behind}
 use Rattle.parse.specs.WellFormed.{WellFormed}
 use Rattle.parse.proofs.Capacities.{SameSizes, sets-room}
 use Rattle.demands.specs.Steps.{Outcome}
@@ -28,41 +29,44 @@ place-sizes w v same = record {
   items = length-front (w .items) (v .items) (itemWords * itemRoom w) (same .items);
   starts = length-front (w .starts) (v .starts) (setRoom w + 1) (same .starts);
   rows = length-front (w .rows) (v .rows) (rowWords * setRoom w) (same .rows);
-  queue = length-front (w .queue) (v .queue) (queueRoom w) (same .queue);
+  queue = length-front (w .queue) (v .queue) (entryWords * queueRoom w) (same .queue);
+  store = length-front (w .store) (v .store) (storeRoom w) (same .store);
 }
 
--- The first words, for `i` items, `e` sets and `q` queue entries, and what came of them in their place.
-abbrev pub first : Words → ℕ → ℕ → ℕ → Words
-first w i e q =
+-- The first words, for `i` items, `e` sets, `q` queue entries and `u` units, and what came of them in their place.
+abbrev pub first : Words → ℕ → ℕ → ℕ → ℕ → Words
+first w i e q u =
     record {
       items = take (itemWords * i) (w .items);
       starts = take (e + 1) (w .starts);
       rows = take (rowWords * e) (w .rows);
-      queue = take q (w .queue);
+      queue = take (entryWords * q) (w .queue);
+      store = take u (w .store);
     }
 
-abbrev pub put-back : Words → ℕ → ℕ → ℕ → Words → Words
-put-back w i e q v =
+abbrev pub put-back : Words → ℕ → ℕ → ℕ → ℕ → Words → Words
+put-back w i e q u v =
     behind v
     (record {
       items = drop (itemWords * i) (w .items);
       starts = drop (e + 1) (w .starts);
       rows = drop (rowWords * e) (w .rows);
-      queue = drop q (w .queue);
+      queue = drop (entryWords * q) (w .queue);
+      store = drop u (w .store);
     })
 
-abbrev pub replaced : Words → ℕ → ℕ → ℕ → Outcome → Outcome
-replaced w i e q o = record { number = o .number; state = o .state; words = put-back w i e q (o .words) }
+abbrev pub replaced : Words → ℕ → ℕ → ℕ → ℕ → Outcome → Outcome
+replaced w i e q u o = record { number = o .number; state = o .state; words = put-back w i e q u (o .words) }
 
-module _ (w : Words) {i e q : ℕ} (items : i ≡ itemRoom w) (sets : e ≡ setRoom w) (queued : q ≡ queueRoom w) where
+module _ (w : Words) {i e q u : ℕ} (items : i ≡ itemRoom w) (sets : e ≡ setRoom w) (queued : q ≡ queueRoom w) (units : u ≡ storeRoom w) where
   -- As many as there is room for are the words within the capacities, ..
-  pub first-within : within w ≡ first w i e q
-  first-within = λ k. first w (sym items k) (sym sets k) (sym queued k)
+  pub first-within : within w ≡ first w i e q u
+  first-within = λ k. first w (sym items k) (sym sets k) (sym queued k) (sym units k)
 
   -- .. and what comes of those is put in their place.
-  pub replaced-place : (f : Words → Outcome) (o : Outcome) → o ≡ f (first w i e q) → replaced w i e q o ≡ inPlace w (f (within w))
-  replaced-place f o came = ap (replaced w i e q) came ∙ (λ k. replaced w (items k) (sets k) (queued k) (f (first w (items k) (sets k) (queued k))))
+  pub replaced-place : (f : Words → Outcome) (o : Outcome) → o ≡ f (first w i e q u) → replaced w i e q u o ≡ inPlace w (f (within w))
+  replaced-place f o came = ap (replaced w i e q u) came ∙ (λ k. replaced w (items k) (sets k) (queued k) (units k) (f (first w (items k) (sets k) (queued k) (units k))))
 
   -- The same of words alone.
-  pub put-back-place : (f : Words → Words) (v : Words) → v ≡ f (first w i e q) → put-back w i e q v ≡ behind (f (within w)) (beyond w)
-  put-back-place f v came = ap (put-back w i e q) came ∙ (λ k. put-back w (items k) (sets k) (queued k) (f (first w (items k) (sets k) (queued k))))
+  pub put-back-place : (f : Words → Words) (v : Words) → v ≡ f (first w i e q u) → put-back w i e q u v ≡ behind (f (within w)) (beyond w)
+  put-back-place f v came = ap (put-back w i e q u) came ∙ (λ k. put-back w (items k) (sets k) (queued k) (units k) (f (first w (items k) (sets k) (queued k) (units k))))

@@ -1,20 +1,22 @@
 -- Laws of the words within the capacities, as the calls cut them off.
 use mathlib.Core.Path.{_≡_, refl, sym, ap, subst, _∙_}
-use mathlib.Core.Bool.{Bool, false, _&&_}
+use mathlib.Core.Bool.{Bool, true, false, _&&_}
 use mathlib.Core.List.{List, [], _∷_, _++_}
 use Prim.Native.Nat.{ℕ, zero, suc, _+_, _-_, _*_, _/_, _≤_, _<_}
 use native.Mathlib.Omega.{arith}
 use lib.ListN.{length, getD, set, take, drop, replicate, length-append, length-drop, length-replicate, take-append-drop}
 use lib.Seq.{length-take-le, getD-take, drop-append-le, take-append-le}
 use lib.Dec.{eqb, ltb}
-use borrow.Author.Tests.{lt-ltb, le-ltb}
+use borrow.Author.Tests.{lt-ltb, le-ltb, ltb-true}
 use Rattle.bits.specs.Width.{rowWords}
-use Rattle.item.specs.Item.{itemWords, ruleAt}
+use Rattle.item.specs.Item.{itemWords, ruleAt, handleAt}
 use Rattle.grammar.specs.Rules.{Rule}
 use Rattle.parse.specs.declared.State.{State}
-use Rattle.parse.specs.Words.{Words, itemRoom, setRoom, setRoomOf, queueRoom, within, startOf}
+use Rattle.parse.specs.Words.{Words, itemRoom, setRoom, setRoomOf, queueRoom, storeRoom, storeRoomOf, within, startOf}
 use Rattle.parse.specs.WellFormed.{WellFormed}
 use Rattle.laws.specs.Decides.{Decides}
+use Rattle.laws.proofs.Tests.{both-true}
+use Rattle.node.specs.Writing.{usableUnits}
 use Rattle.parse.proofs.Capacities.{items-within, rows-within}
 use Rattle.demands.specs.Steps.{lastWraps, latestPart}
 use Rattle.recognizer.specs.inner.Cuts.{LatestThere, lastWrapsIn, latestPartIn}
@@ -76,6 +78,10 @@ pub cut-sets : (starts rows : List ℕ) (e : ℕ) → e ≡ setRoomOf starts row
 cut-sets starts rows e is some =
     omega (arith, is, some, length-take-le (e + 1) starts (omega (arith, is, some)), length-take-le (rowWords * e) rows (omega (arith, is)))
 
+-- A store cut at the room for units is usable.
+pub cut-units : (store : List ℕ) (u : ℕ) → u ≡ storeRoomOf store → length (take u store) ≤ usableUnits
+cut-units store u is = omega (arith, is, length-take-le u store (omega (arith, is)))
+
 -- Whether the last item of the latest set has rule 0, from the words that are read.
 module _ (s : State) (items starts : List ℕ) (start : ℕ) (read : start ≡ getD starts (s .set) 0) where
   pub wraps-some : (rule : ℕ) → start < s .items → rule ≡ ruleAt items (s .items - 1) → eqb rule 0 ≡ lastWrapsIn s items starts
@@ -85,6 +91,11 @@ module _ (s : State) (items starts : List ℕ) (start : ℕ) (read : start ≡ g
 
   pub wraps-none : s .items ≤ start → false ≡ lastWrapsIn s items starts
   wraps-none none = sym (ap (λ (b : Bool). b && eqb (ruleAt items (s .items - 1)) 0) (le-ltb (getD starts (s .set) 0) (s .items) (omega (arith, read))))
+
+-- Where it has, there is an item.
+pub wraps-item : (s : State) (items starts : List ℕ) → lastWrapsIn s items starts ≡ true → 0 < s .items
+wraps-item s items starts wraps =
+    omega (arith, ltb-true (getD starts (s .set) 0) (s .items) (both-true (ltb (getD starts (s .set) 0) (s .items)) (eqb (ruleAt items (s .items - 1)) 0) wraps .0))
 
 -- No number is below 0.
 none-below : (a : ℕ) → ltb a 0 ≡ false
@@ -96,9 +107,9 @@ module _ (n : ℕ) (rs : List Rule) (s : State) (w : Words) where
   no-room none well = omega (arith, none, well .set-fits, rows-within w)
 
   -- What is told of words cut at the capacities is told of the words within them.
-  pub tells-within : (answer : Bool) (i e q : ℕ) → i ≡ itemRoom w → e ≡ setRoom w → q ≡ queueRoom w
-      → Decides answer (WellFormed n rs s (first w i e q)) → Decides answer (WellFormed n rs s (within w))
-  tells-within answer i e q is es qs tells = subst (λ (u : Words). Decides answer (WellFormed n rs s u)) (sym (first-within w is es qs)) tells
+  pub tells-within : (answer : Bool) (i e q u : ℕ) → i ≡ itemRoom w → e ≡ setRoom w → q ≡ queueRoom w → u ≡ storeRoom w
+      → Decides answer (WellFormed n rs s (first w i e q u)) → Decides answer (WellFormed n rs s (within w))
+  tells-within answer i e q u is es qs us tells = subst (λ (v : Words). Decides answer (WellFormed n rs s v)) (sym (first-within w is es qs us)) tells
 
   module _ (well : WellFormed n rs s (within w)) where
     -- The latest set is one of the sets that there is room for.
@@ -138,6 +149,10 @@ module _ (n : ℕ) (rs : List Rule) (s : State) (w : Words) where
         wraps (suc p) low =
             ap (λ (r : ℕ). ltb (startOf (within w) (s .set)) (suc p) && eqb r 0)
             (sym (getD-take (itemWords * itemRoom w) (w .items) (itemWords * (suc p - 1) + 1) 0 (omega arith)))
+
+    -- So is its handle, where there is an item.
+    pub handle-same : 0 < s .items → handleAt (w .items) (s .items - 1) ≡ handleAt (within w .items) (s .items - 1)
+    handle-same some = sym (getD-take (itemWords * itemRoom w) (w .items) (itemWords * (s .items - 1) + 2) 0 (omega (arith, items-in-room)))
 
     -- So is the part that holds it.
     pub part-same : latestPartIn s (w .items) (w .starts) ≡ latestPart s (within w)

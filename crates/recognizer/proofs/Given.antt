@@ -27,6 +27,9 @@ module _ {file : List ℕ} {s : State} {w : Words} {g : Grammar} {table : List (
         well-formed = formed .well-formed;
         rowed = cut .rowed;
         few-items = cut .few-items;
+        few-entries = cut .few-entries;
+        whole-entries = cut .whole-entries;
+        few-units = cut .few-units;
       }
 
   ready : Ready file s w g table

@@ -12,7 +12,7 @@ use borrow.Author.Tests.{ltb-true, ltb-false}
 use Rattle.laws.specs.Bits.{wordBits}
 use Rattle.bits.specs.Width.{rowWords}
 use Rattle.item.specs.Item.{Item, itemWords, flat}
-use Rattle.binary_heap.specs.Entry.{Entry, entriesIn}
+use Rattle.binary_heap.specs.Entry.{Entry, entryWords, entriesIn}
 use Rattle.binary_heap.specs.Sift.{entryAt}
 use Rattle.binary_heap.proofs.Held.{none-held}
 use Rattle.grammar.specs.Rules.{Grammar, Rule, none}
@@ -20,15 +20,17 @@ use Rattle.grammar.specs.inner.Decoded.{rulesIn}
 use Rattle.grammar.proofs.Decoding.{in-count}
 use Rattle.grammar.proofs.Facts.{second-low}
 use Rattle.parse.specs.declared.State.{State}
-use Rattle.parse.specs.Words.{Words, startOf, padded}
+use Rattle.node.specs.declared.Node.the-variants.{Evaluated}
+use Rattle.parse.specs.Words.{Words, startOf, padded, filled}
 use Rattle.parse.specs.WellFormed.{WellFormed}
-use Rattle.completion.specs.Pass.{Pass}
+use Rattle.completion.specs.Pass.{Pass, append}
 use Rattle.completion.specs.Complete.{complete}
-use Rattle.completion.specs.inner.Ready.{RulesFit, IsSet, Rowed, PassFits, Charted}
+use Rattle.completion.specs.inner.Ready.{RulesFit, IsSet, Rowed, PassFits, UnitsFit, Charted}
 use Rattle.completion.specs.inner.Pending.{Grounds, Pending}
 use Rattle.completion.proofs.Waiting.{rule-second}
-use Rattle.completion.proofs.Onward.{onward-take}
-use Rattle.completion.proofs.Pending.{first-pending}
+use Rattle.completion.proofs.Entries.{append-queued}
+use Rattle.completion.proofs.Onward.{onward-take, onward-append, units-onward}
+use Rattle.completion.proofs.Pending.{pending-append, first-lower, first-pending}
 use Rattle.completion.proofs.Refusals.{Ends}
 use Rattle.completion.proofs.Beginning.{beginning, start-fits, is-set, begins-pending, begins-spare, accepted-grounds, accepted-rules-fit}
 use Rattle.completion.proofs.Passed.{Passed, token-passed, passed-queue, passed-spare}
@@ -37,11 +39,11 @@ use Rattle.advance.specs.Advance.{nextState, nextWords, lastKept, predictions}
 use Rattle.advance.specs.declared.Advanced.{Advanced}
 use Rattle.advance.specs.declared.Advanced.the-variants as answers
 use Rattle.advance.specs.inner.Ready.{Advanceable}
-use Rattle.parse.proofs.Padded.{padded-ext, padded-length, padded-word}
+use Rattle.parse.proofs.Padded.{padded-ext, padded-length, padded-word, filled-behind}
 use Rattle.advance.proofs.Advancing.{answer-done, answer-refused, words-done, words-refused}
-use Rattle.advance.proofs.Steps.{without-new, ready, ready-lent, advances-whole}
+use Rattle.advance.proofs.Steps.{without-new, ready, ready-lent, ready-used, advances-whole}
 use Rattle.recognizer.specs.declared.Sizes.{Sizes}
-use Rattle.demands.specs.Steps.{Outcome, completed, stepped}
+use Rattle.demands.specs.Steps.{Outcome, completed, withNodes, stepped}
 use Rattle.recognizer.specs.inner.Steppable.{grammarFrom, Steppable, FullAt}
 use Rattle.demands.proofs.Ways.{keptOf, newOf, reachOf, kept, is-full, is-no-room, is-done, Predicted}
 
@@ -57,32 +59,50 @@ module _ (rules : List ℕ) (sizes : Sizes) (table : List (List ℕ)) (s : State
 
   -- The words with what the pass stored.
   abbrev u : Words
-  u = record { items = pass .items; starts = v .starts; rows = v .rows; queue = v .queue }
+  u = record { items = pass .items; starts = v .starts; rows = v .rows; queue = v .queue; store = v .store }
+
+  -- The same with the nodes that it wrote, and the state with their number.
+  abbrev w : Words
+  w = record { items = pass .items; starts = v .starts; rows = v .rows; queue = v .queue; store = pass .units }
+
+  abbrev reached : State
+  reached = record { set = s .set; items = s .items; used = pass .at .used }
 
   well : WellFormed (sizes .symbols) rs s v
   well = can .well-formed
 
   passed : Passed rs (v .starts) (s .set) (beginning s v) pass
-  passed = token-passed g (can .accepted) well (can .few-items) (can .rowed) t
+  passed = token-passed g (can .accepted) well (can .few-items) (can .few-entries) (can .rowed) t (s .used) (Evaluated t)
+
+  -- What a pass begins with, its node written.
+  abbrev written : Pass
+  written = append (Evaluated t) (beginning s v)
+
+  begins : Pending rs (v .starts) written
+  begins = pending-append (beginning s v) (begins-pending well (can .accepted .few-rules) (can .few-items) (can .few-entries) (can .rowed)) (Evaluated t)
 
   -- What completing the token asks.
-  pub first-asks : t < sizes .tokens → (RulesFit rs × Rowed (v .starts) (v .rows)) × ((IsSet (v .starts) (s .set) × (t < wordBits * rowWords)) × (PassFits (beginning s v) × Charted rs (v .starts) (beginning s v)))
+  pub first-asks : t < sizes .tokens → (RulesFit rs × Rowed (v .starts) (v .rows)) × ((IsSet (v .starts) (s .set) × (t < wordBits * rowWords)) × (PassFits written × Charted rs (v .starts) written))
   first-asks small =
-      let pending : Pending rs (v .starts) (beginning s v) = begins-pending well (can .accepted .few-rules) (can .few-items) (can .rowed) in (
+      let pending : Pending rs (v .starts) written = begins in (
         (accepted-rules-fit g (can .accepted), can .rowed),
         (
-          (is-set well (can .accepted .few-rules) (can .few-items) (can .rowed) (s .set) (omega arith), omega (arith, can .accepted .room, can .accepted .few-symbols)),
+          (is-set well (can .accepted .few-rules) (can .few-items) (can .few-entries) (can .rowed) (s .set) (omega arith), omega (arith, can .accepted .room, can .accepted .few-symbols)),
           (pending .sound, pending .charted),
         ),
       )
 
   -- What the sums ask.
-  pub sums-ask : Grounds rs (v .starts) (v .rows) × Pending rs (v .starts) (complete rs (v .starts) (v .rows) (s .set) t (beginning s v))
+  pub sums-ask : Grounds rs (v .starts) (v .rows) × Pending rs (v .starts) (complete rs (v .starts) (v .rows) (s .set) t (s .used) written)
+      × UnitsFit (complete rs (v .starts) (v .rows) (s .set) t (s .used) written)
   sums-ask =
-      let grounds : Grounds rs (v .starts) (v .rows) = accepted-grounds g (can .accepted) (v .starts) (v .rows) (can .rowed) in (
+      let grounds : Grounds rs (v .starts) (v .rows) = accepted-grounds g (can .accepted) (v .starts) (v .rows) (can .rowed) in
+      let latest : IsSet (v .starts) (s .set) = is-set well (can .accepted .few-rules) (can .few-items) (can .few-entries) (can .rowed) (s .set) (omega arith) in
+      let empty : written .at .queued ≡ 0 = append-queued (Evaluated t) (beginning s v) in (
         grounds,
-        first-pending grounds (beginning s v) (begins-pending well (can .accepted .few-rules) (can .few-items) (can .rowed)) (s .set) t
-            (is-set well (can .accepted .few-rules) (can .few-items) (can .rowed) (s .set) (omega arith)) refl,
+        first-pending grounds written begins (s .set) t (s .used) latest empty,
+        units-onward (first-lower grounds written begins (s .set) t (s .used) latest empty .steady .onward)
+            (units-onward (onward-append (Evaluated t) (beginning s v)) (record { few-units = can .few-units; used-fit = well .units-fit })),
       )
 
   -- The items of the sets are as they were.
@@ -103,6 +123,19 @@ module _ (rules : List ℕ) (sizes : Sizes) (table : List (List ℕ)) (s : State
             ∙ sym (List·getD-eq-default (take (itemWords * s .items) (v .items)) 0 {n = i} (omega (arith, length-take (itemWords * s .items) (v .items))))
       ]))
 
+  -- The units that were used are as they were, and so fillers behind them give the store back.
+  same-units : take (s .used) (pass .units) ≡ take (s .used) (v .store)
+  same-units =
+      ext-getD 0 (take (s .used) (pass .units)) (take (s .used) (v .store))
+      (omega (arith, length-take (s .used) (pass .units), length-take (s .used) (v .store), passed .onward .unit-words))
+      (λ i there.
+      let below : i < s .used = omega (arith, length-take (s .used) (pass .units)) in
+      getD-take (s .used) (pass .units) i 0 below ∙ passed .onward .same-units i below ∙ sym (getD-take (s .used) (v .store) i 0 below))
+
+  pub unwritten : filled (length (pass .units)) (take (s .used) (pass .units)) ≡ v .store
+  unwritten =
+      ap₂ filled (passed .onward .unit-words) same-units ∙ sym (filled-behind (v .store) (s .used) (well .units-fit) (record { unit = well .spare-units }))
+
   zeros-same : (q : List ℕ) → length q ≡ length (v .queue) → ((i : ℕ) → getD q i 0 ≡ 0) → q ≡ v .queue
   zeros-same q long zero = ext-getD 0 q (v .queue) long (λ i there. zero i ∙ sym (well .spare-queue i))
 
@@ -110,28 +143,29 @@ module _ (rules : List ℕ) (sizes : Sizes) (table : List (List ℕ)) (s : State
   cleared-queue q long =
       zeros-same (padded (length q) (take 0 q)) (padded-length (length q) (take 0 q) (omega arith) ∙ long) (λ i. padded-word (length q) (take 0 q) i)
 
-  -- A pass that was refused met full items or a full queue.
+  -- A pass that was refused met full items, a full queue or a full store.
   pub full-at : (pass .at .stopped ≡ 0 → ⊥) → FullAt (pass .at .stopped)
   full-at stopped = by-end (passed .ends)
     where
       by-end : Ends pass → FullAt (pass .at .stopped)
       by-end (Ends.empty going none) = absurd (stopped going)
       by-end (Ends.full-items at full) = record { either = inl at }
-      by-end (Ends.full-queue at full) = record { either = inr at }
+      by-end (Ends.full-queue at full) = record { either = inr (inl at) }
+      by-end (Ends.full-store at) = record { either = inr (inr at) }
 
   module _ (going : pass .at .stopped ≡ 0) where
     -- The queue is empty again, and so its words are those that were there.
     pub queue-back : (q : List ℕ) → length q ≡ length (v .queue) → entriesIn q ≡ pass .queue → q ≡ v .queue
     queue-back q long holds =
         zeros-same q long
-        (none-held q
+        (none-held q (length (v .queue) / entryWords) (long ∙ can .whole-entries)
         (λ k.
         ap (λ (h : List Entry). entryAt h k) holds
-        ∙ passed-queue passed (begins-spare well (can .accepted .few-rules) (can .few-items) (can .rowed)) going k))
+        ∙ passed-queue passed (begins-spare well (can .accepted .few-rules) (can .few-items) (can .few-entries) (can .rowed)) going k))
 
     without : withoutNew s u ≡ v
     without =
-        ap (λ (i : List ℕ). let w : Words = record { items = i; starts = v .starts; rows = v .rows; queue = v .queue } in w)
+        ap (λ (i : List ℕ). let w : Words = record { items = i; starts = v .starts; rows = v .rows; queue = v .queue; store = v .store } in w)
         (without-new s v u (omega (arith, well .items-fit)) (record { zero = well .spare-items }) (passed .onward .item-words) (same-front (itemWords * s .items) (omega arith)))
 
     -- What the advance asks.
@@ -157,69 +191,75 @@ module _ (rules : List ℕ) (sizes : Sizes) (table : List (List ℕ)) (s : State
         ))
         (can .shape)
 
-    pub advance-asks : Advanceable rules (sizes .rules) table s (lent (pass .items) (v .starts) (v .rows)) (pass .at .items)
-    advance-asks = ready-lent rules (sizes .rules) table s u (pass .at .items) asks
+    pub advance-asks : Advanceable rules (sizes .rules) table reached (lent (pass .items) (v .starts) (v .rows)) (pass .at .items)
+    advance-asks = ready-used rules (sizes .rules) table s (pass .at .used) (lent (pass .items) (v .starts) (v .rows)) (pass .at .items)
+        (ready-lent rules (sizes .rules) table s u (pass .at .items) asks)
 
     -- Before the new items the words are those that were there.
-    next-same : (k m : ℕ) (new : List Item) (row : List ℕ) → startOf v (lastKept k m + 1) ≤ s .items → nextWords k m u new row ≡ nextWords k m v new row
+    next-same : (k m : ℕ) (new : List Item) (row : List ℕ) → startOf v (lastKept k m + 1) ≤ s .items → nextWords k m w new row ≡ nextWords k m (withNodes (pass .units) v) new row
     next-same k m new row low =
         ap₂ (λ (n : ℕ) (front : List ℕ). let w : Words = record {
           items = padded n (front ++ flat new);
           starts = nextWords k m v new row .starts;
           rows = nextWords k m v new row .rows;
           queue = nextWords k m v new row .queue;
+          store = pass .units;
         } in w)
         (passed .onward .item-words) (same-front (itemWords * startOf v (lastKept k m + 1)) (omega arith))
 
     module _ (small : t < sizes .tokens) (there : Predicted s v t) (r : Advanced) (items starts rows : List ℕ)
-        (advances : Advances rs table s (lent (pass .items) (v .starts) (v .rows)) (pass .at .items) r (lent items starts rows)) where
+        (advances : Advances rs table reached (lent (pass .items) (v .starts) (v .rows)) (pass .at .items) r (lent items starts rows)) where
       abbrev after : Words
-      after = record { items = items; starts = starts; rows = rows; queue = v .queue }
+      after = record { items = items; starts = starts; rows = rows; queue = v .queue; store = pass .units }
 
-      whole : (r ≡ advanceAnswer rs s u (pass .at .items)) × (after ≡ advanceWords rs table s u (pass .at .items))
+      whole : (r ≡ advanceAnswer rs reached w (pass .at .items)) × (after ≡ advanceWords rs table reached w (pass .at .items))
       whole =
-          advances-whole rules (sizes .rules) table s u (pass .at .items) r items starts rows
+          advances-whole rules (sizes .rules) table reached w (pass .at .items) r items starts rows
           (record { zero = λ i from. well .spare-queue i }) advances
 
-      -- No room for the new set: 9.
-      pub advance-refused : r ≡ answers.Refused → record { number = 9; state = s; words = after } ≡ stepped g table s v t
-      advance-refused no-room = by-room (hasRoom rs s u (pass .at .items)) refl
+      -- No room for the new set: 9. What was written becomes fillers again.
+      pub advance-refused : r ≡ answers.Refused → (store : List ℕ) → store ≡ filled (length (pass .units)) (take (s .used) (pass .units))
+          → record { number = 9; state = s; words = withNodes store after } ≡ stepped g table s v t
+      advance-refused no-room store is = by-room (hasRoom rs reached w (pass .at .items)) refl
         where
-          by-room : (b : Bool) → hasRoom rs s u (pass .at .items) ≡ b → record { number = 9; state = s; words = after } ≡ stepped g table s v t
+          by-room : (b : Bool) → hasRoom rs reached w (pass .at .items) ≡ b → record { number = 9; state = s; words = withNodes store after } ≡ stepped g table s v t
           by-room true room =
-              let both : answers.Refused ≡ answers.Done (nextState (keptOf g s v t) u (newOf g s v t)) =
-              sym no-room ∙ whole .0 ∙ answer-done rs table s u (pass .at .items) room in
+              let both : answers.Refused ≡ answers.Done (nextState (pass .at .used) (keptOf g s v t) w (newOf g s v t)) =
+              sym no-room ∙ whole .0 ∙ answer-done rs table reached w (pass .at .items) room in
               let z : _≡_ {A = ℕ} 0 1 = cc in
               absurd (omega arith)
           by-room false room =
-              ap (kept 9 s) (whole .1 ∙ words-refused rs table s u (pass .at .items) room ∙ without)
+              ap₂ (λ (a : Words) (units : List ℕ). kept 9 s (withNodes units a)) (whole .1 ∙ words-refused rs table reached w (pass .at .items) room) (is ∙ unwritten)
+              ∙ ap (kept 9 s) without
               ∙ sym (is-no-room g table s v t small there going (ltb-false (keptOf g s v t + 1) (length (v .rows) / rowWords) room))
 
       -- The new set is the latest.
       pub advance-done : (next : State) → r ≡ answers.Done next → record { number = 0; state = next; words = after } ≡ stepped g table s v t
-      advance-done next done = by-room (hasRoom rs s u (pass .at .items)) refl
+      advance-done next done = by-room (hasRoom rs reached w (pass .at .items)) refl
         where
-          by-room : (b : Bool) → hasRoom rs s u (pass .at .items) ≡ b → record { number = 0; state = next; words = after } ≡ stepped g table s v t
+          by-room : (b : Bool) → hasRoom rs reached w (pass .at .items) ≡ b → record { number = 0; state = next; words = after } ≡ stepped g table s v t
           by-room false room =
-              let both : answers.Done next ≡ answers.Refused = sym done ∙ whole .0 ∙ answer-refused rs table s u (pass .at .items) room in
+              let both : answers.Done next ≡ answers.Refused = sym done ∙ whole .0 ∙ answer-refused rs table reached w (pass .at .items) room in
               let z : _≡_ {A = ℕ} 0 1 = cc in
               absurd (omega arith)
           by-room true room =
-              let both : answers.Done next ≡ answers.Done (nextState (keptOf g s v t) u (newOf g s v t)) =
-              sym done ∙ whole .0 ∙ answer-done rs table s u (pass .at .items) room in
-              let same : next ≡ nextState (keptOf g s v t) u (newOf g s v t) = cc in
+              let both : answers.Done next ≡ answers.Done (nextState (pass .at .used) (keptOf g s v t) w (newOf g s v t)) =
+              sym done ∙ whole .0 ∙ answer-done rs table reached w (pass .at .items) room in
+              let same : next ≡ nextState (pass .at .used) (keptOf g s v t) w (newOf g s v t) = cc in
               let row = predictions rs table (newOf g s v t) in
               ap₂ (λ (n : State) (w : Words). let o : Outcome = record { number = 0; state = n; words = w } in o) same
-              (whole .1 ∙ words-done rs table s u (pass .at .items) room ∙ next-same (s .set) (reachOf g s v t) (newOf g s v t) row
-              (start-fits well (can .accepted .few-rules) (can .few-items) (can .rowed) (keptOf g s v t + 1)))
+              (whole .1 ∙ words-done rs table reached w (pass .at .items) room ∙ next-same (s .set) (reachOf g s v t) (newOf g s v t) row
+              (start-fits well (can .accepted .few-rules) (can .few-items) (can .few-entries) (can .rowed) (keptOf g s v t + 1)))
               ∙ sym (is-done g table s v t small there going (ltb-true (keptOf g s v t + 1) (length (v .rows) / rowWords) room))
 
-  -- A push met full items or a full queue: 7 or 8, and the words are as they were.
-  pub pass-refused : t < sizes .tokens → Predicted s v t → (pass .at .stopped ≡ 0 → ⊥) → (number : ℕ) (items queue q : List ℕ) → number ≡ pass .at .stopped
+  -- A push met full items or a full queue, or a node a full store: 7, 8 or 14, and the words are as they were.
+  pub pass-refused : t < sizes .tokens → Predicted s v t → (pass .at .stopped ≡ 0 → ⊥) → (number : ℕ) (items queue q store : List ℕ) → number ≡ pass .at .stopped
       → length q ≡ length (v .queue) → items ≡ padded (length (pass .items)) (take (itemWords * s .items) (pass .items)) → queue ≡ padded (length q) (take 0 q)
-      → record { number = number; state = s; words = record { items = items; starts = v .starts; rows = v .rows; queue = queue } } ≡ stepped g table s v t
-  pass-refused small there stopped number items queue q is long cleared emptied =
-      ap₂ (λ (i q : List ℕ). let o : Outcome = record { number = number; state = s; words = record { items = i; starts = v .starts; rows = v .rows; queue = q } } in o)
+      → store ≡ filled (length (pass .units)) (take (s .used) (pass .units))
+      → record { number = number; state = s; words = record { items = items; starts = v .starts; rows = v .rows; queue = queue; store = store } } ≡ stepped g table s v t
+  pass-refused small there stopped number items queue q store is long cleared emptied filled-again =
+      ap₂ (λ (i q : List ℕ). let o : Outcome = record { number = number; state = s; words = record { items = i; starts = v .starts; rows = v .rows; queue = q; store = store } } in o)
       (cleared ∙ cleared-items) (emptied ∙ cleared-queue q long)
+      ∙ ap (λ (units : List ℕ). kept number s (withNodes units v)) (filled-again ∙ unwritten)
       ∙ ap (λ (n : ℕ). kept n s v) is
       ∙ sym (is-full g table s v t small there stopped)

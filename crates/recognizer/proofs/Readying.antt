@@ -2,9 +2,11 @@
 use mathlib.Core.Path.{_≡_, sym, subst, subst⁻¹, _∙_}
 use mathlib.Core.Bool.{Bool, true, false, not}
 use mathlib.Core.List.{List, []}
-use Prim.Native.Nat.{ℕ, _≤_}
+use Prim.Native.Nat.{ℕ, _-_, _≤_, _<_}
 use native.Mathlib.Omega.{arith}
 use borrow.Author.Tests.{not-true, not-false}
+use Rattle.item.specs.Item.{handleAt}
+use Rattle.node.specs.Rows.{allOnes}
 use Rattle.grammar.specs.Accepted.{Accepted, maxRules}
 use Rattle.grammar.specs.File.{grammarOf}
 use Rattle.grammar.specs.inner.Decoded.{rulesIn}
@@ -25,7 +27,7 @@ use Rattle.demands.specs.Calls.{Checked, FileFault, CallFault, Formed, Finishes
 use Rattle.recognizer.specs.inner.Cuts.{lastWrapsIn, latestPartIn}
 use Rattle.recognizer.specs.inner.Opening.{OpenedFile, Opens, ReadyFor, Readies}
 use Rattle.recognizer.specs.inner.Steppable.{grammarFrom}
-use Rattle.recognizer.proofs.Cutting.{last-same, part-same}
+use Rattle.recognizer.proofs.Cutting.{wraps-item, last-same, handle-same, part-same}
 
 -- What opening a file has told.
 module _ (file words : List ℕ) (r : Opened) (tells : Opens file words r) where
@@ -73,9 +75,25 @@ module _ (file : List ℕ) (s : State) (w : Words) (words : List ℕ) (r : Readi
 
 -- The reports of a well-formed state, from the uncut words.
 module _ (file : List ℕ) (s : State) (w : Words) where
-  pub finishes-with : {g : Grammar} → Formed file s w g → (b answer : Bool) → b ≡ lastWrapsIn s (w .items) (w .starts) → b ≡ answer → Finishes file s w 0 answer
-  finishes-with {g} formed b answer is says =
-      subst (Finishes file s w 0) (sym (last-same (g .symbols) (g .rules) s w (formed .well-formed)) ∙ sym is ∙ says) (Finishes.done formed)
+  -- Finished says what the test of the last item tells: no, ..
+  module _ {g : Grammar} (formed : Formed file s w g) (b : Bool) (is : b ≡ lastWrapsIn s (w .items) (w .starts)) where
+    finishes-so : (answer : Bool) → b ≡ answer → Finishes file s w 0 answer (elim answer [ true ↦ handleAt (within w .items) (s .items - 1) | false ↦ allOnes ])
+    finishes-so answer so =
+        subst (λ (a : Bool). Finishes file s w 0 a (elim a [ true ↦ handleAt (within w .items) (s .items - 1) | false ↦ allOnes ]))
+        (sym (last-same (g .symbols) (g .rules) s w (formed .well-formed)) ∙ sym is ∙ so) (Finishes.done formed)
+
+    pub finishes-no : not b ≡ true → Finishes file s w 0 false allOnes
+    finishes-no fails = finishes-so false (not-true b fails)
+
+    -- .. or yes; then there is an item, ..
+    pub finishes-item : not b ≡ false → 0 < s .items
+    finishes-item wraps = wraps-item s (w .items) (w .starts) (sym is ∙ not-false b wraps)
+
+    -- .. and its handle is told.
+    pub finishes-yes : not b ≡ false → (handle : ℕ) → handle ≡ handleAt (w .items) (s .items - 1) → Finishes file s w 0 true handle
+    finishes-yes wraps handle found =
+        subst (Finishes file s w 0 true) (sym (found ∙ handle-same (g .symbols) (g .rules) s w (formed .well-formed) (finishes-item wraps)))
+        (finishes-so true (not-false b wraps))
 
   pub reports-with : {g : Grammar} → Formed file s w g → (part : List ℕ) → part ≡ latestPartIn s (w .items) (w .starts) → Reports file s w 0 part
   reports-with {g} formed part is =

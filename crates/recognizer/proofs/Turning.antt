@@ -16,7 +16,7 @@ use Rattle.demands.specs.Steps.{Outcome, Ended, stepped, ran}
 use Rattle.demands.specs.Calls.{inPlace, inPlaceEnded}
 use Rattle.recognizer.specs.inner.Steppable.{Steppable}
 use Rattle.recognizer.specs.declared.Refusal.{Refusal}
-use Rattle.recognizer.specs.declared.Refusal.the-variants.{Malformed, Broken, NoSets, IllFormed, NoToken, NotPredicted, ItemsFull, QueueFull, SetsFull}
+use Rattle.recognizer.specs.declared.Refusal.the-variants.{Malformed, Broken, NoSets, IllFormed, NoToken, NotPredicted, ItemsFull, QueueFull, SetsFull, StoreFull}
 use Rattle.recognizer.specs.declared.Answer.{Answer}
 use Rattle.recognizer.specs.declared.Answer.the-variants.{Done, Refused}
 use Rattle.recognizer.specs.Answers.{refusalNumber, outcomeOf, endedOf}
@@ -36,6 +36,7 @@ number-some NotPredicted e = omega arith
 number-some ItemsFull e = omega arith
 number-some QueueFull e = omega arith
 number-some SetsFull e = omega arith
+number-some StoreFull e = omega arith
 
 -- `n` tokens before a run.
 abbrev pub before : ℕ → Ended → Ended
@@ -103,7 +104,13 @@ module _ {g : Grammar} {table : List (List ℕ)} {s₀ : State} {w₀ : Words} {
 
     module _ (predicts : Predicts g rowWords table) where
       cut : Cut (within w)
-      cut = record { few-items = h .steppable .few-items; rowed = h .steppable .rowed }
+      cut = record {
+        few-items = h .steppable .few-items;
+        few-entries = h .steppable .few-entries;
+        whole-entries = h .steppable .whole-entries;
+        few-units = h .steppable .few-units;
+        rowed = h .steppable .rowed;
+      }
 
       same : SameSizes (after .words) (within w)
       same = step-sizes (h .steppable .accepted) (h .steppable .well-formed) cut t predicts
@@ -126,6 +133,9 @@ module _ {g : Grammar} {table : List (List ℕ)} {s₀ : State} {w₀ : Words} {
         well-formed = step-well (h .steppable .accepted) (h .steppable .well-formed) cut t predicts;
         rowed = cut-same same cut .rowed;
         few-items = cut-same same cut .few-items;
+        few-entries = cut-same same cut .few-entries;
+        whole-entries = cut-same same cut .whole-entries;
+        few-units = cut-same same cut .few-units;
       }
 
       on : after .number ≡ 0 → Going g table s₀ w₀ ts (after .state) (inPlace w after .words) (n + 1)

@@ -6,7 +6,7 @@ mod step;
 mod within;
 
 ghost use mathlib.Core.Path.{_≡_};
-ghost use Rattle.recognizer.specs.Answers.{refusalNumber, numberOf, stateOf, outcomeOf, endedOf, finishedNumber, saysYes};
+ghost use Rattle.recognizer.specs.Answers.{refusalNumber, numberOf, stateOf, outcomeOf, endedOf, finishedNumber, saysYes, saysHandle};
 ghost use Rattle.demands.specs.Calls.{Starts, Takes, Runs, Finishes, Reports};
 ghost use Rattle.parse.specs.Words.{wordsOf};
 ghost use Rattle.demands.specs.Sentences.{TokenTells, RunTells, FinishedTells};
@@ -39,6 +39,7 @@ pub enum Refusal {
     ItemsFull,
     QueueFull,
     SetsFull,
+    StoreFull,
 }
 
 // What start and token answer: the state as it is now.
@@ -53,14 +54,14 @@ pub struct Ran {
     pub taken: usize,
 }
 
-// What finished answers.
+// What finished answers: yes with the handle of the start symbol's node.
 pub enum Whether {
-    Yes,
+    Yes(u32),
     No,
     Refused(Refusal),
 }
 
-// Starts a parse: clears the words, and predicts what the wrapper begins with. A refused start hands the old state back.
+// Starts a parse: clears the words, fills the store, and predicts what the wrapper begins with. A refused start hands the old state back.
 pub fn start(
     file: &[u8],
     state: State,
@@ -68,10 +69,11 @@ pub fn start(
     starts: &mut [u32],
     rows: &mut [u64],
     queue: &mut [u32],
+    store: &mut [u16],
 ) -> Answer
     ensures calls { λ r. ⌜ Starts (now (file .entry)) state
-        (wordsOf (now (items .entry)) (now (starts .entry)) (now (rows .entry)) (now (queue .entry)))
-        (outcomeOf r (wordsOf (now (items .exit)) (now (starts .exit)) (now (rows .exit)) (now (queue .exit)))) ⌝ }
+        (wordsOf (now (items .entry)) (now (starts .entry)) (now (rows .entry)) (now (queue .entry)) (now (store .entry)))
+        (outcomeOf r (wordsOf (now (items .exit)) (now (starts .exit)) (now (rows .exit)) (now (queue .exit)) (now (store .exit)))) ⌝ }
 {
     let mut rules = [0; WORDS];
     let sizes = match open(file, &mut rules) {
@@ -83,8 +85,12 @@ pub fn start(
     }
     let table = prediction::table(&rules, sizes.symbols, sizes.rules);
     let row = table[sizes.symbols - 2];
-    begin(&row, items, starts, rows, queue);
-    Answer::Done(State { set: 0, items: 0 })
+    begin(&row, items, starts, rows, queue, store);
+    Answer::Done(State {
+        set: 0,
+        items: 0,
+        used: 0,
+    })
 }
 
 // Reads one token.
@@ -95,16 +101,17 @@ pub fn token(
     starts: &mut [u32],
     rows: &mut [u64],
     queue: &mut [u32],
+    store: &mut [u16],
     t: u16,
 ) -> Answer
     ensures calls { λ r. ⌜ Takes (now (file .entry)) state
-        (wordsOf (now (items .entry)) (now (starts .entry)) (now (rows .entry)) (now (queue .entry))) t
-        (outcomeOf r (wordsOf (now (items .exit)) (now (starts .exit)) (now (rows .exit)) (now (queue .exit)))) ⌝ }
+        (wordsOf (now (items .entry)) (now (starts .entry)) (now (rows .entry)) (now (queue .entry)) (now (store .entry))) t
+        (outcomeOf r (wordsOf (now (items .exit)) (now (starts .exit)) (now (rows .exit)) (now (queue .exit)) (now (store .exit)))) ⌝ }
     ensures sentences { λ r. ⌜ TokenTells (now (file .entry)) state
-        (wordsOf (now (items .entry)) (now (starts .entry)) (now (rows .entry)) (now (queue .entry))) t (numberOf r) ⌝ }
+        (wordsOf (now (items .entry)) (now (starts .entry)) (now (rows .entry)) (now (queue .entry)) (now (store .entry))) t (numberOf r) ⌝ }
 {
     let mut rules = [0; WORDS];
-    let sizes = match ready(file, state, items, starts, rows, queue, &mut rules) {
+    let sizes = match ready(file, state, items, starts, rows, queue, store, &mut rules) {
         Readied::Refused(why) => return Answer::Refused(why, state),
         Readied::Formed(found) => found,
     };
@@ -118,6 +125,7 @@ pub fn token(
         starts,
         rows,
         queue,
+        store,
         t as usize,
     )
 }
@@ -130,19 +138,20 @@ pub fn run(
     starts: &mut [u32],
     rows: &mut [u64],
     queue: &mut [u32],
+    store: &mut [u16],
     tokens: &[u16],
 ) -> Ran
     ensures calls { λ r. ⌜ Runs (now (file .entry)) state
-        (wordsOf (now (items .entry)) (now (starts .entry)) (now (rows .entry)) (now (queue .entry)))
+        (wordsOf (now (items .entry)) (now (starts .entry)) (now (rows .entry)) (now (queue .entry)) (now (store .entry)))
         (now (tokens .entry))
-        (endedOf r (wordsOf (now (items .exit)) (now (starts .exit)) (now (rows .exit)) (now (queue .exit)))) ⌝ }
+        (endedOf r (wordsOf (now (items .exit)) (now (starts .exit)) (now (rows .exit)) (now (queue .exit)) (now (store .exit)))) ⌝ }
     ensures sentences { λ r. ⌜ RunTells (now (file .entry)) state
-        (wordsOf (now (items .entry)) (now (starts .entry)) (now (rows .entry)) (now (queue .entry)))
+        (wordsOf (now (items .entry)) (now (starts .entry)) (now (rows .entry)) (now (queue .entry)) (now (store .entry)))
         (now (tokens .entry))
-        (endedOf r (wordsOf (now (items .exit)) (now (starts .exit)) (now (rows .exit)) (now (queue .exit)))) ⌝ }
+        (endedOf r (wordsOf (now (items .exit)) (now (starts .exit)) (now (rows .exit)) (now (queue .exit)) (now (store .exit)))) ⌝ }
 {
     let mut rules = [0; WORDS];
-    let sizes = match ready(file, state, items, starts, rows, queue, &mut rules) {
+    let sizes = match ready(file, state, items, starts, rows, queue, store, &mut rules) {
         Readied::Refused(why) => return Ran {
             answer: Answer::Refused(why, state),
             taken: 0,
@@ -159,6 +168,7 @@ pub fn run(
         starts,
         rows,
         queue,
+        store,
         tokens,
     )
 }
@@ -171,23 +181,25 @@ pub fn finished(
     starts: &[u32],
     rows: &[u64],
     queue: &[u32],
+    store: &[u16],
 ) -> Whether
     ensures calls { λ r. ⌜ Finishes (now (file .entry)) state
-        (wordsOf (now (items .entry)) (now (starts .entry)) (now (rows .entry)) (now (queue .entry))) (finishedNumber r)
-        (saysYes r) ⌝ }
+        (wordsOf (now (items .entry)) (now (starts .entry)) (now (rows .entry)) (now (queue .entry)) (now (store .entry))) (finishedNumber r)
+        (saysYes r) (saysHandle r) ⌝ }
     ensures sentences { λ r. ⌜ FinishedTells (now (file .entry)) state
-        (wordsOf (now (items .entry)) (now (starts .entry)) (now (rows .entry)) (now (queue .entry))) (finishedNumber r)
+        (wordsOf (now (items .entry)) (now (starts .entry)) (now (rows .entry)) (now (queue .entry)) (now (store .entry))) (finishedNumber r)
         (saysYes r) ⌝ }
 {
     let mut rules = [0; WORDS];
-    match ready(file, state, items, starts, rows, queue, &mut rules) {
+    match ready(file, state, items, starts, rows, queue, store, &mut rules) {
         Readied::Refused(why) => return Whether::Refused(why),
         Readied::Formed(_) => {}
     }
-    if last_wraps(state, items, starts) {
-        return Whether::Yes;
+    if !last_wraps(state, items, starts) {
+        return Whether::No;
     }
-    Whether::No
+    let last = state.items - 1;
+    Whether::Yes(item::handle(items, last))
 }
 
 // The part of the item words that holds the latest set; the answer's number goes into the lent word.
@@ -198,14 +210,15 @@ pub fn latest_set<'a>(
     starts: &[u32],
     rows: &[u64],
     queue: &[u32],
+    store: &[u16],
     number: &mut u32,
 ) -> &'a [u32]
     ensures calls { λ r. ⌜ Reports (now (file .entry)) state
-        (wordsOf (now (items .entry)) (now (starts .entry)) (now (rows .entry)) (now (queue .entry)))
+        (wordsOf (now (items .entry)) (now (starts .entry)) (now (rows .entry)) (now (queue .entry)) (now (store .entry)))
         (now (number .exit)) (now r) ⌝ }
 {
     let mut rules = [0; WORDS];
-    match ready(file, state, items, starts, rows, queue, &mut rules) {
+    match ready(file, state, items, starts, rows, queue, store, &mut rules) {
         Readied::Refused(why) => {
             *number = refusal_number(why);
             return &items[0..0];
@@ -230,6 +243,7 @@ pub fn refusal_number(why: Refusal) -> u32
         Refusal::ItemsFull => 7,
         Refusal::QueueFull => 8,
         Refusal::SetsFull => 9,
+        Refusal::StoreFull => 14,
     }
 }
 

@@ -23,17 +23,18 @@ pub fn ready(
     starts: &[u32],
     rows: &[u64],
     queue: &[u32],
+    store: &[u16],
     rules: &mut Rules,
 ) -> Readied
     ensures { λ r. ⌜ Readies (now (file .entry)) state
-        (wordsOf (now (items .entry)) (now (starts .entry)) (now (rows .entry)) (now (queue .entry)))
+        (wordsOf (now (items .entry)) (now (starts .entry)) (now (rows .entry)) (now (queue .entry)) (now (store .entry)))
         (now (rules .exit)) r ⌝ }
 {
     let sizes = match open(file, rules) {
         Opened::Refused(why) => return Readied::Refused(why),
         Opened::Sound(found) => found,
     };
-    if !well_formed(rules, sizes, state, items, starts, rows, queue) {
+    if !well_formed(rules, sizes, state, items, starts, rows, queue, store) {
         return Readied::Refused(Refusal::IllFormed);
     }
     Readied::Formed(sizes)

@@ -3,10 +3,10 @@ ghost use mathlib.Core.Path.{_≡_};
 ghost use Prim.Native.Nat.{_*_, _≤_, _<_};
 ghost use lib.ListN.{length, replicate, take};
 ghost use Rattle.item.specs.Item.{itemWords};
-ghost use Rattle.completion.specs.Pass.{passOf};
+ghost use Rattle.completion.specs.Pass.{passOver};
 ghost use Rattle.demands.specs.Steps.{completed, stepped};
 ghost use Rattle.recognizer.specs.Answers.{refusalNumber, outcomeOf};
-ghost use Rattle.parse.specs.Words.{wordsOf, padded};
+ghost use Rattle.parse.specs.Words.{wordsOf, padded, filled};
 ghost use Rattle.recognizer.specs.inner.Steppable.{grammarFrom, Steppable, FullAt};
 use crate::Answer;
 use crate::Refusal;
@@ -14,12 +14,16 @@ use crate::Sizes;
 use advance::Advanced;
 use completion::Progress;
 use completion::pass::ITEMS_FULL;
+use completion::pass::QUEUE_FULL;
+use completion::pass::append;
+use completion::sums::complete_all_sums_entirely;
 use grammar::rules::Rules;
 use item::ITEM_WORDS;
+use node::Node;
 use parse::State;
 use prediction::Table;
 
-// Steps 2 and 3: completes the latest set and the token, and then sum after sum.
+// Steps 2 and 3: writes the token's node, completes the latest set and the token, and then sum after sum.
 fn complete_token(
     rules: &Rules,
     sizes: Sizes,
@@ -29,20 +33,25 @@ fn complete_token(
     starts: &[u32],
     rows: &[u64],
     queue: &mut [u32],
+    store: &mut [u16],
     t: usize,
 ) -> Progress
     requires { ⌜ Steppable (grammarFrom (now rules) sizes) (now table) state
-        (wordsOf (now items) (now starts) (now rows) (now queue)) × (t < sizes .tokens) ⌝ }
-    ensures { λ r. ⌜ passOf r (now (items .exit)) (now (queue .exit))
+        (wordsOf (now items) (now starts) (now rows) (now queue) (now store)) × (t < sizes .tokens) ⌝ }
+    ensures { λ r. ⌜ passOver r (now (items .exit)) (now (queue .exit)) (now (store .exit))
         ≡ completed (grammarFrom (now (rules .entry)) sizes) state
-        (wordsOf (now (items .entry)) (now (starts .entry)) (now (rows .entry)) (now (queue .entry))) t ⌝ }
+        (wordsOf (now (items .entry)) (now (starts .entry)) (now (rows .entry)) (now (queue .entry)) (now (store .entry))) t ⌝ }
 {
     let count = sizes.rules;
     let begun = Progress {
         stopped: 0,
         items: state.items,
         queued: 0,
+        used: state.used,
     };
+    let symbol = t as u32;
+    let link = state.used as u32;
+    let written = append(store, Node::Evaluated { symbol }, begun);
     let scanned = completion::complete(
         rules,
         count,
@@ -52,25 +61,37 @@ fn complete_token(
         queue,
         state.set,
         t,
-        begun,
+        link,
+        written,
     );
-    completion::sums::complete_all_sums_entirely(rules, count, items, starts, rows, queue, scanned)
+    complete_all_sums_entirely(rules, count, items, starts, rows, queue, store, scanned)
 }
 
-// Clears what a refused pass stored and queued.
-fn give_up(items: &mut [u32], queue: &mut [u32], stored: usize)
-    requires { ⌜ itemWords * stored ≤ length (now items) ⌝ }
+// Makes fillers of the units that a refused token wrote.
+fn unwrite(store: &mut [u16], used: usize)
+    requires { ⌜ used ≤ length (now store) ⌝ }
+    ensures { λ _. ⌜ now (store .exit) ≡ filled (length (now (store .entry))) (take used (now (store .entry))) ⌝ }
+{
+    let units = store.len();
+    parse::words::fill(store, used, units);
+}
+
+// Clears what a refused pass stored and queued, and what it wrote.
+fn give_up(items: &mut [u32], queue: &mut [u32], store: &mut [u16], stored: usize, used: usize)
+    requires { ⌜ (itemWords * stored ≤ length (now items)) × (used ≤ length (now store)) ⌝ }
     ensures items { λ _. ⌜ now (items .exit) ≡ padded (length (now (items .entry)))
         (take (itemWords * stored) (now (items .entry))) ⌝ }
     ensures queue { λ _. ⌜ now (queue .exit) ≡ padded (length (now (queue .entry))) (take 0 (now (queue .entry))) ⌝ }
+    ensures store { λ _. ⌜ now (store .exit) ≡ filled (length (now (store .entry))) (take used (now (store .entry))) ⌝ }
 {
     let item_words = items.len();
     parse::words::clear(items, ITEM_WORDS * stored, item_words);
     let entries = queue.len();
     parse::words::clear(queue, 0, entries);
+    unwrite(store, used);
 }
 
-// The refusal of the push that a pass met.
+// The refusal that a pass met: of a push, or of a node.
 fn full(stopped: u32) -> Refusal
     requires { ⌜ FullAt stopped ⌝ }
     ensures { λ r. ⌜ refusalNumber r ≡ stopped ⌝ }
@@ -78,7 +99,10 @@ fn full(stopped: u32) -> Refusal
     if stopped == ITEMS_FULL {
         return Refusal::ItemsFull;
     }
-    Refusal::QueueFull
+    if stopped == QUEUE_FULL {
+        return Refusal::QueueFull;
+    }
+    Refusal::StoreFull
 }
 
 // A token: steps 1 to 6, or the refusal that they meet, which leaves state and words as they were.
@@ -91,14 +115,15 @@ pub fn step(
     starts: &mut [u32],
     rows: &mut [u64],
     queue: &mut [u32],
+    store: &mut [u16],
     t: usize,
 ) -> Answer
     requires { ⌜ Steppable (grammarFrom (now rules) sizes) (now table) state
-        (wordsOf (now items) (now starts) (now rows) (now queue)) ⌝ }
+        (wordsOf (now items) (now starts) (now rows) (now queue) (now store)) ⌝ }
     ensures { λ r. ⌜ outcomeOf r
-        (wordsOf (now (items .exit)) (now (starts .exit)) (now (rows .exit)) (now (queue .exit)))
+        (wordsOf (now (items .exit)) (now (starts .exit)) (now (rows .exit)) (now (queue .exit)) (now (store .exit)))
         ≡ stepped (grammarFrom (now (rules .entry)) sizes) (now (table .entry)) state
-        (wordsOf (now (items .entry)) (now (starts .entry)) (now (rows .entry)) (now (queue .entry))) t ⌝ }
+        (wordsOf (now (items .entry)) (now (starts .entry)) (now (rows .entry)) (now (queue .entry)) (now (store .entry))) t ⌝ }
 {
     if t >= sizes.tokens {
         return Answer::Refused(Refusal::NoToken, state);
@@ -107,17 +132,36 @@ pub fn step(
     if !bits::has_at(rows, e, t) {
         return Answer::Refused(Refusal::NotPredicted, state);
     }
-    let pass = complete_token(rules, sizes, table, state, items, starts, rows, queue, t);
+    let pass = complete_token(
+        rules,
+        sizes,
+        table,
+        state,
+        items,
+        starts,
+        rows,
+        queue,
+        store,
+        t,
+    );
     let stopped = pass.stopped;
     if stopped != 0 {
-        give_up(items, queue, state.items);
+        give_up(items, queue, store, state.items, state.used);
         return Answer::Refused(full(stopped), state);
     }
     let count = sizes.rules;
     let to = pass.items;
-    let advanced = advance::advance(rules, count, table, state, items, starts, rows, to);
+    let reached = State {
+        set: e,
+        items: state.items,
+        used: pass.used,
+    };
+    let advanced = advance::advance(rules, count, table, reached, items, starts, rows, to);
     match advanced {
-        Advanced::Refused => Answer::Refused(Refusal::SetsFull, state),
+        Advanced::Refused => {
+            unwrite(store, state.used);
+            Answer::Refused(Refusal::SetsFull, state)
+        }
         Advanced::Done(next) => Answer::Done(next),
     }
 }

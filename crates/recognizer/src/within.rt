@@ -18,6 +18,7 @@ use crate::Answer;
 use crate::Ran;
 use crate::Sizes;
 use crate::step::step;
+use binary_heap::entry::ENTRY_WORDS;
 use bits::Row;
 use bits::WIDTH;
 use grammar::rules::Rules;
@@ -27,8 +28,10 @@ use parse::State;
 use parse::room::item_room;
 use parse::room::queue_room;
 use parse::room::set_room;
+use parse::room::store_room;
 use parse::words::clear;
 use parse::words::clear_rows;
+use parse::words::fill;
 use prediction::Table;
 
 // Whether the state is well formed in the words within the capacities.
@@ -40,11 +43,12 @@ pub fn well_formed(
     starts: &[u32],
     rows: &[u64],
     queue: &[u32],
+    store: &[u16],
 ) -> bool
     requires { ⌜ sizes .rules ≤ maxRules ⌝ }
     ensures { λ r. ⌜ Decides r
         (WellFormed (sizes .symbols) (rulesIn (now (rules .entry)) (sizes .rules)) state
-        (within (wordsOf (now (items .entry)) (now (starts .entry)) (now (rows .entry)) (now (queue .entry))))) ⌝ }
+        (within (wordsOf (now (items .entry)) (now (starts .entry)) (now (rows .entry)) (now (queue .entry)) (now (store .entry))))) ⌝ }
 {
     let sets = set_room(starts, rows);
     if sets == 0 {
@@ -53,7 +57,8 @@ pub fn well_formed(
     let item_end = ITEM_WORDS * item_room(items);
     let start_end = sets + 1;
     let row_end = WIDTH * sets;
-    let queue_end = queue_room(queue);
+    let queue_end = ENTRY_WORDS * queue_room(queue);
+    let store_end = store_room(store);
     parse::well_formed(
         rules,
         sizes.symbols,
@@ -63,6 +68,7 @@ pub fn well_formed(
         &starts[..start_end],
         &rows[..row_end],
         &queue[..queue_end],
+        &store[..store_end],
     )
 }
 
@@ -76,21 +82,23 @@ pub fn step_within(
     starts: &mut [u32],
     rows: &mut [u64],
     queue: &mut [u32],
+    store: &mut [u16],
     t: usize,
 ) -> Answer
     requires { ⌜ Steppable (grammarFrom (now rules) sizes) (now table) state
-        (within (wordsOf (now items) (now starts) (now rows) (now queue))) ⌝ }
+        (within (wordsOf (now items) (now starts) (now rows) (now queue) (now store))) ⌝ }
     ensures { λ r. ⌜ outcomeOf r
-        (wordsOf (now (items .exit)) (now (starts .exit)) (now (rows .exit)) (now (queue .exit)))
-        ≡ inPlace (wordsOf (now (items .entry)) (now (starts .entry)) (now (rows .entry)) (now (queue .entry)))
+        (wordsOf (now (items .exit)) (now (starts .exit)) (now (rows .exit)) (now (queue .exit)) (now (store .exit)))
+        ≡ inPlace (wordsOf (now (items .entry)) (now (starts .entry)) (now (rows .entry)) (now (queue .entry)) (now (store .entry)))
         (stepped (grammarFrom (now (rules .entry)) sizes) (now (table .entry)) state
-        (within (wordsOf (now (items .entry)) (now (starts .entry)) (now (rows .entry)) (now (queue .entry)))) t) ⌝ }
+        (within (wordsOf (now (items .entry)) (now (starts .entry)) (now (rows .entry)) (now (queue .entry)) (now (store .entry)))) t) ⌝ }
 {
     let item_end = ITEM_WORDS * item_room(items);
     let sets = set_room(starts, rows);
     let start_end = sets + 1;
     let row_end = WIDTH * sets;
-    let queue_end = queue_room(queue);
+    let queue_end = ENTRY_WORDS * queue_room(queue);
+    let store_end = store_room(store);
     step(
         rules,
         sizes,
@@ -100,6 +108,7 @@ pub fn step_within(
         &mut starts[..start_end],
         &mut rows[..row_end],
         &mut queue[..queue_end],
+        &mut store[..store_end],
         t,
     )
 }
@@ -114,22 +123,34 @@ pub fn run_within(
     starts: &mut [u32],
     rows: &mut [u64],
     queue: &mut [u32],
+    store: &mut [u16],
     tokens: &[u16],
 ) -> Ran
     requires { ⌜ Steppable (grammarFrom (now rules) sizes) (now table) state
-        (within (wordsOf (now items) (now starts) (now rows) (now queue))) × Predicts (grammarFrom (now rules) sizes)
+        (within (wordsOf (now items) (now starts) (now rows) (now queue) (now store))) × Predicts (grammarFrom (now rules) sizes)
         rowWords (now table) ⌝ }
-    ensures { λ r. ⌜ endedOf r (wordsOf (now (items .exit)) (now (starts .exit)) (now (rows .exit)) (now (queue .exit)))
-        ≡ inPlaceEnded (wordsOf (now (items .entry)) (now (starts .entry)) (now (rows .entry)) (now (queue .entry)))
+    ensures { λ r. ⌜ endedOf r (wordsOf (now (items .exit)) (now (starts .exit)) (now (rows .exit)) (now (queue .exit)) (now (store .exit)))
+        ≡ inPlaceEnded (wordsOf (now (items .entry)) (now (starts .entry)) (now (rows .entry)) (now (queue .entry)) (now (store .entry)))
         (ran (grammarFrom (now (rules .entry)) sizes) (now (table .entry)) state
-        (within (wordsOf (now (items .entry)) (now (starts .entry)) (now (rows .entry)) (now (queue .entry))))
+        (within (wordsOf (now (items .entry)) (now (starts .entry)) (now (rows .entry)) (now (queue .entry)) (now (store .entry))))
         (now (tokens .entry))) ⌝ }
 {
     let mut now = state;
     let mut taken = 0;
     while taken < tokens.len() {
         let t = token_number(tokens[taken]);
-        match step_within(rules, sizes, table, now, items, starts, rows, queue, t) {
+        match step_within(
+            rules,
+            sizes,
+            table,
+            now,
+            items,
+            starts,
+            rows,
+            queue,
+            store,
+            t,
+        ) {
             Answer::Done(next) => now = next,
             Answer::Refused(why, kept) => return Ran {
                 answer: Answer::Refused(why, kept),
@@ -144,12 +165,19 @@ pub fn run_within(
     }
 }
 
-// Clears words, and puts a row into row 0.
-fn clear_all(row: &Row, items: &mut [u32], starts: &mut [u32], rows: &mut [u64], queue: &mut [u32])
+// Clears words, fills the store, and puts a row into row 0.
+fn clear_all(
+    row: &Row,
+    items: &mut [u32],
+    starts: &mut [u32],
+    rows: &mut [u64],
+    queue: &mut [u32],
+    store: &mut [u16],
+)
     requires { ⌜ (rowWords ≤ length (now rows)) × (length (now row) ≡ rowWords) ⌝ }
-    ensures { λ _. ⌜ wordsOf (now (items .exit)) (now (starts .exit)) (now (rows .exit)) (now (queue .exit))
+    ensures { λ _. ⌜ wordsOf (now (items .exit)) (now (starts .exit)) (now (rows .exit)) (now (queue .exit)) (now (store .exit))
         ≡ clearedWords (now (row .entry))
-        (wordsOf (now (items .entry)) (now (starts .entry)) (now (rows .entry)) (now (queue .entry))) ⌝ }
+        (wordsOf (now (items .entry)) (now (starts .entry)) (now (rows .entry)) (now (queue .entry)) (now (store .entry))) ⌝ }
 {
     let item_end = items.len();
     clear(items, 0, item_end);
@@ -159,27 +187,38 @@ fn clear_all(row: &Row, items: &mut [u32], starts: &mut [u32], rows: &mut [u64],
     clear_rows(rows, 0, row_end);
     let queue_end = queue.len();
     clear(queue, 0, queue_end);
+    let store_end = store.len();
+    fill(store, 0, store_end);
     bits::put_at(rows, 0, row);
 }
 
-// Clears the words within the capacities, and puts a row into row 0. The words past them stay.
-pub fn begin(row: &Row, items: &mut [u32], starts: &mut [u32], rows: &mut [u64], queue: &mut [u32])
+// The same of the words within the capacities. The words past them stay.
+pub fn begin(
+    row: &Row,
+    items: &mut [u32],
+    starts: &mut [u32],
+    rows: &mut [u64],
+    queue: &mut [u32],
+    store: &mut [u16],
+)
     requires { ⌜ (0 < setRoomOf (now starts) (now rows)) × (length (now row) ≡ rowWords) ⌝ }
-    ensures { λ _. ⌜ wordsOf (now (items .exit)) (now (starts .exit)) (now (rows .exit)) (now (queue .exit))
+    ensures { λ _. ⌜ wordsOf (now (items .exit)) (now (starts .exit)) (now (rows .exit)) (now (queue .exit)) (now (store .exit))
         ≡ begunWords (now (row .entry))
-        (wordsOf (now (items .entry)) (now (starts .entry)) (now (rows .entry)) (now (queue .entry))) ⌝ }
+        (wordsOf (now (items .entry)) (now (starts .entry)) (now (rows .entry)) (now (queue .entry)) (now (store .entry))) ⌝ }
 {
     let item_end = ITEM_WORDS * item_room(items);
     let sets = set_room(starts, rows);
     let start_end = sets + 1;
     let row_end = WIDTH * sets;
-    let queue_end = queue_room(queue);
+    let queue_end = ENTRY_WORDS * queue_room(queue);
+    let store_end = store_room(store);
     clear_all(
         row,
         &mut items[..item_end],
         &mut starts[..start_end],
         &mut rows[..row_end],
         &mut queue[..queue_end],
+        &mut store[..store_end],
     );
 }
 

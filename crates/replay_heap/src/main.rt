@@ -1,5 +1,6 @@
 // Replays recorded pop orders of the Rust, entries with equal keys included: standard input is oracle/vectors/heap.txt. Tells how many
-// records and pops there were, how many pops gave another entry than the Rust, and how many words of the queue were left uncleared.
+// records and pops there were, how many pops gave another entry than the Rust, and how many words of the queue were left uncleared. The
+// Rust's entries are places alone; here each is pushed with a right factor of its place, and must come out with it.
 use binary_heap::Popped;
 use binary_heap::Pushed;
 use binary_heap::entry::ENTRY_WORDS;
@@ -10,12 +11,12 @@ ghost use mathlib.Core.Path.{_≡_};
 ghost use Rattle.binary_heap.specs.Entry.{entriesIn};
 ghost use Rattle.binary_heap.specs.Queue.{Places};
 
-// The text, the items of a record, and the entries of its queue at most.
+// The text, the words of a record's items, and those of its queue at most: 1,024 items and as many entries.
 const TEXT: usize = 262_144;
 
-const ITEMS: usize = 2048;
+const ITEMS: usize = 3072;
 
-const QUEUE: usize = 1024;
+const QUEUE: usize = 2048;
 
 // Where the replay stands: the places in the text of the next operation and of the next recorded answer, the number of entries in the
 // queue, the pops so far, and how many of them went otherwise than recorded.
@@ -118,7 +119,7 @@ fn store(items: &mut [u32], place: usize, origin: u32, rule: u32) -> usize {
     if place >= items.len() / ITEM_WORDS {
         return place;
     }
-    item::write(items, place, origin, rule);
+    item::write(items, place, origin, rule, 0);
     place + 1
 }
 
@@ -173,7 +174,7 @@ fn push(items: &[u32], queue: &mut [u32], r: Replay, next: usize, place: u32) ->
         return refused(r, next, r.answer);
     }
     let capacity = queue.len() / ENTRY_WORDS;
-    match binary_heap::push(items, queue, capacity, r.entries, place) {
+    match binary_heap::push(items, queue, capacity, r.entries, place, factor(place)) {
         Pushed::Count(entries) => Replay {
             operation: next,
             answer: r.answer,
@@ -192,12 +193,12 @@ fn pop(text: &[u8], items: &[u32], queue: &mut [u32], r: Replay, next: usize) ->
 {
     let recorded = numbers::read(text, r.answer);
     match binary_heap::pop(items, queue, r.entries) {
-        Popped::Entry { entry, left } => Replay {
+        Popped::Entry { place, right, left } => Replay {
             operation: next,
             answer: recorded.next,
             entries: left,
             pops: wrapping_add_u64(r.pops, 1),
-            different: wrapping_add_u64(r.different, differs(entry, recorded.value)),
+            different: wrapping_add_u64(r.different, differs(place, right, recorded.value)),
         },
         Popped::Empty => refused(r, next, recorded.next),
     }
@@ -216,9 +217,17 @@ fn refused(r: Replay, operation: usize, answer: usize) -> Replay
     }
 }
 
-// 1 where the entry is not the recorded one.
-fn differs(entry: u32, recorded: u64) -> u64 {
-    if entry as u64 == recorded { 0 } else { 1 }
+// The right factor that a place is pushed with, another for each.
+fn factor(place: u32) -> u32 {
+    low(place as u64 + 1)
+}
+
+// 1 where the entry is not the recorded one, or has not its right factor.
+fn differs(place: u32, right: u32, recorded: u64) -> u64 {
+    if right != factor(place) {
+        return 1;
+    }
+    if place as u64 == recorded { 0 } else { 1 }
 }
 
 // The low 32 bits.

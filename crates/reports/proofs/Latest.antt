@@ -38,7 +38,8 @@ unfolding itemsFrom
 items-cut words m from zero l = refl
 items-cut words m from (suc k) l =
     ap₂ (λ (i : Item) (is : List Item). i ∷ is)
-    (item-eq (take m words) words from from (getD-take m words (itemWords * from) 0 (omega arith)) (getD-take m words (itemWords * from + 1) 0 (omega arith)))
+    (item-eq (take m words) words from from (getD-take m words (itemWords * from) 0 (omega arith)) (getD-take m words (itemWords * from + 1) 0 (omega arith))
+    (getD-take m words (itemWords * from + 2) 0 (omega arith)))
     (items-cut words m (from + 1) k (omega arith))
 
 module _ (n : ℕ) (rs : List Rule) (s : State) (w : Words) (well : WellFormed n rs s (within w)) where

@@ -45,17 +45,18 @@ pub fn expected(
     starts: &[u32],
     rows: &[u64],
     queue: &[u32],
+    store: &[u16],
     tokens: &mut [u16],
 ) -> Filled
     ensures calls { λ r. ⌜ Lists (now (file .entry)) state
-        (wordsOf (now (items .entry)) (now (starts .entry)) (now (rows .entry)) (now (queue .entry))) expectedTokens
+        (wordsOf (now (items .entry)) (now (starts .entry)) (now (rows .entry)) (now (queue .entry)) (now (store .entry))) expectedTokens
         (now (tokens .entry)) (filledNumber r) (filledCount r) (now (tokens .exit)) ⌝ }
     ensures sentences { λ r. ⌜ ExpectedTells (now (file .entry)) state
-        (wordsOf (now (items .entry)) (now (starts .entry)) (now (rows .entry)) (now (queue .entry)))
+        (wordsOf (now (items .entry)) (now (starts .entry)) (now (rows .entry)) (now (queue .entry)) (now (store .entry)))
         (filledNumber r) (take (filledCount r) (now (tokens .exit))) ⌝ }
 {
     let mut rules = [0; WORDS];
-    let sizes = match ready(file, state, items, starts, rows, queue, &mut rules) {
+    let sizes = match ready(file, state, items, starts, rows, queue, store, &mut rules) {
         Readied::Refused(why) => return Filled::Refused(why),
         Readied::Formed(found) => found,
     };
@@ -71,14 +72,15 @@ pub fn listing(
     starts: &[u32],
     rows: &[u64],
     queue: &[u32],
+    store: &[u16],
     text: &mut [u8],
 ) -> Filled
     ensures calls { λ r. ⌜ Lists (now (file .entry)) state
-        (wordsOf (now (items .entry)) (now (starts .entry)) (now (rows .entry)) (now (queue .entry))) latestText
+        (wordsOf (now (items .entry)) (now (starts .entry)) (now (rows .entry)) (now (queue .entry)) (now (store .entry))) latestText
         (now (text .entry)) (filledNumber r) (filledCount r) (now (text .exit)) ⌝ }
 {
     let mut rules = [0; WORDS];
-    let sizes = match ready(file, state, items, starts, rows, queue, &mut rules) {
+    let sizes = match ready(file, state, items, starts, rows, queue, store, &mut rules) {
         Readied::Refused(why) => return Filled::Refused(why),
         Readied::Formed(found) => found,
     };
@@ -95,14 +97,15 @@ pub fn latest_words(
     starts: &[u32],
     rows: &[u64],
     queue: &[u32],
+    store: &[u16],
     words: &mut [u32],
 ) -> Filled
     ensures calls { λ r. ⌜ Lists (now (file .entry)) state
-        (wordsOf (now (items .entry)) (now (starts .entry)) (now (rows .entry)) (now (queue .entry))) latestWords
+        (wordsOf (now (items .entry)) (now (starts .entry)) (now (rows .entry)) (now (queue .entry)) (now (store .entry))) latestWords
         (now (words .entry)) (filledNumber r) (filledCount r) (now (words .exit)) ⌝ }
 {
     let mut rules = [0; WORDS];
-    let sizes = match ready(file, state, items, starts, rows, queue, &mut rules) {
+    let sizes = match ready(file, state, items, starts, rows, queue, store, &mut rules) {
         Readied::Refused(why) => return Filled::Refused(why),
         Readied::Formed(found) => found,
     };

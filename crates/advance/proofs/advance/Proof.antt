@@ -84,18 +84,18 @@ same-length-2 : tie.Need-same-length-2
 same-length-2 c =
     let items-made = c .before .before .before .before .before .before .before .before .before .before .before .before .before .before .before .before .new-items in
     let set-made = c .before .before .before .before .before .before .next-set in
-    set-made .kept .1 .1 .1 .1 .0
+    set-made .kept .1 .1 .1 .1 .1 .0
     ∙ items-made .kept .1 .1 .0
 
 same-length-3 : tie.Need-same-length-3
 same-length-3 c =
     let set-made = c .before .before .before .before .before .before .next-set in
-    set-made .kept .1 .1 .1 .1 .1 .0
+    set-made .kept .1 .1 .1 .1 .1 .1 .0
 
 same-length-4 : tie.Need-same-length-4
 same-length-4 c =
     let set-made = c .before .before .before .before .before .before .next-set in
-    set-made .kept .1 .1 .1 .1 .1 .1 .0
+    set-made .kept .1 .1 .1 .1 .1 .1 .1 .0
 
 returns-2 : tie.Need-returns-2
 returns-2 c =

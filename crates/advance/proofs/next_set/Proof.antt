@@ -68,8 +68,8 @@ prediction-pass-requires c κs =
     let pruned = c .before .before .before .before .before .before .before .before .remove-unreachable-sets in
     follows-asks _ _ _ _ _ _ _ _ _ _ required _ _ _ _ _ (kept-found .ensures) (pruned .ensures)
 
-add-t22 : tie.Need-add-t22
-add-t22 c = search needs
+add-t23 : tie.Need-add-t23
+add-t23 c = search needs
 
 same-length : tie.Need-same-length
 same-length c =
@@ -92,7 +92,7 @@ returns c =
     let required = c .before .before .before .before .before .before .before .before .before .before .before .before .before .before .before .before .before .before .before .pre in
     let kept-found = c .before .before .before .before .before .before .before .before .before .before .before .before .before .before .before .last-kept in
     let pruned = c .before .before .before .before .before .before .before .before .before .before .before .remove-unreachable-sets in
-    follows _ _ _ _ _ _ _ _ _ _ required _ _ _ _ _ (kept-found .ensures) (pruned .ensures)
+    follows _ _ _ _ _ _ _ _ _ _ required _ _ _ _ _ (kept-found .ensures) (pruned .ensures) _
     (c .before .before .prediction-pass .ensures)
 
 pub next-set-spec : {M : Type 1} → statement M
@@ -109,7 +109,7 @@ next-set-spec =
     slice-write-starts
     add-prediction-pass
     prediction-pass-requires
-    add-t22
+    add-t23
     same-length
     same-length-2
     same-length-3

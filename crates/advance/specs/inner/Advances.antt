@@ -14,9 +14,9 @@ use Rattle.advance.specs.declared.Advanced.{Advanced}
 use Rattle.advance.specs.NewItems.{newItems}
 use Rattle.advance.specs.Advance.{greatestOrigin, lastKept, keptRows, predictions, ending, nextState, nextWords}
 
--- The lent words that steps 4 to 6 touch. The queue is empty by then.
+-- The lent words that steps 4 to 6 touch. The queue is empty by then, and no node is written any more.
 abbrev pub lent : List ℕ → List ℕ → List ℕ → Words
-lent items starts rows = record { items = items; starts = starts; rows = rows; queue = [] }
+lent items starts rows = record { items = items; starts = starts; rows = rows; queue = []; store = [] }
 
 -- Step 5, of sets 0..e: the new items `new` stand from `start` on, behind the sets that are kept, and every other word is 0.
 pub record Pruned (e m : ℕ) (items starts rows : List ℕ) (new : List Item) (start : ℕ) (items′ starts′ rows′ : List ℕ) : Type 0 where
@@ -26,8 +26,8 @@ pub record Pruned (e m : ℕ) (items starts rows : List ℕ) (new : List Item) (
   pub rows-are : rows′ ≡ padded (length rows) (keptRows e m rows)
 
 -- Steps 5 and 6 put the new items behind the sets that are kept.
-pub record Follows (e m : ℕ) (v : Words) (new : List Item) (row : List ℕ) (s : State) (v′ : Words) : Type 0 where
-  pub state-is : s ≡ nextState (lastKept e m) v new
+pub record Follows (used e m : ℕ) (v : Words) (new : List Item) (row : List ℕ) (s : State) (v′ : Words) : Type 0 where
+  pub state-is : s ≡ nextState used (lastKept e m) v new
   pub items-are : v′ .items ≡ nextWords e m v new row .items
   pub starts-are : v′ .starts ≡ nextWords e m v new row .starts
   pub rows-are : v′ .rows ≡ nextWords e m v new row .rows
@@ -48,11 +48,11 @@ hasRoom rs s v to = ltb (keptOf rs s v to + 1) (length (v .rows) / rowWords)
 
 unfoldable pub advanceAnswer : List Rule → State → Words → ℕ → Advanced
 advanceAnswer rs s v to =
-    elim (hasRoom rs s v to) [ true ↦ Advanced.Done (nextState (keptOf rs s v to) v (newOf rs s v to)) | false ↦ Advanced.Refused ]
+    elim (hasRoom rs s v to) [ true ↦ Advanced.Done (nextState (s .used) (keptOf rs s v to) v (newOf rs s v to)) | false ↦ Advanced.Refused ]
 
 -- The words of the sets 0..e alone.
 abbrev pub withoutNew : State → Words → Words
-withoutNew s v = record { items = ending (v .items) (s .items) []; starts = v .starts; rows = v .rows; queue = v .queue }
+withoutNew s v = record { items = ending (v .items) (s .items) []; starts = v .starts; rows = v .rows; queue = v .queue; store = v .store }
 
 unfoldable pub advanceWords : List Rule → List (List ℕ) → State → Words → ℕ → Words
 advanceWords rs table s v to =

@@ -28,7 +28,7 @@ returns c =
     let given = c .before .before .before .before .before .before .args in
     let rs = rulesIn (given .rules .now) (given .count) in
     let s = passOf (given .at) (given .items .now) (given .queue .now) in
-    sym (complete-passed rs (given .starts .now) (given .rows .now) (given .k) (given .x) s (sym (c .before .has-at .ensures) ∙ not-true (c .before .has-at .result) (c .if1 .taken)))
+    sym (complete-passed rs (given .starts .now) (given .rows .now) (given .k) (given .x) (given .link) s (sym (c .before .has-at .ensures) ∙ not-true (c .before .has-at .result) (c .if1 .taken)))
 
 -- src/lib.rt:45:9
 complete-medial-items-requires : tie.Need-complete-medial-items-requires
@@ -50,7 +50,7 @@ complete-unary-predictions-requires c κs =
       has-row (given .starts .now) (given .rows .now) (given .k) (required .0 .1) (required .1 .0 .0),
       subst PassFits (sym
           (c .before .before .before .before .complete-medial-items .ensures))
-          (medials-sound rs (given .starts .now) (given .k) (given .x) s (required .1 .1 .0) (required .1 .1 .1)),
+          (medials-sound rs (given .starts .now) (given .k) (given .x) (given .link) s (required .1 .1 .0) (required .1 .1 .1)),
     )
 
 -- src/lib.rt:56:5
@@ -81,9 +81,9 @@ returns-2 c =
     let rs = rulesIn (given .rules .now) (given .count) in
     let s = passOf (given .at) (given .items .now) (given .queue .now) in
     c .before .before .complete-binary-predictions .ensures (unary-completed .last .1 .1 .1 .1 .0)
-    ∙ ap (λ (u : Pass). completeBinaryPredictions rs (given .rows .now) (given .k) (given .x) u)
-    (unary-completed .ensures ∙ ap (λ (u : Pass). completeUnaryPredictions rs (given .rows .now) (given .k) (given .x) u) (medial-completed .ensures))
-    ∙ sym (complete-parts rs (given .starts .now) (given .rows .now) (given .k) (given .x) s (sym (looked-up .ensures) ∙ not-false (looked-up .result) (prediction-tested .left)))
+    ∙ ap (λ (u : Pass). completeBinaryPredictions rs (given .rows .now) (given .k) (given .x) (given .link) u)
+    (unary-completed .ensures ∙ ap (λ (u : Pass). completeUnaryPredictions rs (given .rows .now) (given .k) (given .x) (given .link) u) (medial-completed .ensures))
+    ∙ sym (complete-parts rs (given .starts .now) (given .rows .now) (given .k) (given .x) (given .link) s (sym (looked-up .ensures) ∙ not-false (looked-up .result) (prediction-tested .left)))
 
 pub complete-spec : {M : Type 1} → statement M
 complete-spec =

@@ -9,7 +9,8 @@ use Rattle.item.specs.Item.{itemWords, itemAt, originAt, ruleAt}
 use Rattle.binary_heap.specs.Sift.{entryAt}
 use Rattle.grammar.specs.Rules.{Rule, noRule}
 use Rattle.grammar.specs.Accepted.{maxRules}
-use Rattle.parse.specs.Words.{maxItems, maxSets}
+use Rattle.node.specs.Writing.{usableUnits}
+use Rattle.parse.specs.Words.{maxItems, maxSets, maxQueued}
 use Rattle.parse.specs.WellFormed.{secondOf}
 use Rattle.completion.specs.Pass.{Pass}
 
@@ -27,8 +28,14 @@ pub record HasRow (rows : List ℕ) (k : ℕ) : Type 0 where
 pub record PassFits (s : Pass) : Type 0 where
   pub few-items : length (s .items) ≤ itemWords * maxItems
   pub items-fit : s .at .items ≤ length (s .items) / itemWords
+  pub few-entries : length (s .queue) ≤ maxQueued
   pub queued-fit : s .at .queued ≤ length (s .queue)
   pub entries : (i : ℕ) → i < s .at .queued → entryAt (s .queue) i .place < s .at .items
+
+-- The used units are among those of a store.
+pub record UnitsFit (s : Pass) : Type 0 where
+  pub few-units : length (s .units) ≤ usableUnits
+  pub used-fit : s .at .used ≤ length (s .units)
 
 -- `k` is a set: the places of its items do not run backwards, and the start behind them is there.
 pub record IsSet (starts : List ℕ) (k : ℕ) : Type 0 where

@@ -21,7 +21,7 @@ wide-requires : tie.Need-wide-requires
 wide-requires c κs = search needs
 
 report-requires : tie.Need-report-requires
-report-requires c κs = search needs
+report-requires c κs = c .before .before .before .before .before .before .before .before .before .before .before .before .before .before .before .before .before .before .before .before .before .before .before .before .before .before .before .before .before .before .before .before .before .pre
 
 same-length : tie.Need-same-length
 same-length c = search needs
@@ -38,10 +38,13 @@ same-length-4 c = search needs
 same-length-5 : tie.Need-same-length-5
 same-length-5 c = search needs
 
+same-length-6 : tie.Need-same-length-6
+same-length-6 c = search needs
+
 returns : tie.Need-returns
 returns c =
-    let ran = c .before .before .before .before .before .before .before .before .before .before .before .before .before .before .before .before .before .before .before .before .read-tokens in
-    let left = c .before .before .before .before .before .before .before .before .before .before .before .state-of in
+    let ran = c .before .before .before .before .before .before .before .before .before .before .before .before .before .before .before .before .before .before .before .before .before .before .before .read-tokens in
+    let left = c .before .before .before .before .before .before .before .before .before .before .before .before .state-of in
     let asked = c .before .before .before .before .before .before .is-finished in
     (c .before .before .report .ensures .0, followed (ran .result) (ran .ensures) (left .ensures) (asked .ensures) (c .before .before .before .wide .ensures ∙ c .before .before .before .before .number-of .ensures) (c .before .before .report .ensures .1))
 
@@ -60,4 +63,5 @@ follow-spec =
     same-length-3
     same-length-4
     same-length-5
+    same-length-6
     returns)

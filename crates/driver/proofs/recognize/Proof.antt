@@ -41,15 +41,15 @@ same-length-4 c = search needs
 same-length-5 : tie.Need-same-length-5
 same-length-5 c = search needs
 
-returns : tie.Need-returns
-returns c =
-    let started = c .before .before .before .before .before .before .before .before .before .before .before .before .before .before .before .before .before .before .before .before .before .before .before .before .before .before .before .start in
-    let state-told = c .before .before .before .before .before .before .before .before .before .before .before .before .before .before .before .before .before .state in
-    let lines-put = c .before .before .before .before .before .before .before .before .before .before .follow in
-    (lines-put .ensures .0, started-lines (started .ensures) (state-told .given .1) (lines-put .ensures .1))
-
 same-length-6 : tie.Need-same-length-6
 same-length-6 c = search needs
+
+returns : tie.Need-returns
+returns c =
+    let started = c .before .before .before .before .before .before .before .before .before .before .before .before .before .before .before .before .before .before .before .before .before .before .before .before .before .before .before .before .before .before .before .before .start in
+    let state-told = c .before .before .before .before .before .before .before .before .before .before .before .before .before .before .before .before .before .before .before .before .state in
+    let lines-put = c .before .before .before .before .before .before .before .before .before .before .before .before .follow in
+    (lines-put .ensures .0, started-lines (started .ensures) (state-told .given .1) (lines-put .ensures .1))
 
 same-length-7 : tie.Need-same-length-7
 same-length-7 c = search needs
@@ -63,9 +63,15 @@ same-length-9 c = search needs
 same-length-10 : tie.Need-same-length-10
 same-length-10 c = search needs
 
+same-length-11 : tie.Need-same-length-11
+same-length-11 c = search needs
+
+same-length-12 : tie.Need-same-length-12
+same-length-12 c = search needs
+
 returns-2 : tie.Need-returns-2
 returns-2 c =
-    let started = c .before .before .before .before .before .before .before .before .before .before .before .before .before .before .before .before .before .start in
+    let started = c .before .before .before .before .before .before .before .before .before .before .before .before .before .before .before .before .before .before .before .start in
     let refusal-told = c .before .before .before .before .before .before .before .why in (
       c .before .before .refusal .ensures .0,
       refused-line (started .ensures) (refusal-told .given .1) (c .before .before .before .wide .ensures
@@ -88,10 +94,12 @@ recognize-spec =
     same-length-3
     same-length-4
     same-length-5
-    returns
     same-length-6
+    returns
     same-length-7
     same-length-8
     same-length-9
     same-length-10
+    same-length-11
+    same-length-12
     returns-2)

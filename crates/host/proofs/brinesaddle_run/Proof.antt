@@ -23,11 +23,14 @@ same-length-3 c = search needs
 same-length-4 : tie.Need-same-length-4
 same-length-4 c = search needs
 
+same-length-5 : tie.Need-same-length-5
+same-length-5 c = search needs
+
 returns : tie.Need-returns
 returns c =
-    let ran = c .before .before .before .before .before .before .before .before .before .before .before .run in
+    let ran = c .before .before .before .before .before .before .before .before .before .before .before .before .before .before .run in
     let t = c .tell .ensures in
-    run-means (runs-told (ran .result) (ran .ensures .0) (record { is-number = t .0; is-set = t .1 .0; is-held = t .1 .1 }))
+    run-means (runs-told (ran .result) (ran .ensures .0) (record { is-number = t .0; is-set = t .1 .0; is-held = t .1 .1 .0; is-used = t .1 .1 .1 }))
 
 pub brinesaddle-run-spec : {M : Type 1} → statement M
 brinesaddle-run-spec =
@@ -39,4 +42,5 @@ brinesaddle-run-spec =
     same-length-2
     same-length-3
     same-length-4
+    same-length-5
     returns)

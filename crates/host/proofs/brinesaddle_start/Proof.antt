@@ -22,11 +22,14 @@ same-length-3 c = search needs
 same-length-4 : tie.Need-same-length-4
 same-length-4 c = search needs
 
+same-length-5 : tie.Need-same-length-5
+same-length-5 c = search needs
+
 returns : tie.Need-returns
 returns c =
-    let started = c .before .before .before .before .before .before .before .before .before .before .before .start in
+    let started = c .before .before .before .before .before .before .before .before .before .before .before .before .before .before .start in
     let t = c .tell .ensures in
-    starts-told (started .result) (started .ensures) (record { is-number = t .0; is-set = t .1 .0; is-held = t .1 .1 })
+    starts-told (started .result) (started .ensures) (record { is-number = t .0; is-set = t .1 .0; is-held = t .1 .1 .0; is-used = t .1 .1 .1 })
 
 pub brinesaddle-start-spec : {M : Type 1} → statement M
 brinesaddle-start-spec =
@@ -38,4 +41,5 @@ brinesaddle-start-spec =
     same-length-2
     same-length-3
     same-length-4
+    same-length-5
     returns)

@@ -26,12 +26,15 @@ same-length-3 c = search needs
 same-length-4 : tie.Need-same-length-4
 same-length-4 c = search needs
 
+same-length-5 : tie.Need-same-length-5
+same-length-5 c = search needs
+
 returns : tie.Need-returns
 returns c =
-    let narrowed = c .before .before .before .before .before .before .before .before .before .before .before .before .narrow in
-    let token-taken = c .before .before .before .before .before .before .before .before .before .before .before .token in
+    let narrowed = c .before .before .before .before .before .before .before .before .before .before .before .before .before .before .before .narrow in
+    let token-taken = c .before .before .before .before .before .before .before .before .before .before .before .before .before .before .token in
     let t = c .tell .ensures in
-    token-means (takes-told _ _ (token-taken .result) (token-taken .ensures .0) (narrowed .ensures) (record { is-number = t .0; is-set = t .1 .0; is-held = t .1 .1 }))
+    token-means (takes-told _ _ (token-taken .result) (token-taken .ensures .0) (narrowed .ensures) (record { is-number = t .0; is-set = t .1 .0; is-held = t .1 .1 .0; is-used = t .1 .1 .1 }))
 
 pub brinesaddle-token-spec : {M : Type 1} → statement M
 brinesaddle-token-spec =
@@ -44,4 +47,5 @@ brinesaddle-token-spec =
     same-length-2
     same-length-3
     same-length-4
+    same-length-5
     returns)

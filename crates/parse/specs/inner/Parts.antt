@@ -2,13 +2,15 @@
 use mathlib.Core.Path.{_≡_}
 use mathlib.Core.List.{List}
 use Prim.Native.Nat.{ℕ, _+_, _*_, _≤_, _<_}
-use lib.ListN.{getD}
-use Rattle.laws.specs.Bits.{wordBits, bit, rowOf, Below}
-use Rattle.item.specs.Item.{itemWords, ruleAt, itemAt}
+use lib.ListN.{length, getD}
+use Rattle.laws.specs.Bits.{wordBits, bit, Holds, rowOf, Below}
+use Rattle.item.specs.Item.{itemWords, ruleAt, handleAt, itemAt}
 use Rattle.bits.specs.Width.{rowWords}
 use Rattle.grammar.specs.Rules.{Rule}
 use Rattle.parse.specs.declared.State.{State}
+use Rattle.node.specs.Reading.{filler}
 use Rattle.parse.specs.Words.{Words}
+use Rattle.parse.specs.Heads.{ToEnd, Meets}
 use Rattle.parse.specs.WellFormed.{Fits, placing}
 
 -- Every word from `from` on is 0.
@@ -55,9 +57,38 @@ pub record WordBelow (n i word : ℕ) : Type 0 where
 pub record RowsBelow (n : ℕ) (rows : List ℕ) (e : ℕ) : Type 0 where
   pub each : (k : ℕ) → k ≤ e → Below n (rowOf rowWords rows k)
 
--- All spare words, the queue included, are 0.
+-- Every unit from `from` on is a filler.
+pub record Filled (units : List ℕ) (from : ℕ) : Type 0 where
+  pub unit : (i : ℕ) → from ≤ i → getD units i filler ≡ filler
+
+-- All spare words, the queue included, are 0, and all spare units fillers.
 pub record SpareClear (s : State) (v : Words) : Type 0 where
   pub items : Clear (v .items) (itemWords * s .items)
   pub starts : Clear (v .starts) (s .set + 2)
   pub rows : Clear (v .rows) (rowWords * (s .set + 1))
   pub queue : Clear (v .queue) 0
+  pub store : Filled (v .store) (s .used)
+
+-- Heads of nodes are marked as bits, one for each usable unit.
+abbrev pub headWords : ℕ
+headWords = 512
+
+-- None is marked.
+pub record Unmarked (heads : List ℕ) : Type 0 where
+  pub long : length heads ≡ headWords
+  pub zero : (i : ℕ) → getD heads i 0 ≡ 0
+
+-- Exactly the heads of the nodes are marked that reading meets from 0 on.
+pub record HeadsMarked (units heads : List ℕ) : Type 0 where
+  pub long : length heads ≡ headWords
+  pub met : (h : ℕ) → Holds heads h → Meets units h 0
+  pub marked : (h : ℕ) → Meets units h 0 → Holds heads h
+
+-- The handles of the first `held` items are marked.
+pub record HandlesMarked (items : List ℕ) (held : ℕ) (heads : List ℕ) : Type 0 where
+  pub each : (p : ℕ) → p < held → Holds heads (handleAt items p)
+
+-- Units read to their end, and the handles of the first `held` items are heads of nodes met on that way.
+pub record StoreFits (items units : List ℕ) (held : ℕ) : Type 0 where
+  pub reads : ToEnd units 0
+  pub handles : (p : ℕ) → p < held → Meets units (handleAt items p) 0

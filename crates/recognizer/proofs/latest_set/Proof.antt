@@ -26,8 +26,8 @@ part-result-end c = search needs
 
 returns : tie.Need-returns
 returns c =
-    let given = c .before .before .before .before .before .before .before .before .before .before .before .before .args in
-    reports-refused _ (given .state) (wordsOf (given .items .now) (given .starts .now) (given .rows .now) (given .queue .now))
+    let given = c .before .before .before .before .before .before .before .before .before .before .before .before .before .args in
+    reports-refused _ (given .state) (wordsOf (given .items .now) (given .starts .now) (given .rows .now) (given .queue .now) (given .store .now))
     (readied-fault _ _ _ _ _ (c .before .before .before .before .before .ready .ensures) _ (c .before .before .before .why .given .1)) _ (c .before .refusal-number .ensures)
 
 enum-told : tie.Need-enum-told
@@ -35,15 +35,15 @@ enum-told c = search needs
 
 latest-part-requires : tie.Need-latest-part-requires
 latest-part-requires c κs =
-    let given = c .before .before .before .before .before .before .before .before .before .args in
+    let given = c .before .before .before .before .before .before .before .before .before .before .args in
     let formed = readied-formed _ _ _ _ _ (c .before .before .ready .ensures) _ (c .enum-told .given .1) in
-    latest-there _ _ (given .state) (wordsOf (given .items .now) (given .starts .now) (given .rows .now) (given .queue .now)) (formed .well-formed)
+    latest-there _ _ (given .state) (wordsOf (given .items .now) (given .starts .now) (given .rows .now) (given .queue .now) (given .store .now)) (formed .well-formed)
 
 returns-2 : tie.Need-returns-2
 returns-2 c =
-    let given = c .before .before .before .before .before .before .before .before .before .before .args in
+    let given = c .before .before .before .before .before .before .before .before .before .before .before .args in
     let formed = readied-formed _ _ _ _ _ (c .before .before .before .ready .ensures) _ (c .before .enum-told .given .1) in
-    reports-with _ (given .state) (wordsOf (given .items .now) (given .starts .now) (given .rows .now) (given .queue .now)) formed _ (c .latest-part .ensures)
+    reports-with _ (given .state) (wordsOf (given .items .now) (given .starts .now) (given .rows .now) (given .queue .now) (given .store .now)) formed _ (c .latest-part .ensures)
 
 pub latest-set-spec : {M : Type 1} → statement M
 latest-set-spec =

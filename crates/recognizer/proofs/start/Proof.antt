@@ -73,45 +73,50 @@ array-copy-out-row c =
 
 begin-requires : tie.Need-begin-requires
 begin-requires c κs =
-    let opened = c .before .before .before .before .before .before .before .before .before .before .before .before .before .before .before .before .«open» in
-    let found = c .before .before .before .before .before .before .before .before .before .before .before .before .before .before .found in
-    let sets-measured = c .before .before .before .before .before .before .before .before .before .before .set-room in
-    let room-tested = c .before .before .before .before .before .before .before .before .before .if1 in
-    let predicted = c .before .before .before .before .before .before .before .table in
+    let opened = c .before .before .before .before .before .before .before .before .before .before .before .before .before .before .before .before .before .«open» in
+    let found = c .before .before .before .before .before .before .before .before .before .before .before .before .before .before .before .found in
+    let sets-measured = c .before .before .before .before .before .before .before .before .before .before .before .set-room in
+    let room-tested = c .before .before .before .before .before .before .before .before .before .before .if1 in
+    let predicted = c .before .before .before .before .before .before .before .before .table in
     let sound = opened-sound _ _ _ (opened .ensures) _ (found .given .1) in
     let checked = sound-checked _ _ _ sound in
     (omega (arith, sets-measured .ensures, room-tested .left), wrapper-row _ _ (checked .accepted) (predicted .ensures _))
 
 same-length-3 : tie.Need-same-length-3
 same-length-3 c =
-    let begun = c .before .before .before .before .before .before .before .before .begin in
+    let begun = c .before .before .before .before .before .before .before .before .before .before .begin in
     begun .kept .1 .0
 
 same-length-4 : tie.Need-same-length-4
 same-length-4 c =
-    let begun = c .before .before .before .before .before .before .before .before .begin in
+    let begun = c .before .before .before .before .before .before .before .before .before .before .begin in
     begun .kept .1 .1 .0
 
 same-length-5 : tie.Need-same-length-5
 same-length-5 c =
-    let begun = c .before .before .before .before .before .before .before .before .begin in
+    let begun = c .before .before .before .before .before .before .before .before .before .before .begin in
     begun .kept .1 .1 .1 .0
 
 same-length-6 : tie.Need-same-length-6
 same-length-6 c =
-    let begun = c .before .before .before .before .before .before .before .before .begin in
+    let begun = c .before .before .before .before .before .before .before .before .before .before .begin in
     begun .kept .1 .1 .1 .1 .0
+
+same-length-7 : tie.Need-same-length-7
+same-length-7 c =
+    let begun = c .before .before .before .before .before .before .before .before .before .before .begin in
+    begun .kept .1 .1 .1 .1 .1 .0
 
 returns-3 : tie.Need-returns-3
 returns-3 c =
-    let given = c .before .before .before .before .before .before .before .before .before .before .before .before .before .before .before .before .before .before .before .before .before .before .before .before .before .before .before .before .before .before .before .before .args in
-    let opened = c .before .before .before .before .before .before .before .before .before .before .before .before .before .before .before .before .before .before .before .before .before .before .before .before .before .«open» in
-    let found = c .before .before .before .before .before .before .before .before .before .before .before .before .before .before .before .before .before .before .before .before .before .before .before .found in
-    let sets-measured = c .before .before .before .before .before .before .before .before .before .before .before .before .before .before .before .before .before .before .before .set-room in
-    let room-tested = c .before .before .before .before .before .before .before .before .before .before .before .before .before .before .before .before .before .before .if1 in
-    let predicted = c .before .before .before .before .before .before .before .before .before .before .before .before .before .before .before .before .table in
-    let begun = c .before .before .before .before .before .before .before .before .begin in
-    let words = wordsOf (given .items .now) (given .starts .now) (given .rows .now) (given .queue .now) in
+    let given = c .before .before .before .before .before .before .before .before .before .before .before .before .before .before .before .before .before .before .before .before .before .before .before .before .before .before .before .before .before .before .before .before .before .before .before .before .args in
+    let opened = c .before .before .before .before .before .before .before .before .before .before .before .before .before .before .before .before .before .before .before .before .before .before .before .before .before .before .before .before .«open» in
+    let found = c .before .before .before .before .before .before .before .before .before .before .before .before .before .before .before .before .before .before .before .before .before .before .before .before .before .before .found in
+    let sets-measured = c .before .before .before .before .before .before .before .before .before .before .before .before .before .before .before .before .before .before .before .before .before .before .set-room in
+    let room-tested = c .before .before .before .before .before .before .before .before .before .before .before .before .before .before .before .before .before .before .before .before .before .if1 in
+    let predicted = c .before .before .before .before .before .before .before .before .before .before .before .before .before .before .before .before .before .before .before .table in
+    let begun = c .before .before .before .before .before .before .before .before .before .before .begin in
+    let words = wordsOf (given .items .now) (given .starts .now) (given .rows .now) (given .queue .now) (given .store .now) in
     let sound = opened-sound _ _ _ (opened .ensures) _ (found .given .1) in
     let checked = sound-checked _ _ _ sound in
     starts-done _ _ words _ _ _ (record { checked = checked; predicts = predicted .ensures _ })
@@ -138,4 +143,5 @@ start-spec =
     same-length-4
     same-length-5
     same-length-6
+    same-length-7
     returns-3)

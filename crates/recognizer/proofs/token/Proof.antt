@@ -27,6 +27,9 @@ same-length-3 c = refl
 same-length-4 : tie.Need-same-length-4
 same-length-4 c = refl
 
+same-length-5 : tie.Need-same-length-5
+same-length-5 c = refl
+
 returns : tie.Need-returns
 returns c = token-means (Takes.refused (readied-fault _ _ _ _ _ (c .before .before .before .ready .ensures) _ (c .before .why .given .1)))
 
@@ -41,30 +44,33 @@ table-requires c κs =
 
 step-within-requires : tie.Need-step-within-requires
 step-within-requires c κs =
-    let readied = c .before .before .before .before .before .before .before .before .before .before .before .ready in
-    let found = c .before .before .before .before .before .before .before .before .before .found in
-    let tabled = c .before .before .before .before .before .before .table in
+    let readied = c .before .before .before .before .before .before .before .before .before .before .before .before .ready in
+    let found = c .before .before .before .before .before .before .before .before .before .before .found in
+    let tabled = c .before .before .before .before .before .before .before .table in
     can-step (readied-formed _ _ _ _ _ (readied .ensures) _ (found .given .1)) (tabled .ensures (found .given .0 .0 .tokens))
 
-same-length-5 : tie.Need-same-length-5
-same-length-5 c = let stepped = c .before .before .before .before .before .before .before .before .step-within in stepped .kept .1 .1 .1 .1 .0
-
 same-length-6 : tie.Need-same-length-6
-same-length-6 c = let stepped = c .before .before .before .before .before .before .before .before .step-within in stepped .kept .1 .1 .1 .1 .1 .0
+same-length-6 c = let stepped = c .before .before .before .before .before .before .before .before .before .before .step-within in stepped .kept .1 .1 .1 .1 .0
 
 same-length-7 : tie.Need-same-length-7
-same-length-7 c = let stepped = c .before .before .before .before .before .before .before .before .step-within in stepped .kept .1 .1 .1 .1 .1 .1 .0
+same-length-7 c = let stepped = c .before .before .before .before .before .before .before .before .before .before .step-within in stepped .kept .1 .1 .1 .1 .1 .0
 
 same-length-8 : tie.Need-same-length-8
-same-length-8 c = let stepped = c .before .before .before .before .before .before .before .before .step-within in stepped .kept .1 .1 .1 .1 .1 .1 .1 .0
+same-length-8 c = let stepped = c .before .before .before .before .before .before .before .before .before .before .step-within in stepped .kept .1 .1 .1 .1 .1 .1 .0
+
+same-length-9 : tie.Need-same-length-9
+same-length-9 c = let stepped = c .before .before .before .before .before .before .before .before .before .before .step-within in stepped .kept .1 .1 .1 .1 .1 .1 .1 .0
+
+same-length-10 : tie.Need-same-length-10
+same-length-10 c = let stepped = c .before .before .before .before .before .before .before .before .before .before .step-within in stepped .kept .1 .1 .1 .1 .1 .1 .1 .1 .0
 
 returns-2 : tie.Need-returns-2
 returns-2 c =
-    let given = c .before .before .before .before .before .before .before .before .before .before .before .before .before .before .before .before .before .before .before .before .before .before .before .before .before .before .before .before .before .before .before .args in
-    let readied = c .before .before .before .before .before .before .before .before .before .before .before .before .before .before .before .before .before .before .before .before .ready in
-    let found = c .before .before .before .before .before .before .before .before .before .before .before .before .before .before .before .before .before .before .found in
-    let tabled = c .before .before .before .before .before .before .before .before .before .before .before .before .before .before .before .table in
-    let stepped = c .before .before .before .before .before .before .before .before .step-within in
+    let given = c .before .before .before .before .before .before .before .before .before .before .before .before .before .before .before .before .before .before .before .before .before .before .before .before .before .before .before .before .before .before .before .before .before .before .before .before .args in
+    let readied = c .before .before .before .before .before .before .before .before .before .before .before .before .before .before .before .before .before .before .before .before .before .before .before .ready in
+    let found = c .before .before .before .before .before .before .before .before .before .before .before .before .before .before .before .before .before .before .before .before .before .found in
+    let tabled = c .before .before .before .before .before .before .before .before .before .before .before .before .before .before .before .before .before .before .table in
+    let stepped = c .before .before .before .before .before .before .before .before .before .before .step-within in
     let formed = readied-formed _ _ _ _ _ (readied .ensures) _ (found .given .1) in
     token-means (takes formed (tabled .ensures (found .given .0 .0 .tokens)) (given .t) (stepped .ensures))
 
@@ -78,12 +84,14 @@ token-spec =
     same-length-2
     same-length-3
     same-length-4
+    same-length-5
     returns
     enum-known-found
     table-requires
     step-within-requires
-    same-length-5
     same-length-6
     same-length-7
     same-length-8
+    same-length-9
+    same-length-10
     returns-2)

@@ -5,10 +5,11 @@ use Prim.Native.Nat.{ℕ, _-_, _*_, _≤_, _<_}
 use lib.ListN.{length, getD, take, drop, replicate}
 use lib.Dec.{eqb, ltb}
 use Rattle.item.specs.Item.{itemWords, ruleAt}
+use Rattle.node.specs.Reading.{filler}
 use Rattle.parse.specs.declared.State.{State}
 use Rattle.parse.specs.Words.{Words, within, beyond, behind, padded}
 
--- Words cleared, with a row in row 0.
+-- Words cleared, the store filled, with a row in row 0.
 abbrev pub clearedWords : List ℕ → Words → Words
 clearedWords row v =
     record {
@@ -16,6 +17,7 @@ clearedWords row v =
       starts = replicate (length (v .starts)) 0;
       rows = padded (length (v .rows)) row;
       queue = replicate (length (v .queue)) 0;
+      store = replicate (length (v .store)) filler;
     }
 
 -- The words within the capacities so, and the words past them as they were.

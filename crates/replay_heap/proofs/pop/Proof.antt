@@ -9,55 +9,43 @@ use borrow.Author.Needs.{needs}
 use Rattle.replay_heap.proofs.pop.Statement.{statement}
 use Rattle.replay_heap.proofs.pop.Tie as tie
 
--- src/main.rt:170:9
 read-requires : tie.Need-read-requires
 read-requires c κs = search needs
 
--- src/main.rt:171:11
 pop-requires : tie.Need-pop-requires
 pop-requires c κs = search needs
 
--- src/main.rt:172:25
-enum-known-entry : tie.Need-enum-known-entry
-enum-known-entry c = search needs
+enum-known-place : tie.Need-enum-known-place
+enum-known-place c = search needs
 
--- src/main.rt:176:19
 wrapping-add-u64-requires : tie.Need-wrapping-add-u64-requires
 wrapping-add-u64-requires c κs = search needs
 
--- src/main.rt:177:54
 differs-requires : tie.Need-differs-requires
 differs-requires c κs = search needs
 
--- src/main.rt:177:24
 wrapping-add-u64-requires-2 : tie.Need-wrapping-add-u64-requires-2
 wrapping-add-u64-requires-2 c κs = search needs
 
--- src/main.rt:179:26
 enum-told : tie.Need-enum-told
 enum-told c = search needs
 
--- src/main.rt:179:26
 refused-requires : tie.Need-refused-requires
 refused-requires c κs = search needs
 
--- src/main.rt:166:1
 same-length : tie.Need-same-length
 same-length c = search needs
 
--- src/main.rt:166:1
 returns : tie.Need-returns
 returns c =
     let start = c .before .before .before .before .before .before .before .before .before .before .before .before .before .before in
     let called = c .before .before .before .before .before .before .before .before .pop in
-    kept-entry (entryKey (now (start .args .items))) (now (start .args .items)) (entriesIn (now (start .args .queue))) _ _ (start .pre) _ _
-    (sym (called .ensures .0) ∙ c .before .before .before .before .entry .given .1) (called .ensures .1)
+    kept-entry (entryKey (now (start .args .items))) (now (start .args .items)) (entriesIn (now (start .args .queue))) _ _ (start .pre) _ _ _
+    (sym (called .ensures .0) ∙ c .before .before .before .before .place .given .1) (called .ensures .1)
 
--- src/main.rt:166:1
 same-length-2 : tie.Need-same-length-2
 same-length-2 c = search needs
 
--- src/main.rt:166:1
 returns-2 : tie.Need-returns-2
 returns-2 c =
     let start = c .before .before .before .before .before .before .before .before .before .before .before in
@@ -72,7 +60,7 @@ pop-spec =
     (tie.spec
     read-requires
     pop-requires
-    enum-known-entry
+    enum-known-place
     wrapping-add-u64-requires
     differs-requires
     wrapping-add-u64-requires-2

@@ -26,20 +26,20 @@ enum-known-found c = search needs
 
 list-tokens-requires : tie.Need-list-tokens-requires
 list-tokens-requires c κs =
-    let given = c .before .before .before .before .before .before .before .before .before .before .before .before .args in
+    let given = c .before .before .before .before .before .before .before .before .before .before .before .before .before .args in
     let formed = readied-formed _ _ _ _ _ (c .before .before .before .before .ready .ensures) _ (c .before .before .found .given .1) in
-    row-listable (given .state) (wordsOf (given .items .now) (given .starts .now) (given .rows .now) (given .queue .now)) formed
+    row-listable (given .state) (wordsOf (given .items .now) (given .starts .now) (given .rows .now) (given .queue .now) (given .store .now)) formed
 
 same-length : tie.Need-same-length
 same-length c = search needs
 
 returns-2 : tie.Need-returns-2
 returns-2 c =
-    let given = c .before .before .before .before .before .before .before .before .before .before .before .before .before .before .before .args in
+    let given = c .before .before .before .before .before .before .before .before .before .before .before .before .before .before .before .before .args in
     let readied = c .before .before .before .before .before .before .before .ready in
     let found = c .before .before .before .before .before .found in
     let formed = readied-formed _ _ _ _ _ (readied .ensures) _ (found .given .1) in
-    let row = row-same _ _ (given .state) (wordsOf (given .items .now) (given .starts .now) (given .rows .now) (given .queue .now)) (formed .well-formed) in
+    let row = row-same _ _ (given .state) (wordsOf (given .items .now) (given .starts .now) (given .rows .now) (given .queue .now) (given .store .now)) (formed .well-formed) in
     expected-means (puts-list formed (ap (λ (r : List ℕ). heldBelow r (found .given .0 .0 .tokens)) row) (c .before .before .list-tokens .ensures))
 
 pub expected-spec : {M : Type 1} → statement M

@@ -24,25 +24,25 @@ enum-known-found c = search needs
 
 mul-wide : tie.Need-mul-wide
 mul-wide c =
-    let given = c .before .before .before .before .before .before .before .before .before .before .before .args in
+    let given = c .before .before .before .before .before .before .before .before .before .before .before .before .args in
     let formed = readied-formed _ _ _ _ _ (c .before .before .before .ready .ensures) _ (c .before .found .given .1) in
-    omega (arith, in-room _ _ (given .state) (wordsOf (given .items .now) (given .starts .now) (given .rows .now) (given .queue .now)) (formed .well-formed))
+    omega (arith, in-room _ _ (given .state) (wordsOf (given .items .now) (given .starts .now) (given .rows .now) (given .queue .now) (given .store .now)) (formed .well-formed))
 
 shared-slice-read-wide : tie.Need-shared-slice-read-wide
 shared-slice-read-wide c =
-    let given = c .before .before .before .before .before .before .before .before .before .before .before .before .args in
+    let given = c .before .before .before .before .before .before .before .before .before .before .before .before .before .args in
     let formed = readied-formed _ _ _ _ _ (c .before .before .before .before .ready .ensures) _ (c .before .before .found .given .1) in
-    start-there _ _ (given .state) (wordsOf (given .items .now) (given .starts .now) (given .rows .now) (given .queue .now)) (formed .well-formed)
+    start-there _ _ (given .state) (wordsOf (given .items .now) (given .starts .now) (given .rows .now) (given .queue .now) (given .store .now)) (formed .well-formed)
 
 wide-requires : tie.Need-wide-requires
 wide-requires c κs = search needs
 
 list-words-requires : tie.Need-list-words-requires
 list-words-requires c κs =
-    let given = c .before .before .before .before .before .before .before .before .before .before .before .before .before .before .before .args in
+    let given = c .before .before .before .before .before .before .before .before .before .before .before .before .before .before .before .before .args in
     let readied = c .before .before .before .before .before .before .before .ready in
     let found = c .before .before .before .before .before .found in
-    rules-listable _ (given .state) (wordsOf (given .items .now) (given .starts .now) (given .rows .now) (given .queue .now)) _ _ (readied .ensures) _ (found .given .1) (c .before .before .wide .ensures)
+    rules-listable _ (given .state) (wordsOf (given .items .now) (given .starts .now) (given .rows .now) (given .queue .now) (given .store .now)) _ _ (readied .ensures) _ (found .given .1) (c .before .before .wide .ensures)
 
 same-length : tie.Need-same-length
 same-length c = search needs

@@ -9,6 +9,9 @@ origin-requires c κs = search needs
 rule-requires : tie.Need-rule-requires
 rule-requires c κs = search needs
 
+handle-requires : tie.Need-handle-requires
+handle-requires c κs = search needs
+
 write-requires : tie.Need-write-requires
 write-requires c κs = search needs
 
@@ -19,4 +22,4 @@ returns : tie.Need-returns
 returns c = cc
 
 pub copy-spec : {M : Type 1} → statement M
-copy-spec = tie.close (tie.spec origin-requires rule-requires write-requires same-length returns)
+copy-spec = tie.close (tie.spec origin-requires rule-requires handle-requires write-requires same-length returns)

@@ -14,11 +14,11 @@ use Rattle.completion.proofs.medial.complete_medial_items.Statement.{st
 use Rattle.completion.proofs.medial.complete_medial_items.Tie as tie
 
 abbrev Inv-loop : tie.InvT-loop
-Inv-loop rules count items starts queue₀ k x first number now₀ i₀ queue now i =
-    (i ≤ number) × (passOf now items queue ≡ over i (queueing first) (passOf now₀ items queue₀)) × (length queue ≡ length queue₀)
+Inv-loop rules count items starts queue₀ k x link first number now₀ i₀ queue now i =
+    (i ≤ number) × (passOf now items queue ≡ over i (queueing link first) (passOf now₀ items queue₀)) × (length queue ≡ length queue₀)
 
 abbrev μ-loop : tie.MeasureT-loop
-μ-loop rules count items starts queue₀ k x first number now₀ i₀ queue now i = number - i
+μ-loop rules count items starts queue₀ k x link first number now₀ i₀ queue now i = number - i
 
 -- src/medial.rt:81:9
 mul-medial-item-set-range : tie.Need-mul-medial-item-set-range Inv-loop μ-loop
@@ -83,7 +83,7 @@ enqueue-requires c κs =
     let f = range-found .ensures in
     let first = range-found .result .first in
     let number = range-found .result .number in
-    let known = queueing-sound first number (looped .i) s (required .1 .0) (omega (arith, f .up-to, required .1 .1 .starts-fit (given .k + 1))) (looped .inv .0) in (
+    let known = queueing-sound (given .link) first number (looped .i) s (required .1 .0) (omega (arith, f .up-to, required .1 .1 .starts-fit (given .k + 1))) (looped .inv .0) in (
       subst PassFits (sym (looped .inv .1)) (known .0),
       λ on. subst (λ (u : Pass). first + looped .i < u .at .items) (sym (looped .inv .1))
           (omega (arith, known .1, c .before .loop-test .taken, f .up-to, required .1 .1 .starts-fit (given .k + 1))),
@@ -106,7 +106,7 @@ loop-again c =
     let rs = rulesIn (given .rules .now) (given .count) in
     let s = passOf (given .at) (given .items .now) (given .queue .now) in (
       search needs,
-      over-next (looped .i) (queueing (range-found .result .first)) s (passOf (looped .now) (given .items .now) (looped .queue)) _ (looped .inv .1) (c .before .before .enqueue .ensures),
+      over-next (looped .i) (queueing (given .link) (range-found .result .first)) s (passOf (looped .now) (given .items .now) (looped .queue)) _ (looped .inv .1) (c .before .before .enqueue .ensures),
       c .before .before .enqueue .kept .1 .0 ∙ looped .inv .2,
     )
 
@@ -124,8 +124,8 @@ returns c =
     let r = c .before .before .medial-item-set-range .result in
     let all : looped .i ≡ r .number = omega (arith, looped .inv .0, c .loop-test .left) in
     looped .inv .1
-    ∙ ap (λ (n : ℕ). over n (queueing (r .first)) s) all
-    ∙ sym (medial-found rs (given .starts .now) (given .k) (given .x) (r .first) (r .number) s (c .before .before .medial-item-set-range .ensures))
+    ∙ ap (λ (n : ℕ). over n (queueing (given .link) (r .first)) s) all
+    ∙ sym (medial-found rs (given .starts .now) (given .k) (given .x) (given .link) (r .first) (r .number) s (c .before .before .medial-item-set-range .ensures))
 
 pub complete-medial-items-spec : {M : Type 1} → statement M
 complete-medial-items-spec =

@@ -50,7 +50,7 @@ returns-2 c =
     let given = c .before .before .before .before .before .before .before .before .before .before .args in
     let stop-tested = c .before .before .before .before .before .before .if1 in
     let pushed = c .before .before .before .before .push in
-    queue-refused (passOf (given .at) (given .items .now) (given .queue .now)) (given .place) _ (entriesIn (pushed .last .1 .0)) (sym (held-length (given .queue .now))) (stop-tested .left)
+    queue-refused (passOf (given .at) (given .items .now) (given .queue .now)) (given .place) (given .right) _ (entriesIn (pushed .last .1 .0)) (sym (held-length (given .queue .now))) (stop-tested .left)
     (sym (pushed .ensures .0) ∙ c .enum-told .given .1) (pushed .ensures .1)
 
 -- src/pass.rt:38:1
@@ -63,7 +63,7 @@ returns-3 c =
     let given = c .before .before .before .before .before .before .before .before .before .before .before .args in
     let stop-tested = c .before .before .before .before .before .before .before .if1 in
     let pushed = c .before .before .before .before .before .push in
-    queue-took (passOf (given .at) (given .items .now) (given .queue .now)) (given .place) _ _ (entriesIn (pushed .last .1 .0)) (sym (held-length (given .queue .now))) (stop-tested .left)
+    queue-took (passOf (given .at) (given .items .now) (given .queue .now)) (given .place) (given .right) _ _ (entriesIn (pushed .last .1 .0)) (sym (held-length (given .queue .now))) (stop-tested .left)
     (sym (pushed .ensures .0) ∙ c .before .n .given .1) (pushed .ensures .1)
 
 pub enqueue-spec : {M : Type 1} → statement M

@@ -16,7 +16,7 @@ returns c =
     let rs = rulesIn (given .rules .now) (given .count) in
     λ q.
     let s = passOf (given .at) (given .items .now) q in
-    sym (binary-stopped rs (given .rows .now) (given .k) (given .x) (given .r) s (c .if1 .taken))
+    sym (binary-stopped rs (given .rows .now) (given .k) (given .x) (given .r) (given .link) s (c .if1 .taken))
 
 -- src/predictions.rt:96:8
 second-requires : tie.Need-second-requires
@@ -32,7 +32,7 @@ returns-2 c =
     let rs = rulesIn (given .rules .now) (given .count) in
     λ q.
     let s = passOf (given .at) (given .items .now) q in
-    sym (binary-one rs (given .rows .now) (given .k) (given .x) (given .r) s (c .before .before .if1 .left) (c .before .second .result)
+    sym (binary-one rs (given .rows .now) (given .k) (given .x) (given .r) (given .link) s (c .before .before .if1 .left) (c .before .second .result)
     (c .before .second .ensures .0 ∙ rule-second (given .rules .now) (given .count) (given .r) (required .2)) (c .if2 .taken))
 
 -- src/predictions.rt:99:9
@@ -46,7 +46,7 @@ returns-3 c =
     let rs = rulesIn (given .rules .now) (given .count) in
     λ q.
     let s = passOf (given .at) (given .items .now) q in
-    sym (binary-passed rs (given .rows .now) (given .k) (given .x) (given .r) s (c .before .before .before .before .if1 .left)
+    sym (binary-passed rs (given .rows .now) (given .k) (given .x) (given .r) (given .link) s (c .before .before .before .before .if1 .left)
     (sym (not-true (c .before .waits .result) (c .if3 .taken)) ∙ c .before .waits .ensures))
 
 -- src/predictions.rt:102:5
@@ -73,7 +73,7 @@ returns-4 c =
     λ q.
     let s = passOf (given .at) (given .items .now) q in
     c .before .before .store .ensures q
-    ∙ sym (binary-waits rs (given .rows .now) (given .k) (given .x) (given .r) s (stop-tested .left) (second-found .result)
+    ∙ sym (binary-waits rs (given .rows .now) (given .k) (given .x) (given .r) (given .link) s (stop-tested .left) (second-found .result)
     (second-found .ensures .0 ∙ rule-second (given .rules .now) (given .count) (given .r) (required .2)) (second-tested .left)
     (sym (not-false (wait-asked .result) (c .before .before .before .before .if3 .left)) ∙ wait-asked .ensures))
 

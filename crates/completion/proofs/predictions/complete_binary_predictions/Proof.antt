@@ -14,13 +14,13 @@ use Rattle.completion.proofs.predictions.complete_binary_predictions.St
 use Rattle.completion.proofs.predictions.complete_binary_predictions.Tie as tie
 
 abbrev Inv-loop : tie.InvT-loop
-Inv-loop rules count items₀ rows k x now₀ r₀ items now r =
+Inv-loop rules count items₀ rows k x link now₀ r₀ items now r =
     (r ≤ count)
-    × ((q : List ℕ) → passOf now items q ≡ over r (completeBinary (rulesIn rules count) rows k x) (passOf now₀ items₀ q))
+    × ((q : List ℕ) → passOf now items q ≡ over r (completeBinary (rulesIn rules count) rows k x link) (passOf now₀ items₀ q))
     × (length items ≡ length items₀)
 
 abbrev μ-loop : tie.MeasureT-loop
-μ-loop rules count items₀ rows k x now₀ r₀ items now r = count - r
+μ-loop rules count items₀ rows k x link now₀ r₀ items now r = count - r
 
 -- src/predictions.rt:119:5
 loop-holds : tie.Need-loop-holds Inv-loop μ-loop
@@ -47,7 +47,7 @@ loop-again c =
     let looped = c .before .before .before .before .before .loop in
     let rs = rulesIn (given .rules .now) (given .count) in (
       search needs,
-      λ q. over-next (looped .r) (completeBinary rs (given .rows .now) (given .k) (given .x)) (passOf (given .at) (given .items .now) q)
+      λ q. over-next (looped .r) (completeBinary rs (given .rows .now) (given .k) (given .x) (given .link)) (passOf (given .at) (given .items .now) q)
           (passOf (looped .now) (looped .items) q) _ (looped .inv .1 q) (c .before .before .complete-binary .ensures q),
       c .before .before .complete-binary .kept .1 .1 .0 ∙ looped .inv .2,
     )
@@ -64,7 +64,7 @@ returns c =
     let rs = rulesIn (given .rules .now) (given .count) in
     let looped = c .before .loop in
     let all : looped .r ≡ length rs = omega (arith, looped .inv .0, c .loop-test .left, rules-length (given .rules .now) (given .count)) in
-    λ q. looped .inv .1 q ∙ ap (λ (n : ℕ). over n (completeBinary rs (given .rows .now) (given .k) (given .x)) (passOf (given .at) (given .items .now) q)) all
+    λ q. looped .inv .1 q ∙ ap (λ (n : ℕ). over n (completeBinary rs (given .rows .now) (given .k) (given .x) (given .link)) (passOf (given .at) (given .items .now) q)) all
 
 pub complete-binary-predictions-spec : {M : Type 1} → statement M
 complete-binary-predictions-spec =

@@ -1,6 +1,7 @@
 use borrow.Author.Tests.{not-true, not-false}
 use Rattle.completion.proofs.Soundness.{store-sound}
 use Rattle.completion.specs.inner.Ready.{PassFits}
+use Rattle.node.specs.Rows.{allOnes}
 use Rattle.completion.specs.Pass.{Pass, andThen, enqueue}
 use Rattle.completion.proofs.Waiting.{rules-length, rule-second, store-place, unary-stopped, unary-two, unary-passed, unary-waits}
 use Rattle.completion.specs.Pass.{passOf}
@@ -18,7 +19,7 @@ returns c =
     let given = c .before .before .before .before .before .args in
     let rs = rulesIn (given .rules .now) (given .count) in
     let s = passOf (given .at) (given .items .now) (given .queue .now) in
-    sym (unary-stopped rs (given .rows .now) (given .k) (given .x) (given .r) s (c .if1 .taken))
+    sym (unary-stopped rs (given .rows .now) (given .k) (given .x) (given .r) (given .link) s (c .if1 .taken))
 
 -- src/predictions.rt:44:8
 second-requires : tie.Need-second-requires
@@ -33,7 +34,7 @@ returns-2 c =
     let required = c .before .before .before .before .before .before .before .pre in
     let rs = rulesIn (given .rules .now) (given .count) in
     let s = passOf (given .at) (given .items .now) (given .queue .now) in
-    sym (unary-two rs (given .rows .now) (given .k) (given .x) (given .r) s (c .before .before .if1 .left) (c .before .second .result)
+    sym (unary-two rs (given .rows .now) (given .k) (given .x) (given .r) (given .link) s (c .before .before .if1 .left) (c .before .second .result)
     (c .before .second .ensures .0 ∙ rule-second (given .rules .now) (given .count) (given .r) (required .2)) (c .if2 .taken))
 
 -- src/predictions.rt:47:9
@@ -46,7 +47,7 @@ returns-3 c =
     let given = c .before .before .before .before .before .before .before .before .before .args in
     let rs = rulesIn (given .rules .now) (given .count) in
     let s = passOf (given .at) (given .items .now) (given .queue .now) in
-    sym (unary-passed rs (given .rows .now) (given .k) (given .x) (given .r) s (c .before .before .before .before .if1 .left)
+    sym (unary-passed rs (given .rows .now) (given .k) (given .x) (given .r) (given .link) s (c .before .before .before .before .if1 .left)
     (sym (not-true (c .before .waits .result) (c .if3 .taken)) ∙ c .before .waits .ensures))
 
 -- src/predictions.rt:51:9
@@ -64,8 +65,8 @@ enqueue-requires c κs =
     let rs = rulesIn (given .rules .now) (given .count) in
     let s = passOf (given .at) (given .items .now) (given .queue .now) in
     let stored = c .before .before .before .before .store .ensures (given .queue .now) in (
-      subst PassFits (sym stored) (store-sound (given .k) (given .r) s (required .3)),
-      λ on. subst (λ (u : Pass). given .at .items < u .at .items) (sym stored) (store-place (given .k) (given .r) s (ap (λ (u : Pass). u .at .stopped) (sym stored) ∙ on)),
+      subst PassFits (sym stored) (store-sound (given .k) (given .r) (given .link) s (required .3)),
+      λ on. subst (λ (u : Pass). given .at .items < u .at .items) (sym stored) (store-place (given .k) (given .r) (given .link) s (ap (λ (u : Pass). u .at .stopped) (sym stored) ∙ on)),
     )
 
 -- src/predictions.rt:27:1
@@ -90,8 +91,8 @@ returns-4 c =
     let rs = rulesIn (given .rules .now) (given .count) in
     let s = passOf (given .at) (given .items .now) (given .queue .now) in
     c .before .before .enqueue .ensures
-    ∙ ap (λ (u : Pass). andThen u (enqueue (given .at .items))) (item-stored .ensures (given .queue .now))
-    ∙ sym (unary-waits rs (given .rows .now) (given .k) (given .x) (given .r) s (stop-tested .left) (second-found .result)
+    ∙ ap (λ (u : Pass). andThen u (enqueue (given .at .items) allOnes)) (item-stored .ensures (given .queue .now))
+    ∙ sym (unary-waits rs (given .rows .now) (given .k) (given .x) (given .r) (given .link) s (stop-tested .left) (second-found .result)
     (second-found .ensures .0 ∙ rule-second (given .rules .now) (given .count) (given .r) (required .2)) (second-tested .left)
     (sym (not-false (wait-asked .result) (wait-tested .left)) ∙ wait-asked .ensures))
 

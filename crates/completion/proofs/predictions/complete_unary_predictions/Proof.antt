@@ -14,14 +14,14 @@ use Rattle.completion.proofs.predictions.complete_unary_predictions.Sta
 use Rattle.completion.proofs.predictions.complete_unary_predictions.Tie as tie
 
 abbrev Inv-loop : tie.InvT-loop
-Inv-loop rules count items₀ rows queue₀ k x now₀ r₀ items queue now r =
+Inv-loop rules count items₀ rows queue₀ k x link now₀ r₀ items queue now r =
     (r ≤ count)
-    × (passOf now items queue ≡ over r (completeUnary (rulesIn rules count) rows k x) (passOf now₀ items₀ queue₀))
+    × (passOf now items queue ≡ over r (completeUnary (rulesIn rules count) rows k x link) (passOf now₀ items₀ queue₀))
     × (length items ≡ length items₀)
     × (length queue ≡ length queue₀)
 
 abbrev μ-loop : tie.MeasureT-loop
-μ-loop rules count items₀ rows queue₀ k x now₀ r₀ items queue now r = count - r
+μ-loop rules count items₀ rows queue₀ k x link now₀ r₀ items queue now r = count - r
 
 -- src/predictions.rt:73:5
 loop-holds : tie.Need-loop-holds Inv-loop μ-loop
@@ -37,7 +37,7 @@ complete-unary-requires c κs =
       required .0,
       required .1,
       c .before .before .loop-test .taken,
-      subst PassFits (sym (looped .inv .1)) (unaries-sound rs (given .rows .now) (given .k) (given .x)
+      subst PassFits (sym (looped .inv .1)) (unaries-sound rs (given .rows .now) (given .k) (given .x) (given .link)
           (looped .r) (passOf (given .at) (given .items .now) (given .queue .now)) (required .2)),
     )
 
@@ -57,7 +57,7 @@ loop-again c =
     let rule-completed = c .before .before .before .before .complete-unary in
     let rs = rulesIn (given .rules .now) (given .count) in (
       search needs,
-      over-next (looped .r) (completeUnary rs (given .rows .now) (given .k) (given .x)) (passOf (given .at) (given .items .now) (given .queue .now))
+      over-next (looped .r) (completeUnary rs (given .rows .now) (given .k) (given .x) (given .link)) (passOf (given .at) (given .items .now) (given .queue .now))
           (passOf (looped .now) (looped .items) (looped .queue)) _ (looped .inv .1) (rule-completed .ensures),
       rule-completed .kept .1 .1 .0 ∙ looped .inv .2,
       rule-completed .kept .1 .1 .1 .1 .0 ∙ looped .inv .3,
@@ -79,7 +79,7 @@ returns c =
     let rs = rulesIn (given .rules .now) (given .count) in
     let looped = c .before .loop in
     let all : looped .r ≡ length rs = omega (arith, looped .inv .0, c .loop-test .left, rules-length (given .rules .now) (given .count)) in
-    looped .inv .1 ∙ ap (λ (n : ℕ). over n (completeUnary rs (given .rows .now) (given .k) (given .x)) (passOf (given .at) (given .items .now) (given .queue .now))) all
+    looped .inv .1 ∙ ap (λ (n : ℕ). over n (completeUnary rs (given .rows .now) (given .k) (given .x) (given .link)) (passOf (given .at) (given .items .now) (given .queue .now))) all
 
 pub complete-unary-predictions-spec : {M : Type 1} → statement M
 complete-unary-predictions-spec =

@@ -1,6 +1,6 @@
 use Rattle.completion.proofs.Remaining.{Remaining, remaining-start, remaining-turn, remaining-falls, remaining-stopped, remaining-empty}
 use Rattle.completion.proofs.Pending.{left}
-use Rattle.completion.specs.Pass.{passOf}
+use Rattle.completion.specs.Pass.{passOver}
 use Rattle.grammar.specs.inner.Decoded.{rulesIn}
 use native.Mathlib.Omega.{arith}
 use lib.ListN.{length}
@@ -10,77 +10,69 @@ use Rattle.completion.proofs.sums.complete_all_sums_entirely.Statement.
 use Rattle.completion.proofs.sums.complete_all_sums_entirely.Tie as tie
 
 abbrev Inv-loop : tie.InvT-loop
-Inv-loop rules count items₀ starts rows queue₀ now₀ items queue now =
-    Remaining (rulesIn rules count) starts rows (passOf now₀ items₀ queue₀) (passOf now items queue)
+Inv-loop rules count items₀ starts rows queue₀ store₀ now₀ items queue store now =
+    Remaining (rulesIn rules count) starts rows (passOver now₀ items₀ queue₀ store₀) (passOver now items queue store)
     × (length items ≡ length items₀)
     × (length queue ≡ length queue₀)
+    × (length store ≡ length store₀)
 
 abbrev μ-loop : tie.MeasureT-loop
-μ-loop rules count items₀ starts rows queue₀ now₀ items queue now = left (rulesIn rules count) (passOf now items queue)
+μ-loop rules count items₀ starts rows queue₀ store₀ now₀ items queue store now = left (rulesIn rules count) (passOver now items queue store)
 
--- src/sums.rt:113:5
 loop-holds : tie.Need-loop-holds Inv-loop μ-loop
 loop-holds c =
-    let given = c .before .before .before .before .args in
-    let rs = rulesIn (given .rules .now) (given .count) in
-    (remaining-start rs (given .starts .now) (given .rows .now) (passOf (given .at) (given .items .now) (given .queue .now)) (c .before .before .before .before .pre .1), refl, refl)
+    let given = c .before .before .before .before .before .args in
+    let required = c .before .before .before .before .before .pre in
+    let rs = rulesIn (given .rules .now) (given .count) in (
+      remaining-start rs (given .starts .now) (given .rows .now) (passOver (given .at) (given .items .now) (given .queue .now) (given .store .now)) (required .1)
+          (required .2),
+      refl,
+      refl,
+      refl,
+    )
 
--- src/sums.rt:115:13
 same-length : tie.Need-same-length Inv-loop μ-loop
 same-length c = c .before .before .before .before .loop .inv .1
 
--- src/sums.rt:115:13
 same-length-2 : tie.Need-same-length-2 Inv-loop μ-loop
 same-length-2 c = c .before .before .before .before .loop .inv .2
 
--- src/sums.rt:115:13
-returns : tie.Need-returns Inv-loop μ-loop
-returns c =
-    let required = c .before .before .before .before .before .before .before .before .before .pre in
-    remaining-stopped (required .0) (c .before .before .before .before .loop .inv .0) (c .if2 .taken)
+same-length-3 : tie.Need-same-length-3 Inv-loop μ-loop
+same-length-3 c = c .before .before .before .before .loop .inv .3
 
--- src/sums.rt:117:9
+returns : tie.Need-returns Inv-loop μ-loop
+returns c = remaining-stopped (c .before .before .before .before .before .before .before .before .before .before .pre .0) (c .before .before .before .before .loop .inv .0) (c .if2 .taken)
+
 complete-sum-requires : tie.Need-complete-sum-requires Inv-loop μ-loop
 complete-sum-requires c κs =
-    let required = c .before .before .before .before .before .before .before .before .before .before .before .pre in
-    let looped = c .before .before .before .before .before .before .loop in
-    let p = looped .inv .0 .pending in
-    ((required .0 .rules-fit, required .0 .rowed), (p .sound, p .charted, c .before .before .before .before .if1 .taken))
+    let required = c .before .before .before .before .before .before .before .before .before .before .before .before .before .pre in
+    let r = c .before .before .before .before .before .before .before .loop .inv .0 in
+    ((required .0 .rules-fit, required .0 .rowed), (r .pending .sound, r .units, r .pending .charted, c .before .before .before .before .before .if1 .taken))
 
--- src/sums.rt:113:5
 loop-less : tie.Need-loop-less Inv-loop μ-loop
-loop-less c =
-    let required = c .before .before .before .before .before .before .before .before .before .before .before .before .before .before .before .before .pre in
-    let looped = c .before .before .before .before .before .before .before .before .before .before .before .loop in
-    let queue-tested = c .before .before .before .before .before .before .before .before .before .if1 in
-    remaining-falls (required .0) (looped .inv .0) _ (queue-tested .taken) (c .before .before .before .before .complete-sum .ensures)
+loop-less c = remaining-falls (c .before .before .before .before .before .before .before .before .before .before .before .before .before .before .before .before .before .before .before .before .pre .0) (c .before .before .before .before .before .before .before .before .before .before .before .before .before .before .loop .inv .0) _ (c .before .before .before .before .before .before .before .before .before .before .before .before .if1 .taken) (c .before .before .before .before .before .before .complete-sum .ensures)
 
--- src/sums.rt:113:5
 loop-again : tie.Need-loop-again Inv-loop μ-loop
 loop-again c =
-    let required = c .before .before .before .before .before .before .before .before .before .before .before .before .before .before .before .before .pre in
-    let looped = c .before .before .before .before .before .before .before .before .before .before .before .loop in
-    let queue-tested = c .before .before .before .before .before .before .before .before .before .if1 in
-    let stop-tested = c .before .before .before .before .before .before .before .if2 in
-    let sum-completed = c .before .before .before .before .complete-sum in (
-      remaining-turn (required .0) (looped .inv .0) _ (stop-tested .left) (queue-tested .taken) (sum-completed .ensures),
+    let looped = c .before .before .before .before .before .before .before .before .before .before .before .before .before .before .loop in
+    let sum-completed = c .before .before .before .before .before .before .complete-sum in (
+      remaining-turn (c .before .before .before .before .before .before .before .before .before .before .before .before .before .before .before .before .before .before .before .before .pre .0) (looped .inv .0) _ (c .before .before .before .before .before .before .before .before .before .before .if2 .left) (c .before .before .before .before .before .before .before .before .before .before .before .before .if1 .taken) (sum-completed .ensures),
       sum-completed .kept .1 .1 .0 ∙ looped .inv .1,
       sum-completed .kept .1 .1 .1 .1 .1 .0 ∙ looped .inv .2,
+      sum-completed .kept .1 .1 .1 .1 .1 .1 .0 ∙ looped .inv .3,
     )
 
--- src/sums.rt:100:1
-same-length-3 : tie.Need-same-length-3 Inv-loop μ-loop
-same-length-3 c = c .before .before .loop .inv .1
-
--- src/sums.rt:100:1
 same-length-4 : tie.Need-same-length-4 Inv-loop μ-loop
-same-length-4 c = c .before .before .loop .inv .2
+same-length-4 c = c .before .before .loop .inv .1
 
--- src/sums.rt:100:1
+same-length-5 : tie.Need-same-length-5 Inv-loop μ-loop
+same-length-5 c = c .before .before .loop .inv .2
+
+same-length-6 : tie.Need-same-length-6 Inv-loop μ-loop
+same-length-6 c = c .before .before .loop .inv .3
+
 returns-2 : tie.Need-returns-2 Inv-loop μ-loop
-returns-2 c =
-    let required = c .before .before .before .before .before .before .before .pre in
-    remaining-empty (required .0) (c .before .before .loop .inv .0) (omega (arith, c .if1 .left))
+returns-2 c = remaining-empty (c .before .before .before .before .before .before .before .before .pre .0) (c .before .before .loop .inv .0) (omega (arith, c .if1 .left))
 
 pub complete-all-sums-entirely-spec : {M : Type 1} → statement M
 complete-all-sums-entirely-spec =
@@ -91,10 +83,12 @@ complete-all-sums-entirely-spec =
     loop-holds
     same-length
     same-length-2
+    same-length-3
     returns
     complete-sum-requires
     loop-less
     loop-again
-    same-length-3
     same-length-4
+    same-length-5
+    same-length-6
     returns-2)

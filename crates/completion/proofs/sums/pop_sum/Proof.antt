@@ -1,14 +1,15 @@
 use Rattle.completion.specs.Pass.{Pass}
 use mathlib.Core.Bool.{false}
 use mathlib.Core.List.{[]}
-use Rattle.completion.proofs.Summing.{sum-turn, read-next}
+use Rattle.completion.proofs.Summing.{next-queued, sum-turn, read-next}
+use Rattle.completion.proofs.Overlaid.{fits-on, read-on}
 use Rattle.completion.proofs.Charting.{next-sound, goes-on-sum}
 use Rattle.completion.specs.Sums.{sumEnds, nextSummand, popSum}
 use Rattle.completion.specs.inner.Ready.{RulesRead}
 use Rattle.laws.proofs.Turns.{until-rests}
 use Rattle.laws.specs.Turns.{until}
 use borrow.Author.Tests.{not-true, not-false}
-use Rattle.completion.specs.Pass.{passOf}
+use Rattle.completion.specs.Pass.{passOver}
 use Rattle.grammar.specs.inner.Decoded.{rulesIn}
 use native.Mathlib.Omega.{arith}
 use lib.ListN.{length}
@@ -18,75 +19,73 @@ use Rattle.completion.proofs.sums.pop_sum.Statement.{statement}
 use Rattle.completion.proofs.sums.pop_sum.Tie as tie
 
 abbrev Inv-loop : tie.InvT-loop
-Inv-loop rules count items queue₀ k x now₀ queue now =
-    (until (now .queued) (sumEnds (rulesIn rules count) k x) nextSummand (passOf now items queue) ≡ popSum (rulesIn rules count) k x (passOf now₀ items queue₀))
-    × RulesRead (rulesIn rules count) (passOf now items queue)
+Inv-loop rules count items queue₀ store₀ k x now₀ queue store now =
+    (until (now .queued) (sumEnds (rulesIn rules count) k x) nextSummand (passOver now items queue store)
+    ≡ popSum (rulesIn rules count) k x (passOver now₀ items queue₀ store₀))
+    × RulesRead (rulesIn rules count) (passOver now items queue store)
     × (length queue ≡ length queue₀)
+    × (length store ≡ length store₀)
 
 abbrev μ-loop : tie.MeasureT-loop
-μ-loop rules count items queue₀ k x now₀ queue now = now .queued
+μ-loop rules count items queue₀ store₀ k x now₀ queue store now = now .queued
 
--- src/sums.rt:55:5
 loop-holds : tie.Need-loop-holds Inv-loop μ-loop
 unfolding popSum
-loop-holds c = (refl, c .before .before .pre, refl)
+loop-holds c = (refl, read-on (c .before .before .before .args .store .now) (c .before .before .before .pre), refl, refl)
 
--- src/sums.rt:55:12
 sum-ends-requires : tie.Need-sum-ends-requires Inv-loop μ-loop
-sum-ends-requires c κs = c .before .loop .inv .1
+sum-ends-requires c κs = read-on [] (c .before .loop .inv .1)
 
--- src/sums.rt:56:9
 next-summand-requires : tie.Need-next-summand-requires Inv-loop μ-loop
 next-summand-requires c κs =
-    let given = c .before .before .before .before .before .before .before .args in
-    let looped = c .before .before .before .before .loop in
+    let given = c .before .before .before .before .before .before .before .before .before .args in
+    let looped = c .before .before .before .before .before .loop in
+    let end-asked = c .before .before .before .sum-ends in
     let rs = rulesIn (given .rules .now) (given .count) in
-    let u = passOf (looped .now) (given .items .now) (looped .queue) in
-    let on : sumEnds rs (given .k) (given .x) u ≡ false = sym (c .before .before .sum-ends .ensures) ∙ not-true (c .before .before .sum-ends .result) (c .before .if1 .taken) in
+    let u = passOver (looped .now) (given .items .now) (looped .queue) (looped .store) in
+    let on : sumEnds rs (given .k) (given .x) u ≡ false = sym (end-asked .ensures) ∙ not-true (end-asked .result) (c .before .before .if1 .taken) in
     let some : 0 < looped .now .queued = goes-on-sum rs [] u (given .k) (given .x) u on in
-    (looped .inv .1 .sound, some)
+    (fits-on [] (looped .inv .1 .sound), some)
 
--- src/sums.rt:55:5
 loop-less : tie.Need-loop-less Inv-loop μ-loop
-unfolding nextSummand
 loop-less c =
-    let given = c .before .before .before .before .before .before .before .before .before .before .args in
-    let looped = c .before .before .before .before .before .before .before .loop in
-    let end-asked = c .before .before .before .before .before .sum-ends in
+    let given = c .before .before .before .before .before .before .before .before .before .before .before .before .before .before .args in
+    let looped = c .before .before .before .before .before .before .before .before .before .before .loop in
+    let end-asked = c .before .before .before .before .before .before .before .before .sum-ends in
     let rs = rulesIn (given .rules .now) (given .count) in
-    let u = passOf (looped .now) (given .items .now) (looped .queue) in
-    let on : sumEnds rs (given .k) (given .x) u ≡ false = sym (end-asked .ensures) ∙ not-true (end-asked .result) (c .before .before .before .before .if1 .taken) in
+    let u = passOver (looped .now) (given .items .now) (looped .queue) (looped .store) in
+    let on : sumEnds rs (given .k) (given .x) u ≡ false = sym (end-asked .ensures) ∙ not-true (end-asked .result) (c .before .before .before .before .before .before .before .if1 .taken) in
     let some : 0 < looped .now .queued = goes-on-sum rs [] u (given .k) (given .x) u on in
-    omega (arith, ap (λ (u : Pass). u .at .queued) (c .before .before .next-summand .ensures))
+    omega (arith, ap (λ (u : Pass). u .at .queued) (c .before .before .before .before .next-summand .ensures), next-queued u)
 
--- src/sums.rt:55:5
 loop-again : tie.Need-loop-again Inv-loop μ-loop
 loop-again c =
-    let given = c .before .before .before .before .before .before .before .before .before .before .args in
-    let looped = c .before .before .before .before .before .before .before .loop in
-    let end-asked = c .before .before .before .before .before .sum-ends in
-    let summand-taken = c .before .before .next-summand in
+    let given = c .before .before .before .before .before .before .before .before .before .before .before .before .before .before .args in
+    let looped = c .before .before .before .before .before .before .before .before .before .before .loop in
+    let end-asked = c .before .before .before .before .before .before .before .before .sum-ends in
+    let summand-taken = c .before .before .before .before .next-summand in
     let rs = rulesIn (given .rules .now) (given .count) in
-    let u = passOf (looped .now) (given .items .now) (looped .queue) in
-    let on : sumEnds rs (given .k) (given .x) u ≡ false = sym (end-asked .ensures) ∙ not-true (end-asked .result) (c .before .before .before .before .if1 .taken) in
+    let u = passOver (looped .now) (given .items .now) (looped .queue) (looped .store) in
+    let on : sumEnds rs (given .k) (given .x) u ≡ false = sym (end-asked .ensures) ∙ not-true (end-asked .result) (c .before .before .before .before .before .before .before .if1 .taken) in
     let some : 0 < looped .now .queued = goes-on-sum rs [] u (given .k) (given .x) u on in (
-      sum-turn rs (given .k) (given .x) u (passOf (summand-taken .result) (given .items .now) (summand-taken .last .1 .0)) on some (summand-taken .ensures) ∙ looped .inv .0,
+      sum-turn rs (given .k) (given .x) u _ on some (summand-taken .ensures) ∙ looped .inv .0,
       subst (RulesRead rs) (sym (summand-taken .ensures)) (read-next rs u (looped .inv .1) some (next-sound u (looped .inv .1 .sound) some)),
       summand-taken .kept .1 .0 ∙ looped .inv .2,
+      summand-taken .kept .1 .1 .0 ∙ looped .inv .3,
     )
 
--- src/sums.rt:50:1
 same-length : tie.Need-same-length Inv-loop μ-loop
 same-length c = c .before .before .before .loop .inv .2
 
--- src/sums.rt:50:1
+same-length-2 : tie.Need-same-length-2 Inv-loop μ-loop
+same-length-2 c = c .before .before .before .loop .inv .3
+
 returns : tie.Need-returns Inv-loop μ-loop
 returns c =
-    let given = c .before .before .before .before .before .before .args in
+    let given = c .before .before .before .before .before .before .before .args in
     let looped = c .before .before .before .loop in
     let rs = rulesIn (given .rules .now) (given .count) in
-    let s = passOf (given .at) (given .items .now) (given .queue .now) in
-    sym (until-rests (sumEnds rs (given .k) (given .x)) nextSummand (looped .now .queued) (passOf (looped .now) (given .items .now) (looped .queue))
+    sym (until-rests (sumEnds rs (given .k) (given .x)) nextSummand (looped .now .queued) (passOver (looped .now) (given .items .now) (looped .queue) (looped .store))
     (sym (c .before .sum-ends .ensures) ∙ not-false (c .before .sum-ends .result) (c .if1 .left))) ∙ looped .inv .0
 
 pub pop-sum-spec : {M : Type 1} → statement M
@@ -101,4 +100,5 @@ pop-sum-spec =
     loop-less
     loop-again
     same-length
+    same-length-2
     returns)

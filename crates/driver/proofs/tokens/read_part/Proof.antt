@@ -34,10 +34,13 @@ same-length-3 c = search needs
 same-length-4 : tie.Need-same-length-4
 same-length-4 c = search needs
 
+same-length-5 : tie.Need-same-length-5
+same-length-5 c = search needs
+
 returns : tie.Need-returns
 returns c =
-    let ran = c .before .before .before .before .before .before .before .before .run-part in
-    let came = c .before .before .before .before .before .before .before .before .before .before .before .before .before .before .before .read-full in
+    let ran = c .before .before .before .before .before .before .before .before .before .before .run-part in
+    let came = c .before .before .before .before .before .before .before .before .before .before .before .before .before .before .before .before .before .before .read-full in
     (runs-part _ (ran .ensures .0) (omega (arith, came .ensures, came .kept, length-replicate {A = ℕ} 65536 0)), ran .ensures .1)
 
 pub read-part-spec : {M : Type 1} → statement M
@@ -53,4 +56,5 @@ read-part-spec =
     same-length-2
     same-length-3
     same-length-4
+    same-length-5
     returns)

@@ -34,12 +34,15 @@ same-length-3 c = search needs
 same-length-4 : tie.Need-same-length-4
 same-length-4 c = search needs
 
+same-length-5 : tie.Need-same-length-5
+same-length-5 c = search needs
+
 returns : tie.Need-returns
 returns c =
-    let decoded = c .before .before .before .before .before .before .before .before .before .before .before .before .before .before .before .decode in
-    let ran = c .before .before .before .before .before .before .before .before .run in
+    let decoded = c .before .before .before .before .before .before .before .before .before .before .before .before .before .before .before .before .before .before .decode in
+    let ran = c .before .before .before .before .before .before .before .before .before .before .run in
     let runs = runs-same _ _ (decoded .ensures .1) (ran .ensures .0) in
-    let fits = c .before .before .before .before .before .before .before .before .before .before .before .before .before .before .before .before .before .before .before .before .before .before .before .pre in
+    let fits = c .before .before .before .before .before .before .before .before .before .before .before .before .before .before .before .before .before .before .before .before .before .before .before .before .before .before .before .pre in
     (runs, part-few _ runs fits)
 
 pub run-part-spec : {M : Type 1} → statement M
@@ -55,4 +58,5 @@ run-part-spec =
     same-length-2
     same-length-3
     same-length-4
+    same-length-5
     returns)

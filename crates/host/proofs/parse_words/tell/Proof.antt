@@ -14,7 +14,7 @@ number-of-requires c κs = search needs
 returns : tie.Need-returns
 returns c =
     let left = c .before .state-of .ensures in
-    (c .number-of .ensures, (ap (λ (s : State). s .set) left, ap (λ (s : State). s .items) left))
+    (c .number-of .ensures, (ap (λ (s : State). s .set) left, (ap (λ (s : State). s .items) left, ap (λ (s : State). s .used) left)))
 
 pub tell-spec : {M : Type 1} → statement M
 tell-spec = tie.close (tie.spec state-of-requires number-of-requires returns)

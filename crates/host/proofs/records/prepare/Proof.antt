@@ -16,7 +16,7 @@ same-length c = search needs
 -- The words are refused.
 returns : tie.Need-returns
 returns c =
-    let required = c .before .before .before .before .before .before .before .before .before .before .before .before .before .pre in
+    let required = c .before .before .before .before .before .before .before .before .before .before .before .before .before .before .pre in
     let t = c .before .tell-count .ensures in
     let told = c .before .before .before .before .before .latest-words .ensures in
     refused-prepared _ told (t .0) (t .1) (required) (c .if1 .taken)

@@ -1,4 +1,4 @@
--- `spare::spare_clear` meets its contract: each kind of words is told of by itself.
+-- `spare::spare_clear` meets its contract: each kind of words, and the units, are told of by themselves.
 use borrow.Author.Needs.{needs}
 use Rattle.parse.specs.inner.Parts.{SpareClear}
 use Rattle.laws.proofs.Decides.{part-fails, passes, decides-map}
@@ -39,18 +39,27 @@ is-clear-requires-3 : tie.Need-is-clear-requires-3
 is-clear-requires-3 c κs = search needs
 
 returns-4 : tie.Need-returns-4
-returns-4 c =
-    let items-checked = c .before .before .before .before .before .before .is-clear in
+returns-4 c = part-fails (c .before .is-clear3 .ensures) (c .if4 .taken) (λ (h : SpareClear _ _). h .queue)
+
+is-filled-requires : tie.Need-is-filled-requires
+is-filled-requires c κs = search needs
+
+returns-5 : tie.Need-returns-5
+returns-5 c =
+    let items-checked = c .before .before .before .before .before .before .before .before .is-clear in
+    let items-clear = c .before .before .before .before .before .before .before .if1 in
+    let starts-checked = c .before .before .before .before .before .before .is-clear2 in
     decides-map
-    (λ queue.
+    (λ store.
     record {
-      items = passes (items-checked .ensures) (c .before .before .before .before .before .if1 .left);
-      starts = passes (c .before .before .before .before .is-clear2 .ensures) (c .before .before .before .if2 .left);
-      rows = passes (c .before .before .is-clear-rows .ensures) (c .before .if3 .left);
-      queue = queue;
+      items = passes (items-checked .ensures) (items-clear .left);
+      starts = passes (starts-checked .ensures) (c .before .before .before .before .before .if2 .left);
+      rows = passes (c .before .before .before .before .is-clear-rows .ensures) (c .before .before .before .if3 .left);
+      queue = passes (c .before .before .is-clear3 .ensures) (c .before .if4 .left);
+      store = store;
     })
-    (λ (h : SpareClear _ _). h .queue)
-    (c .is-clear3 .ensures)
+    (λ (h : SpareClear _ _). h .store)
+    (c .is-filled .ensures)
 
 pub spare-clear-spec : {M : Type 1} → statement M
 spare-clear-spec =
@@ -67,4 +76,6 @@ spare-clear-spec =
     is-clear-rows-requires
     returns-3
     is-clear-requires-3
-    returns-4)
+    returns-4
+    is-filled-requires
+    returns-5)

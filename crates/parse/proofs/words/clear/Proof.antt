@@ -2,18 +2,18 @@
 use Prim.Native.Nat.{_-_}
 use native.Mathlib.Omega.{arith}
 use borrow.Author.Needs.{needs}
-use Rattle.parse.proofs.Padded.{Clearing, clearing-start, clearing-next, clearing-ends}
+use Rattle.parse.proofs.Padded.{Topping, topping-start, topping-next, clearing-ends}
 use Rattle.parse.proofs.words.clear.Statement.{statement}
 use Rattle.parse.proofs.words.clear.Tie as tie
 
 abbrev Inv-loop : tie.InvT-loop
-Inv-loop words₀ from to i₀ words i = Clearing words₀ from to i words
+Inv-loop words₀ from to i₀ words i = Topping 0 words₀ from to i words
 
 abbrev μ-loop : tie.MeasureT-loop
 μ-loop words₀ from to i₀ words i = to - i
 
 loop-holds : tie.Need-loop-holds Inv-loop μ-loop
-loop-holds c = clearing-start _ _ _
+loop-holds c = topping-start _ _ _ _
 
 mul-words : tie.Need-mul-words Inv-loop μ-loop
 mul-words c = search needs
@@ -28,7 +28,7 @@ loop-less : tie.Need-loop-less Inv-loop μ-loop
 loop-less c = search needs
 
 loop-again : tie.Need-loop-again Inv-loop μ-loop
-loop-again c = clearing-next _ _ _ _ _ (c .before .loop .inv) (omega (arith, c .before .before .pre .1))
+loop-again c = topping-next _ _ _ _ _ _ (c .before .loop .inv) (omega (arith, c .before .before .pre .1))
 
 same-length : tie.Need-same-length Inv-loop μ-loop
 same-length c = c .before .loop .inv .long

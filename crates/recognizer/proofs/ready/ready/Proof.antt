@@ -23,17 +23,17 @@ well-formed-requires c κs = sound-few _ _ _ (opened-sound _ _ _ (c .before .bef
 
 returns-2 : tie.Need-returns-2
 returns-2 c =
-    let given = c .before .before .before .before .before .before .before .before .before .before .before .before .before .args in
+    let given = c .before .before .before .before .before .before .before .before .before .before .before .before .before .before .args in
     let opened = c .before .before .before .before .before .before .«open» in
     let sound = opened-sound _ _ _ (opened .ensures) _ (c .before .before .before .before .found .given .1) in
-    told-ill-formed _ _ _ sound (given .state) (wordsOf (given .items .now) (given .starts .now) (given .rows .now) (given .queue .now)) _ (c .before .well-formed .ensures) (c .if1 .taken)
+    told-ill-formed _ _ _ sound (given .state) (wordsOf (given .items .now) (given .starts .now) (given .rows .now) (given .queue .now) (given .store .now)) _ (c .before .well-formed .ensures) (c .if1 .taken)
 
 returns-3 : tie.Need-returns-3
 returns-3 c =
-    let given = c .before .before .before .before .before .before .before .before .before .before .before .before .before .args in
+    let given = c .before .before .before .before .before .before .before .before .before .before .before .before .before .before .args in
     let opened = c .before .before .before .before .before .before .«open» in
     let sound = opened-sound _ _ _ (opened .ensures) _ (c .before .before .before .before .found .given .1) in
-    told-ready _ _ _ sound (given .state) (wordsOf (given .items .now) (given .starts .now) (given .rows .now) (given .queue .now)) _ (c .before .well-formed .ensures) (c .if1 .left)
+    told-ready _ _ _ sound (given .state) (wordsOf (given .items .now) (given .starts .now) (given .rows .now) (given .queue .now) (given .store .now)) _ (c .before .well-formed .ensures) (c .if1 .left)
 
 pub ready-spec : {M : Type 1} → statement M
 ready-spec =

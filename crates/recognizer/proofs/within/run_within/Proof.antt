@@ -13,21 +13,21 @@ use Rattle.recognizer.proofs.within.run_within.Statement.{statement}
 use Rattle.recognizer.proofs.within.run_within.Tie as tie
 
 abbrev Inv-loop : tie.InvT-loop
-Inv-loop rules sizes table items₀ starts₀ rows₀ queue₀ tokens now₀ taken₀ items starts rows queue now taken =
-    Going (grammarFrom rules sizes) table now₀ (wordsOf items₀ starts₀ rows₀ queue₀) tokens now (wordsOf items starts rows queue) taken
+Inv-loop rules sizes table items₀ starts₀ rows₀ queue₀ store₀ tokens now₀ taken₀ items starts rows queue store now taken =
+    Going (grammarFrom rules sizes) table now₀ (wordsOf items₀ starts₀ rows₀ queue₀ store₀) tokens now (wordsOf items starts rows queue store) taken
 
 abbrev μ-loop : tie.MeasureT-loop
-μ-loop rules sizes table items₀ starts₀ rows₀ queue₀ tokens now₀ taken₀ items starts rows queue now taken =
+μ-loop rules sizes table items₀ starts₀ rows₀ queue₀ store₀ tokens now₀ taken₀ items starts rows queue store now taken =
     length tokens - taken
 
 loop-holds : tie.Need-loop-holds Inv-loop μ-loop
 loop-holds c =
-    let given = c .before .before .before .before .before .args in going-first (given .tokens .now) (c .before .before .before .before .before .pre .0)
+    let given = c .before .before .before .before .before .before .args in going-first (given .tokens .now) (c .before .before .before .before .before .before .pre .0)
 
 mul-token-number : tie.Need-mul-token-number Inv-loop μ-loop
 mul-token-number c =
-    let well-lent = c .before .before .before .before .before .before .before .good in
-    scaled-fits _ _ _ (c .loop-test .taken) (well-lent .1 .1 .1 .1 .1 .1 .1 .1 .0 .1)
+    let well-lent = c .before .before .before .before .before .before .before .before .good in
+    scaled-fits _ _ _ (c .loop-test .taken) (well-lent .1 .1 .1 .1 .1 .1 .1 .1 .1 .0 .1)
 
 shared-slice-read-token-number : tie.Need-shared-slice-read-token-number Inv-loop μ-loop
 shared-slice-read-token-number c = c .before .loop-test .taken
@@ -37,7 +37,7 @@ token-number-requires c κs = tt
 
 step-within-requires : tie.Need-step-within-requires Inv-loop μ-loop
 step-within-requires c κs =
-    let looped = c .before .before .before .before .before .before .before .loop in
+    let looped = c .before .before .before .before .before .before .before .before .loop in
     looped .inv .steppable
 
 enum-known-next : tie.Need-enum-known-next Inv-loop μ-loop
@@ -48,67 +48,76 @@ enum-known-why c = c .match .keys2
 
 same-length : tie.Need-same-length Inv-loop μ-loop
 same-length c =
-    let looped = c .before .before .before .before .before .before .before .before .before .before .before .before .before .before .before .before .before .before .before .loop in
-    let stepped = c .before .before .before .before .before .before .before .before .before .before .before .step-within in
+    let looped = c .before .before .before .before .before .before .before .before .before .before .before .before .before .before .before .before .before .before .before .before .before .before .loop in
+    let stepped = c .before .before .before .before .before .before .before .before .before .before .before .before .before .step-within in
     stepped .kept .1 .1 .1 .1 .0 ∙ looped .inv .sizes .items
 
 same-length-2 : tie.Need-same-length-2 Inv-loop μ-loop
 same-length-2 c =
-    let looped = c .before .before .before .before .before .before .before .before .before .before .before .before .before .before .before .before .before .before .before .loop in
-    let stepped = c .before .before .before .before .before .before .before .before .before .before .before .step-within in
+    let looped = c .before .before .before .before .before .before .before .before .before .before .before .before .before .before .before .before .before .before .before .before .before .before .loop in
+    let stepped = c .before .before .before .before .before .before .before .before .before .before .before .before .before .step-within in
     stepped .kept .1 .1 .1 .1 .1 .0 ∙ looped .inv .sizes .starts
 
 same-length-3 : tie.Need-same-length-3 Inv-loop μ-loop
 same-length-3 c =
-    let looped = c .before .before .before .before .before .before .before .before .before .before .before .before .before .before .before .before .before .before .before .loop in
-    let stepped = c .before .before .before .before .before .before .before .before .before .before .before .step-within in
+    let looped = c .before .before .before .before .before .before .before .before .before .before .before .before .before .before .before .before .before .before .before .before .before .before .loop in
+    let stepped = c .before .before .before .before .before .before .before .before .before .before .before .before .before .step-within in
     stepped .kept .1 .1 .1 .1 .1 .1 .0 ∙ looped .inv .sizes .rows
 
 same-length-4 : tie.Need-same-length-4 Inv-loop μ-loop
 same-length-4 c =
-    let looped = c .before .before .before .before .before .before .before .before .before .before .before .before .before .before .before .before .before .before .before .loop in
-    let stepped = c .before .before .before .before .before .before .before .before .before .before .before .step-within in
+    let looped = c .before .before .before .before .before .before .before .before .before .before .before .before .before .before .before .before .before .before .before .before .before .before .loop in
+    let stepped = c .before .before .before .before .before .before .before .before .before .before .before .before .before .step-within in
     stepped .kept .1 .1 .1 .1 .1 .1 .1 .0 ∙ looped .inv .sizes .queue
+
+same-length-5 : tie.Need-same-length-5 Inv-loop μ-loop
+same-length-5 c =
+    let looped = c .before .before .before .before .before .before .before .before .before .before .before .before .before .before .before .before .before .before .before .before .before .before .loop in
+    let stepped = c .before .before .before .before .before .before .before .before .before .before .before .before .before .step-within in
+    stepped .kept .1 .1 .1 .1 .1 .1 .1 .1 .0 ∙ looped .inv .sizes .store
 
 returns : tie.Need-returns Inv-loop μ-loop
 returns c =
-    let looped = c .before .before .before .before .before .before .before .before .before .before .before .before .before .before .before .before .before .before .before .loop in
-    let entered = c .before .before .before .before .before .before .before .before .before .before .before .before .before .before .before .before .before .before .loop-test in
-    let numbered = c .before .before .before .before .before .before .before .before .before .before .before .before .before .before .before .before .token-number in
-    let stepped = c .before .before .before .before .before .before .before .before .before .before .before .step-within in
+    let looped = c .before .before .before .before .before .before .before .before .before .before .before .before .before .before .before .before .before .before .before .before .before .before .loop in
+    let entered = c .before .before .before .before .before .before .before .before .before .before .before .before .before .before .before .before .before .before .before .before .before .loop-test in
+    let numbered = c .before .before .before .before .before .before .before .before .before .before .before .before .before .before .before .before .before .before .before .token-number in
+    let stepped = c .before .before .before .before .before .before .before .before .before .before .before .before .before .step-within in
     going-off (looped .inv) (entered .taken) (stepped .ensures) (numbered .ensures) (c .before .why .given .1)
 
 add-taken : tie.Need-add-taken Inv-loop μ-loop
 add-taken c =
-    let well-lent = c .before .before .before .before .before .before .before .before .before .before .before .before .before .before .before .before .before .before .before .before .before .before .before .before .before .good in
-    let entered = c .before .before .before .before .before .before .before .before .before .before .before .before .before .before .before .before .before .before .loop-test in
-    record { fits = lt-of-le-of-lt (add-one-le (entered .taken)) (well-lent .1 .1 .1 .1 .1 .1 .1 .1 .0 .0) }
+    let well-lent = c .before .before .before .before .before .before .before .before .before .before .before .before .before .before .before .before .before .before .before .before .before .before .before .before .before .before .before .before .before .good in
+    let entered = c .before .before .before .before .before .before .before .before .before .before .before .before .before .before .before .before .before .before .before .before .before .loop-test in
+    record { fits = lt-of-le-of-lt (add-one-le (entered .taken)) (well-lent .1 .1 .1 .1 .1 .1 .1 .1 .1 .0 .0) }
 
 loop-less : tie.Need-loop-less Inv-loop μ-loop
 loop-less c =
-    let entered = c .before .before .before .before .before .before .before .before .before .before .before .before .before .before .before .before .before .before .loop-test in
+    let entered = c .before .before .before .before .before .before .before .before .before .before .before .before .before .before .before .before .before .before .before .before .before .loop-test in
     omega (arith, entered .taken)
 
 loop-again : tie.Need-loop-again Inv-loop μ-loop
 loop-again c =
-    let required = c .before .before .before .before .before .before .before .before .before .before .before .before .before .before .before .before .before .before .before .before .before .before .before .before .before .pre in
-    let looped = c .before .before .before .before .before .before .before .before .before .before .before .before .before .before .before .before .before .before .before .loop in
-    let entered = c .before .before .before .before .before .before .before .before .before .before .before .before .before .before .before .before .before .before .loop-test in
-    let numbered = c .before .before .before .before .before .before .before .before .before .before .before .before .before .before .before .before .token-number in
-    let stepped = c .before .before .before .before .before .before .before .before .before .before .before .step-within in
+    let required = c .before .before .before .before .before .before .before .before .before .before .before .before .before .before .before .before .before .before .before .before .before .before .before .before .before .before .before .before .before .pre in
+    let looped = c .before .before .before .before .before .before .before .before .before .before .before .before .before .before .before .before .before .before .before .before .before .before .loop in
+    let entered = c .before .before .before .before .before .before .before .before .before .before .before .before .before .before .before .before .before .before .before .before .before .loop-test in
+    let numbered = c .before .before .before .before .before .before .before .before .before .before .before .before .before .before .before .before .before .before .before .token-number in
+    let stepped = c .before .before .before .before .before .before .before .before .before .before .before .before .before .step-within in
     going-on (looped .inv) (entered .taken) (stepped .ensures) (numbered .ensures) (required .1) (c .before .next .given .1)
 
-same-length-5 : tie.Need-same-length-5 Inv-loop μ-loop
-same-length-5 c = c .before .loop .inv .sizes .items
-
 same-length-6 : tie.Need-same-length-6 Inv-loop μ-loop
-same-length-6 c = c .before .loop .inv .sizes .starts
+same-length-6 c = c .before .loop .inv .sizes .items
 
 same-length-7 : tie.Need-same-length-7 Inv-loop μ-loop
-same-length-7 c = c .before .loop .inv .sizes .rows
+same-length-7 c = c .before .loop .inv .sizes .starts
 
 same-length-8 : tie.Need-same-length-8 Inv-loop μ-loop
-same-length-8 c = c .before .loop .inv .sizes .queue
+same-length-8 c = c .before .loop .inv .sizes .rows
+
+same-length-9 : tie.Need-same-length-9 Inv-loop μ-loop
+same-length-9 c = c .before .loop .inv .sizes .queue
+
+same-length-10 : tie.Need-same-length-10 Inv-loop μ-loop
+same-length-10 c = c .before .loop .inv .sizes .store
 
 returns-2 : tie.Need-returns-2 Inv-loop μ-loop
 returns-2 c = going-end (c .before .loop .inv) (c .loop-test .left)
@@ -130,12 +139,14 @@ run-within-spec =
     same-length-2
     same-length-3
     same-length-4
+    same-length-5
     returns
     add-taken
     loop-less
     loop-again
-    same-length-5
     same-length-6
     same-length-7
     same-length-8
+    same-length-9
+    same-length-10
     returns-2)

@@ -29,54 +29,68 @@ mul-row-end c = search needs
 queue-room-requires : tie.Need-queue-room-requires
 queue-room-requires c κs = search needs
 
+mul-queue-end : tie.Need-mul-queue-end
+mul-queue-end c = search needs
+
+store-room-requires : tie.Need-store-room-requires
+store-room-requires c κs = search needs
+
 slice-relend-prefix-step : tie.Need-slice-relend-prefix-step
 slice-relend-prefix-step c = search needs
 
 slice-aggregate-step : tie.Need-slice-aggregate-step
 slice-aggregate-step c =
-    let given = c .before .before .before .before .before .before .before .before .before .before .before .before .args in
-    let items-measured = c .before .before .before .before .before .before .item-room in
+    let given = c .before .before .before .before .before .before .before .before .before .before .before .before .before .before .before .args in
+    let items-measured = c .before .before .before .before .before .before .before .before .item-room in
     sym (length-take-le _ (given .items .now) (omega (arith, items-measured .ensures)))
 
 slice-relend-prefix-step-2 : tie.Need-slice-relend-prefix-step-2
 slice-relend-prefix-step-2 c =
-    let given = c .before .before .before .before .before .before .before .before .before .before .before .before .args in
-    let required = c .before .before .before .before .before .before .before .before .before .before .before .before .pre in
-    let w = wordsOf (given .items .now) (given .starts .now) (given .rows .now) (given .queue .now) in
-    omega (arith, starts-there w (required .well-formed), c .before .before .before .set-room .ensures)
+    let given = c .before .before .before .before .before .before .before .before .before .before .before .before .before .before .before .args in
+    let required = c .before .before .before .before .before .before .before .before .before .before .before .before .before .before .before .pre in
+    let w = wordsOf (given .items .now) (given .starts .now) (given .rows .now) (given .queue .now) (given .store .now) in
+    omega (arith, starts-there w (required .well-formed), c .before .before .before .before .before .set-room .ensures)
 
 slice-aggregate-step-2 : tie.Need-slice-aggregate-step-2
 slice-aggregate-step-2 c =
-    let given = c .before .before .before .before .before .before .before .before .before .before .before .before .before .args in
-    let required = c .before .before .before .before .before .before .before .before .before .before .before .before .before .pre in
-    let w = wordsOf (given .items .now) (given .starts .now) (given .rows .now) (given .queue .now) in
-    sym (length-take-le _ (given .starts .now) (omega (arith, starts-there w (required .well-formed), c .before .before .before .before .set-room .ensures)))
+    let given = c .before .before .before .before .before .before .before .before .before .before .before .before .before .before .before .before .args in
+    let required = c .before .before .before .before .before .before .before .before .before .before .before .before .before .before .before .before .pre in
+    let w = wordsOf (given .items .now) (given .starts .now) (given .rows .now) (given .queue .now) (given .store .now) in
+    sym (length-take-le _ (given .starts .now) (omega (arith, starts-there w (required .well-formed), c .before .before .before .before .before .before .set-room .ensures)))
 
 slice-relend-prefix-step-3 : tie.Need-slice-relend-prefix-step-3
 slice-relend-prefix-step-3 c = search needs
 
 slice-aggregate-step-3 : tie.Need-slice-aggregate-step-3
 slice-aggregate-step-3 c =
-    let given = c .before .before .before .before .before .before .before .before .before .before .before .before .before .before .args in
-    sym (length-take-le _ (given .rows .now) (omega (arith, c .before .before .before .before .before .set-room .ensures)))
+    let given = c .before .before .before .before .before .before .before .before .before .before .before .before .before .before .before .before .before .args in
+    sym (length-take-le _ (given .rows .now) (omega (arith, c .before .before .before .before .before .before .before .set-room .ensures)))
 
 slice-relend-prefix-step-4 : tie.Need-slice-relend-prefix-step-4
 slice-relend-prefix-step-4 c = search needs
 
 slice-aggregate-step-4 : tie.Need-slice-aggregate-step-4
 slice-aggregate-step-4 c =
-    let given = c .before .before .before .before .before .before .before .before .before .before .before .before .before .before .before .args in
-    sym (length-take-le _ (given .queue .now) (omega (arith, c .before .before .before .before .queue-room .ensures)))
+    let given = c .before .before .before .before .before .before .before .before .before .before .before .before .before .before .before .before .before .before .args in
+    sym (length-take-le _ (given .queue .now) (omega (arith, c .before .before .before .before .before .before .queue-room .ensures)))
+
+slice-relend-prefix-step-5 : tie.Need-slice-relend-prefix-step-5
+slice-relend-prefix-step-5 c = search needs
+
+slice-aggregate-step-5 : tie.Need-slice-aggregate-step-5
+slice-aggregate-step-5 c =
+    let given = c .before .before .before .before .before .before .before .before .before .before .before .before .before .before .before .before .before .before .before .args in
+    sym (length-take-le _ (given .store .now) (omega (arith, c .before .before .before .before .before .store-room .ensures)))
 
 step-requires : tie.Need-step-requires
 step-requires c κs =
-    let given = c .before .before .before .before .before .before .before .before .before .before .before .before .before .before .before .args in
-    let required = c .before .before .before .before .before .before .before .before .before .before .before .before .before .before .before .pre in
-    let items-measured = c .before .before .before .before .before .before .before .before .before .item-room in
-    let sets-measured = c .before .before .before .before .before .before .set-room in
-    let w = wordsOf (given .items .now) (given .starts .now) (given .rows .now) (given .queue .now) in
+    let given = c .before .before .before .before .before .before .before .before .before .before .before .before .before .before .before .before .before .before .before .args in
+    let required = c .before .before .before .before .before .before .before .before .before .before .before .before .before .before .before .before .before .before .before .pre in
+    let items-measured = c .before .before .before .before .before .before .before .before .before .before .before .before .item-room in
+    let sets-measured = c .before .before .before .before .before .before .before .before .before .set-room in
+    let w = wordsOf (given .items .now) (given .starts .now) (given .rows .now) (given .queue .now) (given .store .now) in
     subst (Steppable (grammarFrom (given .rules .now) (given .sizes)) (given .table .now) (given .state))
-    (first-within w (items-measured .ensures) (sets-measured .ensures) (c .before .before .before .before .queue-room .ensures))
+    (first-within w (items-measured .ensures) (sets-measured .ensures) (c .before .before .before .before .before .before .before .queue-room .ensures) (c .before .before .before .before .before .store-room .ensures))
     required
 
 same-length : tie.Need-same-length
@@ -91,18 +105,22 @@ same-length-3 c = search needs
 same-length-4 : tie.Need-same-length-4
 same-length-4 c = search needs
 
+same-length-5 : tie.Need-same-length-5
+same-length-5 c = search needs
+
 returns : tie.Need-returns
 returns c =
-    let given = c .before .before .before .before .before .before .before .before .before .before .before .before .before .before .before .before .before .before .before .before .before .before .before .before .args in
-    let items-measured = c .before .before .before .before .before .before .before .before .before .before .before .before .before .before .before .before .before .before .item-room in
-    let sets-measured = c .before .before .before .before .before .before .before .before .before .before .before .before .before .before .before .set-room in
-    let queue-measured = c .before .before .before .before .before .before .before .before .before .before .before .before .before .queue-room in
-    let step-taken = c .before .before .before .before .before .before .before .before .step in
-    let w = wordsOf (given .items .now) (given .starts .now) (given .rows .now) (given .queue .now) in
+    let given = c .before .before .before .before .before .before .before .before .before .before .before .before .before .before .before .before .before .before .before .before .before .before .before .before .before .before .before .before .before .before .args in
+    let items-measured = c .before .before .before .before .before .before .before .before .before .before .before .before .before .before .before .before .before .before .before .before .before .before .before .item-room in
+    let sets-measured = c .before .before .before .before .before .before .before .before .before .before .before .before .before .before .before .before .before .before .before .before .set-room in
+    let queue-measured = c .before .before .before .before .before .before .before .before .before .before .before .before .before .before .before .before .before .before .queue-room in
+    let store-measured = c .before .before .before .before .before .before .before .before .before .before .before .before .before .before .before .before .store-room in
+    let step-taken = c .before .before .before .before .before .before .before .before .before .before .step in
+    let w = wordsOf (given .items .now) (given .starts .now) (given .rows .now) (given .queue .now) (given .store .now) in
     let last = step-taken .last .1 .1 .1 .1 in
-    replaced-place w (items-measured .ensures) (sets-measured .ensures) (queue-measured .ensures)
+    replaced-place w (items-measured .ensures) (sets-measured .ensures) (queue-measured .ensures) (store-measured .ensures)
     (λ (v : Words). stepped (grammarFrom (given .rules .now) (given .sizes)) (given .table .now) (given .state) v (given .t))
-    (outcomeOf (step-taken .result) (wordsOf (last .0) (last .1 .0) (last .1 .1 .0) (last .1 .1 .1 .0)))
+    (outcomeOf (step-taken .result) (wordsOf (last .0) (last .1 .0) (last .1 .1 .0) (last .1 .1 .1 .0) (last .1 .1 .1 .1 .0)))
     (step-taken .ensures)
 
 pub step-within-spec : {M : Type 1} → statement M
@@ -115,6 +133,8 @@ step-within-spec =
     add-start-end
     mul-row-end
     queue-room-requires
+    mul-queue-end
+    store-room-requires
     slice-relend-prefix-step
     slice-aggregate-step
     slice-relend-prefix-step-2
@@ -123,9 +143,12 @@ step-within-spec =
     slice-aggregate-step-3
     slice-relend-prefix-step-4
     slice-aggregate-step-4
+    slice-relend-prefix-step-5
+    slice-aggregate-step-5
     step-requires
     same-length
     same-length-2
     same-length-3
     same-length-4
+    same-length-5
     returns)

@@ -1,8 +1,8 @@
--- `spelling::long_right` meets its contract, by the test for all ones.
+-- `factor::long_right` meets its contract, by the test for all ones.
 use borrow.Author.Tests.{eq-eqb, ne-eqb}
 use Rattle.node.specs.Reading.{longRight}
-use Rattle.node.proofs.spelling.long_right.Statement.{statement}
-use Rattle.node.proofs.spelling.long_right.Tie as tie
+use Rattle.node.proofs.factor.long_right.Statement.{statement}
+use Rattle.node.proofs.factor.long_right.Tie as tie
 
 returns : tie.Need-returns
 unfolding longRight
