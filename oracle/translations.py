@@ -14,9 +14,9 @@ import random
 import sys
 
 import asserting  # noqa: F401
+import forest_model as forest
 import grammar_check
 import library
-import model
 import translate
 from translate import Written
 from translated_numbers import PLENTY, TRANSLATORS
@@ -25,7 +25,7 @@ from translated_numbers import PLENTY, TRANSLATORS
 LONGEST, LONGEST_READ = 4, 3
 
 # Room for all that is read here.
-ITEMS, SETS, QUEUE = 400, 8, 200
+ITEMS, SETS, QUEUE, UNITS = 400, 8, 200, 2000
 
 
 # ------------------------------------------------------------------------------------------------- From the rules alone
@@ -87,14 +87,14 @@ def reachable(start, steps):
 
 def reads_exactly(file, tokens, strings):
     """The recognizer, over the file, finishes exactly on these of the short strings that are not empty."""
-    lent_file, lent = library.File(file), library.Lent(model.Buffers.zeroed(ITEMS, SETS, QUEUE))
+    lent_file, lent = library.File(file), library.Lent(forest.Buffers.spare(ITEMS, SETS, QUEUE, UNITS))
     for length in range(1, LONGEST_READ + 1):
         for string in itertools.product(range(tokens), repeat=length):
-            answer, state = library.begin(lent_file, model.FRESH, lent)
+            answer, state = library.begin(lent_file, forest.FRESH, lent)
             assert answer == 0
             answer, state, taken = library.run(lent_file, state, lent, string)
             assert answer in (0, 6), (answer, file.hex(), string)
-            assert (answer == 0 and library.finished(lent_file, state, lent) == (0, True)) == (string in strings), (file.hex(), string)
+            assert (answer == 0 and library.finished(lent_file, state, lent)[:2] == (0, True)) == (string in strings), (file.hex(), string)
 
 
 def judge(grammar, number, file, empty):
