@@ -35,6 +35,11 @@ static uint16_t tokens[TOKENS], forest[UNITS], store[UNITS];
 static size_t tokens_len;
 static uint32_t yes, handle, node[5], answer;
 
+/* A written grammar, and the place of its file. */
+static uint8_t written[9 + 36 * 65535], made[BRINESADDLE_MAX_FILE];
+static size_t written_len, length;
+static uint32_t empty;
+
 /* The places of the reports, each at its longest, and whether they are lent or nothing is. */
 static uint16_t expected_tokens[BRINESADDLE_MAX_TOKENS];
 static uint8_t text[BRINESADDLE_MAX_LINE * ITEMS];
@@ -62,9 +67,10 @@ static void latest_records(void) { answer = brinesaddle_latest_records(FILE_LENT
 static void node_write(void) { answer = brinesaddle_node_write(store, UNITS, position, node, &behind, &place); }
 static void node_read(void) { answer = brinesaddle_node_read(store, UNITS, position, node, &behind, &place); }
 static void node_walk(void) { answer = brinesaddle_node_walk(store, UNITS, 0, &count, &behind, &place); }
+static void translate(void) { answer = brinesaddle_translate(written, written_len, made, sizeof made, &length, &empty); }
 
 enum {
-    CHECK, START, TOKEN, RUN, FINISHED, LATEST_SET, EXPECTED, LISTING, LATEST_WORDS, LATEST_RECORDS, NODE_WRITE, NODE_READ, NODE_WALK, CALLS
+    CHECK, START, TOKEN, RUN, FINISHED, LATEST_SET, EXPECTED, LISTING, LATEST_WORDS, LATEST_RECORDS, NODE_WRITE, NODE_READ, NODE_WALK, TRANSLATE, CALLS
 };
 
 static const struct {
@@ -85,6 +91,7 @@ static const struct {
     [NODE_WRITE] = {"node_write", node_write, BRINESADDLE_NODE_STACK},
     [NODE_READ] = {"node_read", node_read, BRINESADDLE_NODE_STACK},
     [NODE_WALK] = {"node_walk", node_walk, BRINESADDLE_NODE_STACK},
+    [TRANSLATE] = {"translate", translate, BRINESADDLE_TRANSLATE_STACK},
 };
 
 static size_t most[CALLS];
@@ -239,6 +246,46 @@ static void nodes(void)
     measure(NODE_WRITE, BRINESADDLE_NO_ROOM);
 }
 
+/* A written grammar of these u16s behind its version. */
+static void write_down(const uint16_t *numbers, size_t count)
+{
+    written_len = 0;
+    written[written_len++] = 2;
+    for (size_t k = 0; k < count; k++) {
+        written[written_len++] = (uint8_t)(numbers[k] >> 8);
+        written[written_len++] = (uint8_t)numbers[k];
+    }
+}
+
+/* A translation with each answer, and one of the largest file: S ::= x y for 2,047 pairs of 50 tokens. */
+static void translations(void)
+{
+    static const struct {
+        uint16_t numbers[12];
+        size_t count;
+        uint32_t answer;
+    } small[] = {
+        {{1, 1, 2, 1, 1, 0, 1, 2, 0, 1}, 10, BRINESADDLE_DONE},
+        {{1, 1, 2, 1, 1, 0, 1, 2, 0}, 9, BRINESADDLE_NOT_WRITTEN},
+        {{1, 1, 1, 1, 1, 1, 1}, 7, BRINESADDLE_CIRCULAR},
+        {{1, 1, 0, 1}, 4, BRINESADDLE_BARREN},
+        {{1, 2, 2, 1, 1, 1, 0, 2, 0}, 9, BRINESADDLE_UNREACHABLE},
+        {{1, 1, 1, 1, 1, 0}, 6, BRINESADDLE_NO_SENTENCE},
+        {{510, 1, 1, 510, 510, 1, 0}, 7, BRINESADDLE_FILE_ROOM},
+    };
+    for (size_t k = 0; k < sizeof small / sizeof *small; k++) {
+        write_down(small[k].numbers, small[k].count);
+        measure(TRANSLATE, small[k].answer);
+    }
+    static uint16_t pairs[4 + 4 * (RULES - 1)] = {50, 1, RULES - 1, 50};
+    for (unsigned k = 0; k < RULES - 1; k++) {
+        uint16_t *rule = pairs + 4 + 4 * k;
+        rule[0] = 50, rule[1] = 2, rule[2] = (uint16_t)(k / 50), rule[3] = (uint16_t)(k % 50);
+    }
+    write_down(pairs, sizeof pairs / sizeof *pairs);
+    measure(TRANSLATE, BRINESADDLE_DONE);
+}
+
 int main(void)
 {
     for (tokens_len = 0; tokens_len < TOKENS; tokens_len++)
@@ -249,6 +296,7 @@ int main(void)
     largest_grammar();
     parses(BRINESADDLE_QUEUE_FULL);
     nodes();
+    translations();
     int less = 0;
     for (int which = 0; which < CALLS; which++) {
         printf("%-14s %6zu, header %6zu\n", calls[which].name, most[which], calls[which].said);

@@ -39,7 +39,13 @@ enum {
     BRINESADDLE_NO_ROOM = 11,      /* the node does not fit the store from its position */
     BRINESADDLE_NO_NODE = 12,      /* the units at the position are no node */
     BRINESADDLE_TOO_SHORT = 13,    /* the place lent is too short for what is told */
-    BRINESADDLE_STORE_FULL = 14    /* a token: its nodes do not fit the store */
+    BRINESADDLE_STORE_FULL = 14,   /* a token: its nodes do not fit the store */
+    BRINESADDLE_NOT_WRITTEN = 16,  /* translate: the bytes are no written grammar of version 2 */
+    BRINESADDLE_CIRCULAR = 17,     /* a nonterminal derives itself */
+    BRINESADDLE_BARREN = 18,       /* a nonterminal derives no token string, not even the empty one */
+    BRINESADDLE_UNREACHABLE = 19,  /* a nonterminal is unreachable */
+    BRINESADDLE_NO_SENTENCE = 20,  /* there is no nonempty sentence */
+    BRINESADDLE_FILE_ROOM = 21     /* the file would have more than 512 symbols or 2,048 rules, or more bytes than are lent */
 };
 
 /* The words that count. More may be lent: words past these are never touched and do not matter.
@@ -70,7 +76,8 @@ enum {
     BRINESADDLE_PARSE_STACK = 81920,  /* start, token, run */
     BRINESADDLE_REPORT_STACK = 40960, /* check, finished, latest_set, expected, listing, latest_words */
     BRINESADDLE_RECORDS_STACK = 122880, /* latest_records: it holds the words of a whole set */
-    BRINESADDLE_NODE_STACK = 512      /* node_write, node_read, node_walk */
+    BRINESADDLE_NODE_STACK = 512,     /* node_write, node_read, node_walk */
+    BRINESADDLE_TRANSLATE_STACK = 212992 /* translate: it holds marks for every symbol that two bytes can name */
 };
 
 /* Checks a grammar file of version 1. Answers 0, 1 or 2, and writes nothing. A nonterminal that the start symbol does not reach by the rules
@@ -207,6 +214,20 @@ uint32_t brinesaddle_node_read(const uint16_t *store, size_t store_len, size_t p
  * Answers 0 or 12. Either way `count` is the number of nodes read, and `behind` the position behind the last one, p if there is none: 12 is
  * the answer of a read from `behind`, and `place` what that read tells. Where the answer is 0, `place` is as it was. */
 uint32_t brinesaddle_node_walk(const uint16_t *store, size_t store_len, size_t p, size_t *count, size_t *behind, size_t *place);
+
+/* Translates a written grammar, version 2, into a grammar file of version 1 with the same nonempty sentences (docs/TRANSLATION.md fixes
+ * every byte). Any bytes are taken. `written` and `file` must not overlap, and neither of them the two words.
+ * Answers 0, or the lowest that applies of 16 to 21. Done: the file stands in the first `length` bytes of `file`, those behind it are as they
+ * were, it passes brinesaddle_check, and `empty` is 1 or 0: whether the empty sentence was there, which no file can tell. Refused: `file`
+ * and both words as they were.
+ * BRINESADDLE_MAX_FILE bytes of place always suffice. Nothing more is lent: a call works on its own stack.
+ * Time: milliseconds for a grammar that a person wrote. It grows with the square of the input where a stranger makes it: the largest and
+ * worst input, 2.3 MB, takes minutes (docs/SPEED.md), and ends. */
+enum {
+    BRINESADDLE_MAX_FILE = 12299
+};
+
+uint32_t brinesaddle_translate(const uint8_t *written, size_t written_len, uint8_t *file, size_t file_len, size_t *length, uint32_t *empty);
 
 #ifdef __cplusplus
 }

@@ -44,6 +44,7 @@ for name, parameters in {
     "node_write": slice_of(u16) + [size] + NODE + OUT + OUT,
     "node_read": slice_of(u16) + [size] + NODE + OUT + OUT,
     "node_walk": slice_of(u16) + [size] + OUT + OUT + OUT,
+    "translate": slice_of(u8) + slice_of(u8) + OUT + [ctypes.POINTER(u32)],
 }.items():
     function = getattr(library, "brinesaddle_" + name)
     function.argtypes, function.restype = parameters, u32
@@ -199,3 +200,22 @@ def node_walk(store, position):
     answer = library.brinesaddle_node_walk(units, length, position, ctypes.byref(count), ctypes.byref(behind), ctypes.byref(place))
     assert units[:length] == store
     return answer, count.value, behind.value, place.value
+
+
+def copied(data):
+    """Bytes as an array of their own; an empty one still has an address."""
+    return (u8 * max(1, len(data))).from_buffer_copy(bytes(data) or b"\x00"), len(data)
+
+
+def translate(written, lent):
+    """As its namesake in translate.py, over so many bytes of output that hold something: what is not the file's must stay as it was."""
+    before = bytes((7 * place + 5) % 251 for place in range(lent))
+    out, out_len = copied(before)
+    length, empty = size(0xBAD), u32(0xBAD)
+    number = library.brinesaddle_translate(*copied(written), out, out_len, ctypes.byref(length), ctypes.byref(empty))
+    after = bytes(out[:lent])
+    if number:
+        assert after == before and (length.value, empty.value) == (0xBAD, 0xBAD), f"{number} leaves something else"
+        return number, None, None
+    assert after[length.value:] == before[length.value:] and length.value <= lent and empty.value in (0, 1)
+    return 0, after[:length.value], empty.value == 1

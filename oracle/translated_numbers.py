@@ -1,19 +1,35 @@
 #!/usr/bin/env python3
 """The examples of docs/TRANSLATION.md byte for byte, the inputs of C-18's readings, damaged bytes of each kind, and the limits, on every
-translator there is. What is wanted is written out by hand.
+translator there is, and on the program. What is wanted is written out by hand.
 """
 
+import os
 import struct
+import subprocess
 import sys
 
 import asserting  # noqa: F401
+import library
 import translate
 from translate import Written
 
 # The translators, by name: bytes and the number of bytes lent to number, file and whether the empty sentence was there.
-TRANSLATORS = {"reference": translate.translate}
+TRANSLATORS = {"reference": translate.translate, "library": library.translate}
 
 PLENTY = 11 + 6 * translate.MAX_RULES
+
+PROGRAM = os.path.join(os.path.dirname(os.path.dirname(os.path.abspath(__file__))), "target", "bin", "translate")
+
+
+def by_program(written, lent):
+    """The same by the program, whose output has room for every file."""
+    ran = subprocess.run([PROGRAM], input=written, capture_output=True, check=True)
+    kind, said = ran.stderr.decode().removesuffix("\n").split(" ")
+    if kind == "written":
+        assert ran.stdout == b""
+        return int(said), None, None
+    assert kind == "empty" and said in ("yes", "no")
+    return 0, ran.stdout, said == "yes"
 
 
 def grammar(tokens, nonterminals, start, *rules):
@@ -44,9 +60,9 @@ EXAMPLES = [
 # ------------------------------------------------------------------------------------------------- The readings
 
 def vanishing(count, *more):
-    """S ::= a E1, E1 ::= E2, .. , the last ::= nothing; and further rules."""
-    chain = [(2 + place, 3 + place) for place in range(count - 1)] + [(1 + count,)]
-    return grammar(1, 1 + count + len({left for left, *right in more}), 1, (1, 0, 2), *chain, *more)
+    """S ::= a E; E ::= fifteen more, which go on likewise, and the last of them ::= nothing; and further rules."""
+    tree = [(2 + place, *range(3 + 15 * place, min(18 + 15 * place, 2 + count))) for place in range(count)]
+    return grammar(1, 1 + count + len({left for left, *right in more}), 1, (1, 0, 2), *tree, *more)
 
 
 ONE_FILE = file(4, 1, (2, 1, 3), (1, 0))  # S ::= a
@@ -67,7 +83,7 @@ READINGS = [
     ("4 16 symbols", grammar(1, 1, 1, (1, *[0] * 16)), 0, file(18, 1, (16, 1, 17), (1, 15, 0), *[(n, n - 1 if n > 2 else 0, 0) for n in range(2, 16)]), False),
     ("4 17 symbols", grammar(1, 1, 1, (1, *[0] * 17)), 16, None, None),
     ("5 0xFFFF is a symbol", grammar(0xFFFE, 2, 0xFFFE, (0xFFFE, 0, 0xFFFF), (0xFFFF,)), 21, None, None),
-    ("5 and vanishes", grammar(1, 0xFFFF, 1, (1, 0, 2), *[(n, n + 1) for n in range(2, 0xFFFF)], (0xFFFF,)), 0, ONE_FILE, False),
+    ("5 and vanishes", vanishing(0xFFFE), 0, ONE_FILE, False),
     ("6 S ::= S S | nothing", "020001000100020001000100020001000100010000", 17, None, None),
     ("6 S ::= a S derives no string", grammar(1, 1, 1, (1, 0, 1)), 18, None, None),
     ("6 an unreachable A ::= A", "020001000200020001000100010000000200010002", 17, None, None),
@@ -96,6 +112,7 @@ READINGS = [
 ONE = grammar(1, 1, 1, (1, 0))
 
 DAMAGED = [(f"{length} bytes of S ::= a", ONE[:length], 16) for length in range(len(ONE))] + [
+    ("a byte more than the longest", b"\x02" + bytes(9 + 36 * 0xFFFF), 16),
     ("version 1", b"\x01" + ONE[1:], 16),
     ("S is a token", grammar(1, 1, 0, (1, 0)), 16),
     ("S is T+M", grammar(1, 1, 2, (1, 0)), 16),
@@ -149,7 +166,8 @@ def rows():
 def main():
     count = failed = 0
     for name, written, lent, wanted in rows():
-        for translator, answer in TRANSLATORS.items():
+        translators = {**TRANSLATORS, "program": by_program} if lent == PLENTY else TRANSLATORS
+        for translator, answer in translators.items():
             got = answer(written, lent)
             if len(wanted) == 2:
                 got = got[0], got[1] and len(got[1])

@@ -5,21 +5,27 @@
 
 GRAMMARS random inputs from SEED; each number 0 and 16 to 21 must have come LEAST times at least. The same bytes and the same refusals are
 wanted of all. On small grammars what was answered is then looked at by brute force over the written rules: what a list of symbols becomes is
-listed as far as it is asked for, so nothing here marks, counts or numbers a symbol. And every file must be one that the check takes, with all
+listed as far as it is asked for, so nothing here marks, counts or numbers a symbol; and the recognizer reads short strings by the file. And every file must be one that the check takes, with all
 of its nonterminals reachable.
 """
 
+import itertools
 import random
 import sys
 
 import asserting  # noqa: F401
+import forest_model as forest
 import grammar_check
+import library
 import translate
 from translate import Written
 from translated_numbers import PLENTY, TRANSLATORS
 
-# Strings of at most so many tokens are listed.
-LONGEST = 4
+# Strings of at most so many tokens are listed, and of at most so many read by the recognizer.
+LONGEST, LONGEST_READ = 4, 3
+
+# Room for all that is read here.
+ITEMS, SETS, QUEUE, UNITS = 400, 8, 200, 2000
 
 
 # ------------------------------------------------------------------------------------------------- From the rules alone
@@ -79,6 +85,18 @@ def reachable(start, steps):
     return found
 
 
+def reads_exactly(file, tokens, strings):
+    """The recognizer, over the file, finishes exactly on these of the short strings that are not empty."""
+    lent_file, lent = library.File(file), library.Lent(forest.Buffers.spare(ITEMS, SETS, QUEUE, UNITS))
+    for length in range(1, LONGEST_READ + 1):
+        for string in itertools.product(range(tokens), repeat=length):
+            answer, state = library.begin(lent_file, forest.FRESH, lent)
+            assert answer == 0
+            answer, state, taken = library.run(lent_file, state, lent, string)
+            assert answer in (0, 6), (answer, file.hex(), string)
+            assert (answer == 0 and library.finished(lent_file, state, lent)[:2] == (0, True)) == (string in strings), (file.hex(), string)
+
+
 def judge(grammar, number, file, empty):
     """What was answered, beside the rules alone. Grammars of a few symbols only."""
     nonterminals = set(range(grammar.tokens, grammar.end))
@@ -109,6 +127,7 @@ def judge(grammar, number, file, empty):
     assert tokens == grammar.tokens
     plain = [(a, [b] if c == translate.NONE else [b, c]) for a, b, c in rules[1:]]
     assert Becoming(symbols, plain, tokens).strings[rules[0][1]] == strings - {()}
+    reads_exactly(file, tokens, strings)
     kept = len(nonterminals & set(filled))
     assert symbols - tokens - 2 - kept <= sum(max(0, len(right) - 2) for left, right in grammar.rules)
     assert len(rules) - 1 <= sum(3 * len(right) for left, right in grammar.rules)

@@ -1,5 +1,5 @@
 //! The rule reader of the load balancer, over its proved static library. Safe: no call here can be made in a way that the library does
-//! not take. Nothing is allocated but by the caller. A call needs up to 80 KiB of stack, the one for records 120 KiB, one on nodes 512 bytes (include/brinesaddle.h).
+//! not take. Nothing is allocated but by the caller. A call needs up to 80 KiB of stack, the one for records 120 KiB, a translation 208 KiB, one on nodes 512 bytes (include/brinesaddle.h).
 //!
 //! ```
 //! use brinesaddle::{read_node, Node, Parse, Refusal, Words, MAX_TOKENS};
@@ -444,4 +444,84 @@ pub fn walk_nodes(store: &[u16], position: usize) -> Walked {
     let number =
         unsafe { raw::brinesaddle_node_walk(store.as_ptr(), store.len(), position, &mut nodes, &mut behind, &mut place) };
     Walked { nodes, behind, answer: answer_at(number, place) }
+}
+
+/// Why a written grammar is not translated: numbers 16 to 21. The place lent is as it was.
+#[derive(Clone, Copy, Debug, PartialEq, Eq)]
+#[repr(u32)]
+pub enum Untranslated {
+    NotWritten = 16,
+    Circular = 17,
+    Barren = 18,
+    Unreachable = 19,
+    NoSentence = 20,
+    NoRoom = 21,
+}
+
+impl Untranslated {
+    const ALL: [Untranslated; 6] = [
+        Untranslated::NotWritten,
+        Untranslated::Circular,
+        Untranslated::Barren,
+        Untranslated::Unreachable,
+        Untranslated::NoSentence,
+        Untranslated::NoRoom,
+    ];
+
+    /// The number of the refusal.
+    pub fn number(self) -> u32 {
+        self as u32
+    }
+
+    fn sentence(self) -> &'static str {
+        match self {
+            Untranslated::NotWritten => "the bytes are no written grammar of version 2",
+            Untranslated::Circular => "a nonterminal derives itself",
+            Untranslated::Barren => "a nonterminal derives no token string",
+            Untranslated::Unreachable => "a nonterminal is unreachable",
+            Untranslated::NoSentence => "there is no sentence but the empty one",
+            Untranslated::NoRoom => "the file would have too many symbols or rules, or more bytes than are lent",
+        }
+    }
+}
+
+/// A sentence for a person, and the number.
+impl fmt::Display for Untranslated {
+    fn fmt(&self, f: &mut fmt::Formatter<'_>) -> fmt::Result {
+        write!(f, "{} (refusal {})", self.sentence(), self.number())
+    }
+}
+
+impl Error for Untranslated {}
+
+/// The bytes of the longest grammar file: a place of so many always suffices for a translation.
+pub const MAX_FILE: usize = 12_299;
+
+/// A written grammar's file, and whether the empty sentence was there, which no file can tell.
+#[derive(Clone, Copy, Debug, PartialEq, Eq)]
+pub struct Translation<'p> {
+    pub file: &'p [u8],
+    pub empty: bool,
+}
+
+/// Translates a written grammar of version 2 into the front of a place; the bytes behind the file stay as they were. It takes milliseconds
+/// for a grammar that a person wrote, and minutes for the largest that a stranger could send; and 208 KiB of stack.
+///
+/// ```
+/// // S ::= | a S
+/// let written = [2, 0, 1, 0, 1, 0, 2, 0, 1, 0, 1, 0, 0, 0, 1, 0, 2, 0, 0, 0, 1];
+/// let mut place = [0; brinesaddle::MAX_FILE];
+/// let made = brinesaddle::translate(&written, &mut place)?;
+/// assert!(made.empty && brinesaddle::check(made.file).is_ok());
+/// # Ok::<(), Box<dyn std::error::Error>>(())
+/// ```
+pub fn translate<'p>(written: &[u8], place: &'p mut [u8]) -> Result<Translation<'p>, Untranslated> {
+    let (mut length, mut empty) = (0, 0);
+    let number = unsafe {
+        raw::brinesaddle_translate(written.as_ptr(), written.len(), place.as_mut_ptr(), place.len(), &mut length, &mut empty)
+    };
+    match number.checked_sub(Untranslated::NotWritten.number()) {
+        None => Ok(Translation { file: &place[..length], empty: empty == 1 }),
+        Some(which) => Err(Untranslated::ALL[which as usize]),
+    }
 }

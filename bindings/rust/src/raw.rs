@@ -193,4 +193,12 @@ extern "C" {
         behind: &mut usize,
         place: &mut usize,
     ) -> u32;
+    pub fn brinesaddle_translate(
+        written: *const u8,
+        written_len: usize,
+        file: *mut u8,
+        file_len: usize,
+        length: &mut usize,
+        empty: &mut u32,
+    ) -> u32;
 }

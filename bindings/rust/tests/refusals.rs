@@ -1,5 +1,7 @@
 //! Each refusal is an error that tells a person what is the matter, and its number: `cargo test`.
-use brinesaddle::{check, read_node, walk_nodes, write_node, Item, Node, Parse, Refusal, RefusedAt, State, Unwritten, Words};
+use brinesaddle::{
+    check, read_node, translate, walk_nodes, write_node, Item, Node, Parse, Refusal, RefusedAt, State, Untranslated, Unwritten, Words,
+};
 use std::error::Error;
 
 /// Document 01's grammar A: S ::= S P | num, P ::= plus S.
@@ -125,4 +127,27 @@ fn of_a_node() {
     let walked = walk_nodes(&store, 0);
     assert_eq!((walked.nodes, walked.behind, walked.answer), (1, 2, Err(no_node)));
     assert_eq!(read_node(&[0xFFFF, 0xA000, 1, 0x1000, 0], 0), Err(RefusedAt { refusal: Refusal::NoNode, place: 2 }));
+}
+
+/// S ::= | a S.
+const WRITTEN: [u8; 21] = [2, 0, 1, 0, 1, 0, 2, 0, 1, 0, 1, 0, 0, 0, 1, 0, 2, 0, 0, 0, 1];
+
+#[test]
+fn of_a_written_grammar() {
+    let mut place = [7; 40];
+    let made = translate(&WRITTEN, &mut place).expect("there is room");
+    assert_eq!((made.file.len(), made.empty, check(made.file)), (29, true, Ok(())));
+    assert_eq!(place[29..], [7; 11]);
+
+    let circular = [2, 0, 1, 0, 1, 0, 1, 0, 1, 0, 1, 0, 1, 0, 1]; // S ::= S
+    let barren = [2, 0, 1, 0, 1, 0, 0, 0, 1]; // no rule
+    let lost = [2, 0, 1, 0, 2, 0, 2, 0, 1, 0, 1, 0, 1, 0, 0, 0, 2, 0, 0]; // S ::= a, A ::=
+    let empty = [2, 0, 1, 0, 1, 0, 1, 0, 1, 0, 1, 0, 0]; // S ::=
+    let mut same = [7; 28];
+    let refused: Vec<u32> = [&WRITTEN[..20], &circular, &barren, &lost, &empty, &WRITTEN]
+        .iter()
+        .map(|written| translate(written, &mut same).unwrap_err().number())
+        .collect();
+    assert_eq!((refused, same), (vec![16, 17, 18, 19, 20, 21], [7; 28]));
+    assert_eq!(Untranslated::NoSentence.to_string(), "there is no sentence but the empty one (refusal 20)");
 }

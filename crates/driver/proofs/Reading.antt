@@ -10,7 +10,7 @@ use Rattle.recognizer.specs.declared.Answer.{Answer}
 use Rattle.recognizer.specs.declared.Answer.the-variants.{Done, Refused}
 use Rattle.recognizer.specs.declared.Ran.{Ran}
 use Rattle.recognizer.specs.declared.Refusal.{Refusal}
-use Rattle.recognizer.specs.Answers.{numberOf, outcomeOf, endedOf}
+use Rattle.recognizer.specs.Answers.{outcomeOf, endedOf}
 use Rattle.demands.specs.Steps.{Ended}
 use Rattle.demands.specs.Calls.{asItWas, Runs}
 use Rattle.demands.proofs.Singles.{further, runs-join}

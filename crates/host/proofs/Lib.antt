@@ -6,3 +6,4 @@ pub mod Numbers
 pub mod Settled
 pub mod FromWords
 pub mod LocalWords
+pub mod Translated

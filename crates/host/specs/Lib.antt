@@ -2,4 +2,5 @@
 pub mod Answers
 pub mod Reports
 pub mod Nodes
+pub mod Translating
 pub mod inner

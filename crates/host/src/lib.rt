@@ -14,11 +14,13 @@ ghost use Rattle.node.specs.Reading.{readAt};
 ghost use Rattle.node.specs.Walking.{walkAt};
 ghost use Rattle.host.specs.Answers.{stateIn, outcomeIn, endedIn};
 ghost use Rattle.host.specs.Reports.{FinishesIn, ReportsIn, saysIn};
+ghost use Rattle.host.specs.Translating.{TranslatesIn};
 ghost use Rattle.host.specs.Nodes.{writeIn, numberIn, placeOr, positionOr, numbersOr, countOr};
 
 mod nodes;
 mod parse_words;
 mod records;
+mod translating;
 
 use crate::nodes::Told;
 use crate::nodes::node_of;
@@ -31,6 +33,7 @@ use crate::parse_words::tell_whether;
 use crate::records::SET_WORDS;
 use crate::records::fill;
 use crate::records::prepare;
+use crate::translating::tell_translated;
 use grammar::Checked;
 use node::Found;
 use node::Walked;
@@ -428,4 +431,19 @@ pub extern "C" fn brinesaddle_node_walk(
             12
         }
     }
+}
+
+// Translates a written grammar into a grammar file.
+#[no_mangle]
+pub extern "C" fn brinesaddle_translate(
+    written: &[u8],
+    file: &mut [u8],
+    length: &mut usize,
+    empty: &mut u32,
+) -> u32
+    ensures { λ r. ⌜ TranslatesIn (now (written .entry)) (now (file .entry)) (now (file .exit))
+        (now (length .entry)) (now (empty .entry)) r (now (length .exit)) (now (empty .exit)) ⌝ }
+{
+    let told = translation::translate(written, file);
+    tell_translated(told, length, empty)
 }

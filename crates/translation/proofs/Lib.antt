@@ -10,3 +10,8 @@ pub mod Circling
 pub mod Dropping
 pub mod Placing
 pub mod Asking
+pub mod Words
+pub mod Joining
+pub mod Putting
+pub mod Siding
+pub mod Answering

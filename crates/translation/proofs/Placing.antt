@@ -112,7 +112,7 @@ pub record Counted (keep : ℕ → Bool) (bytes : List ℕ) (at left total : ℕ
   pub same : total + allNew keep (rulesAt bytes at left) ≡ allNew keep (writtenOf bytes .rules)
   pub low : total + 16 * left ≤ 16 * 65535
 
-new-first : (keep : ℕ → Bool) (r : WrittenRule) (rules : List WrittenRule) → allNew keep (r ∷ rules) ≡ newSymbols (places keep (r .right)) + allNew keep rules
+pub new-first : (keep : ℕ → Bool) (r : WrittenRule) (rules : List WrittenRule) → allNew keep (r ∷ rules) ≡ newSymbols (places keep (r .right)) + allNew keep rules
 unfolding allNew
 new-first keep r rules = refl
 

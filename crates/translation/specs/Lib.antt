@@ -1,3 +1,4 @@
 -- What the parts of the translator promise, over the definitions of `written`.
 pub mod Conditions
+pub mod Answers
 pub mod inner

@@ -2,3 +2,6 @@
 pub mod Symbols
 pub mod Marks
 pub mod Circles
+pub mod Lists
+pub mod Sides
+pub mod Puts

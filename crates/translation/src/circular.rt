@@ -69,13 +69,13 @@ fn mark_led(written: &[u8], empty: &Marks, led: &mut Marks, at: usize, n: usize,
     }
 }
 
-// The symbols that a held one leads to.
-fn led_by(written: &[u8], empty: &Marks, held: &Marks) -> Marks
+// Marks the symbols that a held one leads to, and no others.
+fn led_by(written: &[u8], empty: &Marks, held: &Marks, led: &mut Marks)
     requires { ⌜ Formed (now written) ⌝ }
-    ensures { λ r. ⌜ (r ≡ walk (circles.leads (marked (now (empty .entry))) (marked (now (held .entry)))) (replicate mostSymbols false) (writtenOf (now (written .entry)) .rules))
-        × (lengthOf r ≡ mostSymbols) ⌝ }
+    ensures { λ r. ⌜ (now (led .exit) ≡ walk (circles.leads (marked (now (empty .entry))) (marked (now (held .entry)))) (replicate mostSymbols false) (writtenOf (now (written .entry)) .rules))
+        × (lengthOf (now (led .exit)) ≡ mostSymbols) ⌝ }
 {
-    let mut led = [false; MOST];
+    *led = [false; MOST];
     let mut at = HEADER;
     let mut left = rule_count(written);
     while 0 < left {
@@ -87,9 +87,8 @@ fn led_by(written: &[u8], empty: &Marks, held: &Marks) -> Marks
         }
         let n = u16_at(written, here + 2);
         let k = filled(written, empty, here + HEAD, n);
-        mark_led(written, empty, &mut led, here + HEAD, n, k);
+        mark_led(written, empty, led, here + HEAD, n, k);
     }
-    led
 }
 
 // Drops the held symbols that are not led to. Whether there was one.
@@ -125,16 +124,16 @@ fn any_held(held: &Marks) -> bool
 }
 
 // Of the symbols held, all at first, those are kept to which one held leads. What is left when none can be dropped has a symbol that leads to itself.
-pub fn circular(written: &[u8], empty: &Marks) -> bool
+pub fn circular(written: &[u8], empty: &Marks, held: &mut Marks, led: &mut Marks) -> bool
     requires { ⌜ Formed (now written) × MarksAre (MayBeEmpty (writtenOf (now written))) (now empty) ⌝ }
     ensures { λ r. ⌜ Decides r (Circular (writtenOf (now (written .entry)))) ⌝ }
 {
-    let mut held = [true; MOST];
+    *held = [true; MOST];
     loop {
-        let led = led_by(written, empty, &held);
-        if !drop_others(&mut held, &led) {
+        led_by(written, empty, held, led);
+        if !drop_others(held, led) {
             break;
         }
     }
-    any_held(&held)
+    any_held(held)
 }

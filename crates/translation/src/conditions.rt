@@ -1,18 +1,18 @@
-// What 18 and 19 ask of every nonterminal.
-ghost use mathlib.Core.Path.{_≡_};
+// What 18 and 19 ask of every nonterminal. The marks are lent for the work alone.
 ghost use Prim.Native.Nat.{_≤_, _<_};
-ghost use Rattle.written.specs.Form.{Formed, endIn, writtenOf};
+ghost use Rattle.written.specs.Form.{Formed, endIn};
 ghost use Rattle.translation.specs.inner.Marks.{mostSymbols};
 ghost use Rattle.translation.specs.Conditions.{SaysFruitful, SaysReachable};
 use crate::form::end;
 use crate::form::tokens;
 use crate::grow::fruitful;
 use crate::marks::MOST;
+use crate::marks::Marks;
 use crate::marks::all_within;
 use crate::reach::reachable;
 
 // Whether every nonterminal derives a token string. Of one that two bytes cannot name there is no rule.
-pub fn all_fruitful(written: &[u8]) -> bool
+pub fn all_fruitful(written: &[u8], marks: &mut Marks) -> bool
     requires { ⌜ Formed (now written) ⌝ }
     ensures { λ r. ⌜ SaysFruitful (now (written .entry)) r ⌝ }
 {
@@ -20,15 +20,15 @@ pub fn all_fruitful(written: &[u8]) -> bool
     if MOST < all {
         return false;
     }
-    let marks = fruitful(written);
-    all_within(&marks, tokens(written), all)
+    fruitful(written, marks);
+    all_within(marks, tokens(written), all)
 }
 
 // Whether every nonterminal is reachable, where two bytes can name them all.
-pub fn all_reachable(written: &[u8]) -> bool
+pub fn all_reachable(written: &[u8], marks: &mut Marks) -> bool
     requires { ⌜ Formed (now written) × (endIn (now written) ≤ mostSymbols) ⌝ }
     ensures { λ r. ⌜ SaysReachable (now (written .entry)) r ⌝ }
 {
-    let marks = reachable(written);
-    all_within(&marks, tokens(written), end(written))
+    reachable(written, marks);
+    all_within(marks, tokens(written), end(written))
 }

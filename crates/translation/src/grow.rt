@@ -1,13 +1,12 @@
 // Marks that grow by the rules until nothing is marked any more: which symbols may be empty, which derive a token string, which stay.
 ghost use mathlib.Core.Path.{_≡_};
 ghost use mathlib.Core.Bool.{true, false};
-ghost use Prim.Native.Nat.{ℕ, _+_, _*_, _≤_, _<_};
+ghost use Prim.Native.Nat.{ℕ, _+_, _*_, _<_};
 ghost use lib.ListN.{length as lengthOf};
-ghost use Rattle.laws.specs.Decides.{Decides};
 ghost use Rattle.written.specs.Written.{MayBeEmpty};
 ghost use Rattle.written.specs.Form.{Formed, RuleStands, ruleAt, writtenOf};
 ghost use Rattle.written.specs.Refusals.{Nonterminal, Fruitful, Stays};
-ghost use Rattle.translation.specs.inner.Marks.{mostSymbols, MarksAre, Grown, Turn, turn, growing, firing, walk};
+ghost use Rattle.translation.specs.inner.Marks.{mostSymbols, MarksAre, Grown, turn, growing, firing, walk};
 use crate::form::HEAD;
 use crate::form::HEADER;
 use crate::form::next;
@@ -57,39 +56,40 @@ fn grow_once(written: &[u8], marks: &mut Marks, all: bool) -> bool
 }
 
 // The marks, grown until no rule fires.
-fn grow(written: &[u8], begin: Marks, all: bool) -> Marks
-    requires { ⌜ Formed (now written) × (lengthOf begin ≡ mostSymbols) ⌝ }
-    ensures { λ r. ⌜ Grown all (writtenOf (now (written .entry))) begin r ⌝ }
+fn grow(written: &[u8], marks: &mut Marks, all: bool)
+    requires { ⌜ Formed (now written) × (lengthOf (now marks) ≡ mostSymbols) ⌝ }
+    ensures { λ r. ⌜ Grown all (writtenOf (now (written .entry))) (now (marks .entry)) (now (marks .exit)) ⌝ }
 {
-    let mut marks = begin;
     loop {
-        if !grow_once(written, &mut marks, all) {
+        if !grow_once(written, marks, all) {
             break;
         }
     }
-    marks
 }
 
-// Which symbols may be empty.
-pub fn empties(written: &[u8]) -> Marks
+// Marks the symbols that may be empty.
+pub fn empties(written: &[u8], marks: &mut Marks)
     requires { ⌜ Formed (now written) ⌝ }
-    ensures { λ r. ⌜ MarksAre (MayBeEmpty (writtenOf (now (written .entry)))) r ⌝ }
+    ensures { λ r. ⌜ MarksAre (MayBeEmpty (writtenOf (now (written .entry)))) (now (marks .exit)) ⌝ }
 {
-    grow(written, [false; MOST], true)
+    *marks = [false; MOST];
+    grow(written, marks, true);
 }
 
-// Which derive a token string.
-pub fn fruitful(written: &[u8]) -> Marks
+// Those that derive a token string.
+pub fn fruitful(written: &[u8], marks: &mut Marks)
     requires { ⌜ Formed (now written) ⌝ }
-    ensures { λ r. ⌜ MarksAre (Fruitful (writtenOf (now (written .entry)))) r ⌝ }
+    ensures { λ r. ⌜ MarksAre (Fruitful (writtenOf (now (written .entry)))) (now (marks .exit)) ⌝ }
 {
-    grow(written, below(tokens(written)), true)
+    below(marks, tokens(written));
+    grow(written, marks, true);
 }
 
-// Which derive a nonempty one, where every symbol derives one.
-pub fn staying(written: &[u8]) -> Marks
+// Those that derive a nonempty one, where every symbol derives one.
+pub fn staying(written: &[u8], marks: &mut Marks)
     requires { ⌜ Formed (now written) × ((a : ℕ) → Nonterminal (writtenOf (now written)) a → Fruitful (writtenOf (now written)) a) ⌝ }
-    ensures { λ r. ⌜ MarksAre (Stays (writtenOf (now (written .entry)))) r ⌝ }
+    ensures { λ r. ⌜ MarksAre (Stays (writtenOf (now (written .entry)))) (now (marks .exit)) ⌝ }
 {
-    grow(written, below(tokens(written)), false)
+    below(marks, tokens(written));
+    grow(written, marks, false);
 }

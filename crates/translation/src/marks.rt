@@ -47,16 +47,15 @@ pub fn some_marked(written: &[u8], marks: &Marks, at: usize, n: usize) -> bool
     false
 }
 
-// Marks of all symbols below `end`.
-pub fn below(end: usize) -> Marks
+// Marks all symbols below `end`, and no others.
+pub fn below(marks: &mut Marks, end: usize)
     requires { ⌜ end ≤ mostSymbols ⌝ }
-    ensures { λ r. ⌜ OnlyBelow end r ⌝ }
+    ensures { λ r. ⌜ OnlyBelow end (now (marks .exit)) ⌝ }
 {
-    let mut marks = [false; MOST];
+    *marks = [false; MOST];
     for a in 0..end {
         marks[a] = true;
     }
-    marks
 }
 
 // Whether all symbols from `from` up to `to` are marked.

@@ -53,7 +53,7 @@ pub fn places(written: &[u8], keep: &Marks, at: usize, out: &mut Places) -> usiz
 }
 
 // How many new symbols a rule with `k` places needs.
-fn new_symbols(k: usize) -> usize
+pub fn new_symbols(k: usize) -> usize
     ensures { λ r. ⌜ r ≡ k - 2 ⌝ }
 {
     if k < 2 {
@@ -65,7 +65,7 @@ fn new_symbols(k: usize) -> usize
 // How many all rules need.
 pub fn count_new(written: &[u8], keep: &Marks) -> usize
     requires { ⌜ form.Formed (now written) ⌝ }
-    ensures { λ r. ⌜ r ≡ translation.allNew (marked (now (keep .entry))) (form.writtenOf (now (written .entry)) .rules) ⌝ }
+    ensures { λ r. ⌜ (r ≡ translation.allNew (marked (now (keep .entry))) (form.writtenOf (now (written .entry)) .rules)) × (r ≤ form.longest * 65535) ⌝ }
 {
     let mut room = [0; LONGEST];
     let mut at = HEADER;

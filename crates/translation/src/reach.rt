@@ -56,17 +56,16 @@ fn reach_once(written: &[u8], marks: &mut Marks) -> bool
     more
 }
 
-// The reachable symbols: from the start symbol, walk after walk, until one marks nothing.
-pub fn reachable(written: &[u8]) -> Marks
+// Marks the reachable symbols: from the start symbol, walk after walk, until one marks nothing.
+pub fn reachable(written: &[u8], marks: &mut Marks)
     requires { ⌜ Formed (now written) ⌝ }
-    ensures { λ r. ⌜ MarksAre (Reachable (writtenOf (now (written .entry)))) r ⌝ }
+    ensures { λ r. ⌜ MarksAre (Reachable (writtenOf (now (written .entry)))) (now (marks .exit)) ⌝ }
 {
-    let mut marks = [false; MOST];
+    *marks = [false; MOST];
     marks[start(written)] = true;
     loop {
-        if !reach_once(written, &mut marks) {
+        if !reach_once(written, marks) {
             break;
         }
     }
-    marks
 }

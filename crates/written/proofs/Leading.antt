@@ -24,13 +24,13 @@ use Rattle.written.proofs.Listing.{either-true, or-first, or-second, in
 use Rattle.written.proofs.Ordering.{passing-in}
 
 -- The test whether a number is in a list tells whether it is.
-has-there : (l : List ℕ) (x : ℕ) → has l x ≡ true → In x l
+pub has-there : (l : List ℕ) (x : ℕ) → has l x ≡ true → In x l
 unfolding has
 has-there [] x e = absurd (false-true e)
 has-there (y ∷ l) x e =
     ⊎-elim (λ h. subst (λ (z : ℕ). In x (z ∷ l)) (sym (eqb-true y x h)) here) (λ h. there (has-there l x h)) (either-true (eqb y x) (has l x) e)
 
-there-has : {x : ℕ} {l : List ℕ} → In x l → has l x ≡ true
+pub there-has : {x : ℕ} {l : List ℕ} → In x l → has l x ≡ true
 unfolding has
 there-has {x} (here {l = l}) = or-first (has l x) (eq-eqb x x refl)
 there-has {x} (there {y = y} i) = or-second (eqb y x) (there-has i)

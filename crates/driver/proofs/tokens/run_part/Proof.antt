@@ -1,6 +1,5 @@
 -- `driver::tokens::run_part` meets its contract. The words of a part are its tokens.
 use Prim.Native.Nat.{ℕ}
-use native.Mathlib.Omega.{arith}
 use lib.ListN.{length-replicate}
 use Rattle.driver.proofs.Running.{runs-same, part-few}
 use borrow.Author.Needs.{needs}

@@ -5,12 +5,11 @@ use borrow.Author.Needs.{needs}
 use Rattle.grammar.specs.inner.Decoded.{rulesIn}
 use Rattle.binary_heap.specs.Entry.{entriesIn}
 use Rattle.parse.specs.Words.{wordsOf}
-use Rattle.completion.specs.Pass.{Pass, passOver}
 use Rattle.completion.specs.Complete.{complete}
 use Rattle.completion.specs.Sums.{completeAllSums}
 use Rattle.completion.specs.inner.Ready.{PassFits, UnitsFit, Charted}
 use Rattle.completion.specs.inner.Pending.{Pending}
-use Rattle.completion.proofs.Overlaid.{onUnits, fits-on, charted-on, completed-on}
+use Rattle.completion.proofs.Overlaid.{fits-on, charted-on, completed-on}
 use Rattle.recognizer.proofs.OneToken.{first-asks, sums-ask}
 use Rattle.recognizer.proofs.step.complete_token.Statement.{statement}
 use Rattle.recognizer.proofs.step.complete_token.Tie as tie

@@ -10,7 +10,6 @@ use Rattle.laws.proofs.Bits.{holds-true, holds-false}
 use Rattle.bits.specs.Width.{rowWords}
 use Rattle.item.specs.Item.{itemWords}
 use Rattle.grammar.specs.inner.Decoded.{rulesIn}
-use Rattle.parse.specs.declared.State.{State}
 use Rattle.parse.specs.Words.{wordsOf, padded, filled}
 use Rattle.completion.specs.Pass.{Pass, passOver}
 use Rattle.advance.specs.inner.Advances.{lent, Advances}

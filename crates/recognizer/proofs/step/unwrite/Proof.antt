@@ -1,4 +1,3 @@
-use native.Mathlib.Omega.{arith}
 use borrow.Author.Needs.{needs}
 use Rattle.recognizer.proofs.Beginning.{may-fill}
 use Rattle.recognizer.proofs.step.unwrite.Statement.{statement}

@@ -23,7 +23,7 @@ rule-count-requires : tie.Need-rule-count-requires Inv-loop μ-loop
 rule-count-requires c κs = search needs
 
 loop-holds : tie.Need-loop-holds Inv-loop μ-loop
-loop-holds c = (come-begins _ _ _ _ (c .before .before .pre) (c .rule-count .ensures .0), length-replicate {A = Bool} mostSymbols false)
+loop-holds c = (come-begins _ _ _ _ (c .before .before .before .pre) (c .rule-count .ensures .0), length-replicate {A = Bool} mostSymbols false)
 
 next-requires : tie.Need-next-requires Inv-loop μ-loop
 next-requires c κs = come-rule _ _ _ _ _ _ (c .before .loop .inv .0) (omega arith)

@@ -24,7 +24,7 @@ all-within-requires : tie.Need-all-within-requires
 all-within-requires c κs = omega arith
 
 returns-2 : tie.Need-returns-2
-returns-2 c = says-fruitful _ _ (c .before .before .before .fruitful .ensures) _ _ (c .before .tokens .ensures .0) (c .before .before .before .before .before .end .ensures .0) (omega arith) (c .all-within .ensures)
+returns-2 c = says-fruitful _ _ (c .before .before .before .fruitful .ensures) _ _ (c .before .tokens .ensures .0) (c .before .before .before .before .before .before .end .ensures .0) (omega arith) (c .all-within .ensures)
 
 pub all-fruitful-spec : {M : Type 1} → statement M
 all-fruitful-spec =

@@ -16,7 +16,7 @@ end-requires : tie.Need-end-requires
 end-requires c κs = search needs
 
 all-within-requires : tie.Need-all-within-requires
-all-within-requires c κs = omega (arith, c .before .before .before .before .before .pre .1, c .end .ensures .0)
+all-within-requires c κs = omega (arith, c .before .before .before .before .before .before .pre .1, c .end .ensures .0)
 
 returns : tie.Need-returns
 returns c = says-reachable _ _ (c .before .before .before .before .reachable .ensures) _ _ (c .before .before .tokens .ensures .0) (c .before .end .ensures .0) (c .all-within .ensures)

@@ -16,7 +16,7 @@ grow-requires : tie.Need-grow-requires
 grow-requires c κs = search needs
 
 returns : tie.Need-returns
-returns c = fruitful-exact _ _ _ (only-to (c .before .before .tokens .ensures .0) (c .before .below .ensures)) (c .grow .ensures)
+returns c = fruitful-exact _ _ _ (only-to (c .before .before .before .tokens .ensures .0) (c .before .before .below .ensures)) (c .grow .ensures)
 
 pub fruitful-spec : {M : Type 1} → statement M
 fruitful-spec = tie.close (tie.spec tokens-requires below-requires grow-requires returns)

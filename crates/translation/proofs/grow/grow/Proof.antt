@@ -10,10 +10,10 @@ use Rattle.translation.proofs.grow.grow.Statement.{statement}
 use Rattle.translation.proofs.grow.grow.Tie as tie
 
 abbrev Inv-loop : tie.InvT-loop
-Inv-loop written all marks₀ marks = Growth all (writtenOf written) marks₀ marks
+Inv-loop written marks₀ all marks = Growth all (writtenOf written) marks₀ marks
 
 abbrev μ-loop : tie.MeasureT-loop
-μ-loop written all marks₀ marks = unmarked marks
+μ-loop written marks₀ all marks = unmarked marks
 
 loop-holds : tie.Need-loop-holds Inv-loop μ-loop
 loop-holds c = growth-begins _ _ _ (c .before .pre .1)

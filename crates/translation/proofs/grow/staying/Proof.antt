@@ -18,8 +18,8 @@ grow-requires c κs = search needs
 
 returns : tie.Need-returns
 returns c =
-    let required = c .before .before .before .before .pre in
-    staying-exact _ (formed-lawful _ (required .0)) (required .1) _ _ (only-to (c .before .before .tokens .ensures .0) (c .before .below .ensures)) (c .grow .ensures)
+    let required = c .before .before .before .before .before .before .pre in
+    staying-exact _ (formed-lawful _ (required .0)) (required .1) _ _ (only-to (c .before .before .before .tokens .ensures .0) (c .before .before .below .ensures)) (c .grow .ensures)
 
 pub staying-spec : {M : Type 1} → statement M
 staying-spec = tie.close (tie.spec tokens-requires below-requires grow-requires returns)

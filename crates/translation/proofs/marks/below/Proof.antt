@@ -8,16 +8,16 @@ use Rattle.translation.proofs.marks.below.Statement.{statement}
 use Rattle.translation.proofs.marks.below.Tie as tie
 
 abbrev Inv-loop : tie.InvT-loop
-Inv-loop end marks₀ a₀ marks a = OnlyBelow a marks × (a ≤ end)
+Inv-loop marks₀ end a₀ marks a = OnlyBelow a marks × (a ≤ end)
 
 abbrev μ-loop : tie.MeasureT-loop
-μ-loop end marks₀ a₀ marks a = end - a
+μ-loop marks₀ end a₀ marks a = end - a
 
 loop-holds : tie.Need-loop-holds Inv-loop μ-loop
 loop-holds c = (only-none, omega arith)
 
-array-write-marks : tie.Need-array-write-marks Inv-loop μ-loop
-array-write-marks c = omega (arith, c .before .loop .inv .0 .long)
+element-write-marks : tie.Need-element-write-marks Inv-loop μ-loop
+element-write-marks c = omega (arith, c .before .loop .inv .0 .long)
 
 add-a : tie.Need-add-a Inv-loop μ-loop
 add-a c = search needs
@@ -34,4 +34,4 @@ returns c = only-last _ _ _ (c .before .loop .inv .0) (c .before .loop .inv .1) 
 pub below-spec : {M : Type 1} → statement M
 below-spec =
     tie.close
-    (tie.spec Inv-loop μ-loop loop-holds array-write-marks add-a loop-less loop-again returns)
+    (tie.spec Inv-loop μ-loop loop-holds element-write-marks add-a loop-less loop-again returns)

@@ -50,7 +50,7 @@ loop-again c =
     )
 
 returns : tie.Need-returns Inv-loop μ-loop
-returns c = counted-ends _ _ (c .before .loop .at) (c .before .loop .left) _ (c .before .loop .inv .0) (omega arith)
+returns c = (counted-ends _ _ (c .before .loop .at) (c .before .loop .left) _ (c .before .loop .inv .0) (omega arith), omega (arith, c .before .loop .inv .0 .low))
 
 pub count-new-spec : {M : Type 1} → statement M
 count-new-spec =

@@ -20,24 +20,24 @@ abbrev μ-loop : tie.MeasureT-loop
 start-requires : tie.Need-start-requires Inv-loop μ-loop
 start-requires c κs = search needs
 
-array-write-marks : tie.Need-array-write-marks Inv-loop μ-loop
-array-write-marks c = omega (arith, length-replicate {A = Bool} 65536 false)
+element-write-marks : tie.Need-element-write-marks Inv-loop μ-loop
+element-write-marks c = omega (arith, length-replicate {A = Bool} 65536 false)
 
 loop-holds : tie.Need-loop-holds Inv-loop μ-loop
 loop-holds c = reach-begins _ (c .start .result) (c .start .ensures .0) (c .start .ensures .1)
 
 reach-once-requires : tie.Need-reach-once-requires Inv-loop μ-loop
-reach-once-requires c κs = (c .before .before .before .before .pre, c .before .loop .inv .long)
+reach-once-requires c κs = (c .before .before .before .before .before .pre, c .before .loop .inv .long)
 
 loop-less : tie.Need-loop-less Inv-loop μ-loop
 loop-less c =
-    let known = c .before .before .before .before .before .shared-slice-known in
+    let known = c .before .before .before .before .before .before .shared-slice-known in
     let looped = c .before .before .before .loop in
     reach-less _ (looped .marks) _ _ (rules-low (record { fits = λ k. omega (arith, known .given k) }) _ _) (looped .inv) (c .before .reach-once .ensures) (not-false _ (c .if1 .left))
 
 loop-again : tie.Need-loop-again Inv-loop μ-loop
 loop-again c =
-    let known = c .before .before .before .before .before .shared-slice-known in
+    let known = c .before .before .before .before .before .before .shared-slice-known in
     let looped = c .before .before .before .loop in
     reach-on _ (looped .marks) _ _ (rules-low (record { fits = λ k. omega (arith, known .given k) }) _ _) (looped .inv) (c .before .reach-once .ensures)
 
@@ -51,7 +51,7 @@ reachable-spec =
     Inv-loop
     μ-loop
     start-requires
-    array-write-marks
+    element-write-marks
     loop-holds
     reach-once-requires
     loop-less

@@ -1,0 +1,2 @@
+-- Laws of the program's lines.
+pub mod Writing
