@@ -31,7 +31,7 @@ counts-agree (Counts.number s small) (Counts.over s′ big) = absurd (omega arit
 counts-agree (Counts.number s small) (Counts.number s′ small′) = refl
 
 -- The k-th member is one, and there is one only before the end.
-at-one : {A : Type 0} {l : List A} {k : ℕ} {x y : A} → At l k x → At l k y → x ≡ y
+pub at-one : {A : Type 0} {l : List A} {k : ℕ} {x y : A} → At l k x → At l k y → x ≡ y
 at-one first first = refl
 at-one (later a) (later b) = at-one a b
 

@@ -13,12 +13,8 @@ use Rattle.forest.specs.Forests.{Product, alone, paired, Node, token, sum, othe
 use Rattle.forest.specs.Stores.{nodeAt, treesAt}
 use Rattle.forest.proofs.Choosing.{at-left, at-right}
 use Rattle.trees.specs.Faults.{Faulty, Below, Sound}
+use Rattle.trees.specs.inner.Walks.{Walkable}
 use Rattle.trees.proofs.Belows.{below-through, FactorIn, sum-under}
-
--- Under a handle at a leaf, or at a sound Sum, every tree can be walked.
-pub data Walkable (store : List ℕ) (h : ℕ) : Type 0 where
-  leaf : {t : ℕ} → nodeAt store h ≡ token t → Walkable store h
-  sums : {ps : List Product} → nodeAt store h ≡ sum ps → Sound store h → Walkable store h
 
 -- A factor of a sound Sum lies before it, and can be walked.
 module _ {store : List ℕ} {h : ℕ} (sound : Sound store h) {ps : List Product} (is : nodeAt store h ≡ sum ps) where
@@ -38,7 +34,7 @@ module _ {store : List ℕ} {h : ℕ} (sound : Sound store h) {ps : List Product
       on other e = absurd (sound .sound h Below.itself (Faulty.no-factor (sum-under f is) e))
 
 -- Where the factors list the same, so does a Product, and so do Products.
-product-same : (u v : ℕ → List Tree) (p : Product) → ((q : ℕ) → FactorOf q p → u q ≡ v q) → ofProduct u p ≡ ofProduct v p
+pub product-same : (u v : ℕ → List Tree) (p : Product) → ((q : ℕ) → FactorOf q p → u q ≡ v q) → ofProduct u p ≡ ofProduct v p
 product-same u v (alone r a) same = ap (map (one r)) (same a FactorOf.only)
 product-same u v (paired r a b) same =
     ap (λ l. pairs (two r) (u a) l) (same b FactorOf.right) ∙ ap (λ l. pairs (two r) l (v b)) (same a FactorOf.left)

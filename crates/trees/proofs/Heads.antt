@@ -139,7 +139,7 @@ products-step n store p =
 -- What is weighed of a head.
 abbrev pub ofHead : (ℕ → Entry) → ℕ → List ℕ → Head → Entry
 ofHead under p u (SumOf n b) = Weighed (sumWeight under p n (productsAt n u b))
-ofHead under p u Leaf = Weighed (Number 1)
+ofHead under p u (Leaf x) = Weighed (Number 1)
 ofHead under p u Neither = Nothing
 
 pub weigh-head : (under : ℕ → Entry) (store : List ℕ) (p : ℕ)
@@ -165,6 +165,31 @@ weigh-head under store p = spelt-case (spelt (usable store) p)
 pub head-weighs : (under : ℕ → Entry) (store : List ℕ) (p : ℕ) (x : Head) → x ≡ headAt store p
     → ofHead under p (usable store) x ≡ weighNode under p (askedAt store p) (nodeAt store p)
 head-weighs under store p x e = ap (ofHead under p (usable store)) e ∙ sym (weigh-head under store p)
+
+-- The node of a head is the node that stands there.
+abbrev pub nodeOf : List ℕ → Head → Node
+nodeOf u (SumOf n b) = sum (productsAt n u b)
+nodeOf u (Leaf t) = token t
+nodeOf u Neither = other
+
+pub node-head : (store : List ℕ) (p : ℕ) → nodeAt store p ≡ nodeOf (usable store) (headAt store p)
+unfolding nodeAt headAt
+node-head store p = spelt-case (spelt (usable store) p)
+  where
+    stand-case : (w : Written) (t : Bool)
+        → pick t (asNode w (λ n. productsAt n (usable store) (p + length (unitsAt p w)))) other
+        ≡ nodeOf (usable store) (pick t (headOf w (p + length (unitsAt p w))) Neither)
+    stand-case w false = refl
+    stand-case (Sum c x) true = refl
+    stand-case (Factors r a b) true = refl
+    stand-case (NullingLeaf x) true = refl
+    stand-case (Evaluated x) true = refl
+
+    spelt-case : (x : Spelt)
+        → standing (usable store) p x (λ w. asNode w (λ n. productsAt n (usable store) (p + length (unitsAt p w)))) other
+        ≡ nodeOf (usable store) (standing (usable store) p x (λ w. headOf w (p + length (unitsAt p w))) Neither)
+    spelt-case (Like w) = stand-case w (stand (usable store) p (unitsAt p w))
+    spelt-case Unknown = refl
 
 -- A Sum is found exactly where one stands.
 pub head-sum : (store : List ℕ) (p n b : ℕ) → SumOf n b ≡ headAt store p → SumAt store p
@@ -193,7 +218,7 @@ head-sum store p n b e = spelt-case (spelt (usable store) p) refl e
 -- Whether a Sum is found.
 abbrev pub sums : Head → ℕ
 sums (SumOf n b) = 1
-sums Leaf = 0
+sums (Leaf x) = 0
 sums Neither = 0
 
 pub no-sum : (store : List ℕ) (p : ℕ) (ps : List Product) → sums (headAt store p) ≡ 0 → nodeAt store p ≢ sum ps

@@ -11,3 +11,7 @@ pub mod Chosen
 pub mod Limits
 pub mod Heads
 pub mod Tabled
+-- How the walkers choose by weights, what they lay down, and what tree answers.
+pub mod Choices
+pub mod Laying
+pub mod Answering

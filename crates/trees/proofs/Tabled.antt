@@ -131,7 +131,7 @@ module _ (under : ℕ → Entry) (s : ℕ) (store : List ℕ) where
       ∙ ap (λ ps. closed s (suc n) ps (sumFrom under s w ps)) none
       ∙ ap (λ t. pick t (plus w (Fault s)) w) (lt-ltb 0 (suc n) (omega arith)))
 
-  same-weight : (r l : ℕ) (right : Right) → productWeight under s (productOf 0 l right) ≡ productWeight under s (productOf r l right)
+  pub same-weight : (r l : ℕ) (right : Right) → productWeight under s (productOf 0 l right) ≡ productWeight under s (productOf r l right)
   unfolding productWeight
   same-weight r l (At b) = refl
   same-weight r l Single = refl

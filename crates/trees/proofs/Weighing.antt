@@ -15,7 +15,7 @@ use Rattle.forest.specs.Trees.{Tree, one, two}
 use Rattle.forest.specs.Forests.{Product, alone, paired, Node, token, sum, other, FactorOf, Under, ofProduct, ofNode, listed}
 use Rattle.forest.specs.Stores.{nodeAt}
 use Rattle.forest.proofs.Choosing.{length-pairs}
-use Rattle.trees.specs.Faults.{askedAt, Faulty, Below}
+use Rattle.trees.specs.Faults.{askedAt, Faulty, Below, Sound}
 use Rattle.trees.specs.Answers.{treeLimit}
 use Rattle.trees.specs.inner.Weights.{plus, ofEntry, factorWeight, productWeight, sumFrom, closed, weighNode, entryIn, weigh, weights, entryAt}
 use Rattle.trees.specs.declared.Weight.{Weight}
@@ -216,6 +216,22 @@ module _ (store : List ℕ) (rounds s : ℕ) (enough : s ≤ rounds) (under : �
         by-step : {v : ℕ} → Down store s v → Faulty store v → Found v
         by-step Down.here f = own-found f
         by-step (Down.further u l i b) f = factor-found u (FactorFault.further l i (record { below = b; faulty = f }))
+
+    -- Where nothing below the Sum is faulty, a factor and a Product of it weigh the number of their trees.
+    no-fault : Sound store s → (v : ℕ) → FaultBelow store s v → ⊥
+    no-fault sound v f = sound .sound v (f .below) (f .faulty)
+
+    pub sound-factor : Sound store s → (q : ℕ) → FactorIn q ps → Means (λ v. ⊥) (number q) (factorWeight under s q)
+    sound-factor sound q i =
+        means-same
+        (λ v f. no-fault sound v (found-below v (inl (inr (record { product = i .product; member = i .member; fault = record { factor = q; of = i .factor; fault = f } })))))
+        (λ v f. absurd f) refl (factor-means q)
+
+    pub sound-product : Sound store s → (p : Product) → Member p ps
+        → Means (λ v. ⊥) (length (ofProduct (listed (nodeAt store) rounds) p)) (productWeight under s p)
+    sound-product sound p m =
+        means-same (λ v f. no-fault sound v (found-below v (inl (inr (record { product = p; member = m; fault = f })))))
+        (λ v f. absurd f) refl (product-means p)
 
     pub sum-weighs : Weighs store (suc rounds) s (weighNode under s (askedAt store s) (sum ps))
     unfolding weighNode

@@ -14,6 +14,8 @@ use Rattle.forest.specs.Stores.{treesAt}
 use Rattle.trees.specs.Faults.{LowestFault, Sound}
 use Rattle.trees.specs.declared.Counted.{Counted}
 use Rattle.trees.specs.declared.Counted.the-variants.{Trees, Faulty, TooMany}
+use Rattle.trees.specs.declared.Told.{Told}
+use Rattle.trees.specs.declared.Told.the-variants.{Words, Faulty as FaultyBelow, NoSuch, Short}
 
 -- The number of trees exceeds 64 bits; there is no tree with the number asked for.
 abbrev pub tooManyTrees : ℕ
@@ -46,6 +48,12 @@ pub data Counts (store : List ℕ) (h : ℕ) : Answer → Type 0 where
   fault : {s : ℕ} → LowestFault store h s → Counts store h (answer noNode (position s))
   over : Sound store h → treeLimit ≤ length (treesAt store h) → Counts store h (answer tooManyTrees nothing)
   number : Sound store h → length (treesAt store h) < treeLimit → Counts store h (answer done (trees (length (treesAt store h))))
+
+abbrev pub told : Told → Answer
+told (Words n) = answer done (words n)
+told (FaultyBelow s) = answer noNode (position s)
+told NoSuch = answer noSuchTree nothing
+told (Short n) = answer tooShort (words n)
 
 -- A needed number of words above the usable units is told as all ones: no tree of a parse has so many.
 abbrev pub allOnes : ℕ

@@ -30,7 +30,7 @@ fn head_of(node: Node, behind: usize) -> Head
             count,
             nonterminal: _,
         } => Head::SumOf(count, behind),
-        Node::Evaluated { symbol: _ } => Head::Leaf,
+        Node::Evaluated { symbol } => Head::Leaf(symbol),
         Node::NullingLeaf { symbol: _ } => Head::Neither,
         Node::Product {
             action: _,

@@ -88,7 +88,7 @@ pub fn entry(kinds: &[u8; UNITS], counts: &[u64; UNITS], lows: &[u16; UNITS], q:
 }
 
 // What a factor weighs to the Sum at s.
-fn factor(
+pub fn factor(
     kinds: &[u8; UNITS],
     counts: &[u64; UNITS],
     lows: &[u16; UNITS],
@@ -110,7 +110,7 @@ fn factor(
 }
 
 // What a Product weighs, whatever its action.
-fn product(
+pub fn product(
     kinds: &[u8; UNITS],
     counts: &[u64; UNITS],
     lows: &[u16; UNITS],
@@ -181,7 +181,7 @@ fn weigh(
             behind,
             count,
         )),
-        Head::Leaf => Entry::Weighed(Weight::Number(1)),
+        Head::Leaf(_) => Entry::Weighed(Weight::Number(1)),
         Head::Neither => Entry::Nothing,
     }
 }

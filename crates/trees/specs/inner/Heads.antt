@@ -17,10 +17,10 @@ use Rattle.trees.specs.declared.Head.the-variants.{SumOf, Leaf, Neither}
 use Rattle.trees.specs.declared.Step.{Step}
 use Rattle.trees.specs.declared.Step.the-variants.{ProductOf, Ended}
 
--- A Sum with the number of its Products and the position behind it, a leaf, or neither.
+-- A Sum with the number of its Products and the position behind it, a leaf with its symbol, or neither.
 abbrev pub headOf : Written → ℕ → Head
 headOf (Sum count nonterminal) b = SumOf count b
-headOf (Evaluated x) b = Leaf
+headOf (Evaluated x) b = Leaf x
 headOf (NullingLeaf x) b = Neither
 headOf (Factors r l right) b = Neither
 

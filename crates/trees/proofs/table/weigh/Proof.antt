@@ -26,7 +26,7 @@ returns : tie.Need-returns
 returns c = ap Weighed (c .sum .ensures) ∙ head-weighs _ _ _ (SumOf _ _) (sym (c .before .before .count .given .1) ∙ c .before .before .before .before .head .ensures)
 
 returns-2 : tie.Need-returns-2
-returns-2 c = head-weighs _ _ _ Leaf (sym (c .enum-told .given .1) ∙ c .before .before .head .ensures)
+returns-2 c = head-weighs _ _ _ (Leaf _) (sym (c .enum-told .given .1) ∙ c .before .before .head .ensures)
 
 returns-3 : tie.Need-returns-3
 returns-3 c = head-weighs _ _ _ Neither (sym (c .enum-told2 .given .1) ∙ c .before .before .head .ensures)
