@@ -1,25 +1,24 @@
 -- What tree answers, from the weight at the handle and from the walks.
-use mathlib.Core.Path.{_≡_, refl, sym, ap, subst, _∙_}
-use mathlib.Core.List.{List, [], _∷_, _++_}
+use mathlib.Core.Path.{_≡_, sym, ap, subst, _∙_}
+use mathlib.Core.List.{List, _++_}
 use Prim.Native.Nat.{ℕ, _+_, _≤_, _<_, min}
 use native.Mathlib.Decide.{decLt}
 use native.Mathlib.Omega.{arith}
 use lib.ListN.{length, drop, take, take-append-drop}
-use lib.Seq.{sets, sets-eq}
+use lib.Seq.{sets-eq}
 use borrow.Author.Tests.{lt-leb}
 use Rattle.node.specs.Choice.{pick}
 use Rattle.node.specs.Answers.{done, noNode}
 use Rattle.node.specs.Writing.{usableUnits}
 use Rattle.laws.specs.Fills.{tooShort}
-use Rattle.forest.specs.Trees.{Tree, preorder}
-use Rattle.forest.specs.Lists.{At}
+use Rattle.forest.specs.Trees.{preorder}
 use Rattle.forest.specs.Stores.{treesAt}
 use Rattle.trees.specs.Faults.{Sound}
-use Rattle.trees.specs.Answers.{Answer, answer, words, position, nothing, noSuchTree, treeLimit, allOnes, needed, Tells}
+use Rattle.trees.specs.Answers.{answer, words, position, nothing, noSuchTree, treeLimit, allOnes, needed, Tells}
 use Rattle.trees.specs.inner.Heads.{SumAt}
 use Rattle.trees.specs.inner.Weights.{entryAt}
 use Rattle.trees.specs.inner.Tables.{Filled}
-use Rattle.trees.specs.inner.Walks.{Walkable, Walks, Laid, Walked}
+use Rattle.trees.specs.inner.Walks.{Walkable, Walks, Walked}
 use Rattle.trees.specs.declared.Weight.{Weight}
 use Rattle.trees.specs.declared.Weight.the-variants.{Fault, Number, Many}
 use Rattle.trees.specs.declared.Entry.the-variants.{Weighed}

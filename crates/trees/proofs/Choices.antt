@@ -1,11 +1,11 @@
 -- The walker's choice by weights: the Product of the k-th tree, and the numbers of its factors' trees.
 use mathlib.Core.Path.{_≡_, refl, sym, ap, subst, _∙_}
-use mathlib.Core.Bool.{Bool, true, false}
-use mathlib.Core.List.{List, [], _∷_, _++_, map, flatMap}
+use mathlib.Core.Bool.{true, false}
+use mathlib.Core.List.{List, [], _∷_, flatMap}
 use mathlib.Core.List.{List·Memᴰ as Member, List·Memᴰ·head as here, List·Memᴰ·tail as there}
 use mathlib.Core.Logic.{_≢_}
-use Prim.Native.Nat.{ℕ, zero, suc, _+_, _-_, _*_, _/_, _%_, _≤_, _<_}
-use native.Mathlib.Nat.{mul-comm, zero-mul, mul-zero, div-eq-of-lt, mod-eq-of-lt, mod-lt, div-lt-iff-lt-mul}
+use Prim.Native.Nat.{ℕ, zero, suc, _-_, _*_, _/_, _%_, _≤_, _<_}
+use native.Mathlib.Nat.{mul-zero, div-eq-of-lt, mod-eq-of-lt, mod-lt, div-lt-iff-lt-mul}
 use native.Mathlib.Decide.{decLt}
 use native.Mathlib.Omega.{arith}
 use lib.ListN.{length, length-append, length-map}
@@ -13,9 +13,9 @@ use borrow.Author.Tests.{ltb-true, ltb-false}
 use Rattle.node.specs.Writing.{usableUnits, usable}
 use Rattle.node.specs.declared.Right.{Right}
 use Rattle.node.specs.declared.Right.the-variants.{At as Second, Nothing as Single}
-use Rattle.forest.specs.Trees.{Tree, leaf, one, two, preorder}
-use Rattle.forest.specs.Lists.{At, first, later}
-use Rattle.forest.specs.Forests.{Product, alone, paired, Node, token, sum, other, FactorOf, pairs, ofProduct, listed}
+use Rattle.forest.specs.Trees.{Tree, one, two}
+use Rattle.forest.specs.Lists.{At}
+use Rattle.forest.specs.Forests.{Product, sum, other, FactorOf, ofProduct, listed}
 use Rattle.forest.specs.Stores.{productsAt, nodeAt, treesAt}
 use Rattle.forest.proofs.Choosing.{at-map, at-divided, length-pairs}
 use Rattle.trees.specs.Faults.{Sound}
@@ -23,10 +23,10 @@ use Rattle.trees.specs.Answers.{treeLimit}
 use Rattle.trees.specs.inner.Heads.{headAt, stepAt, productOf}
 use Rattle.trees.specs.inner.Weights.{factorWeight, productWeight}
 use Rattle.trees.specs.inner.Tables.{tabled, Filled}
-use Rattle.trees.specs.inner.Walks.{chooses, passedOver, leftNumber, rightNumber, choiceIn, Divides, Walkable, Walks, Choosing, FrontWalks, FrontWords, frontEnd, Reached, Picks}
+use Rattle.trees.specs.inner.Walks.{chooses, passedOver, leftNumber, rightNumber, choiceIn, Divides, Walkable, Walks, Choosing, FrontWalks, FrontWords, Reached, Picks}
 use Rattle.trees.specs.declared.Entry.{Entry}
 use Rattle.trees.specs.declared.Weight.{Weight}
-use Rattle.trees.specs.declared.Weight.the-variants.{Fault, Number, Many}
+use Rattle.trees.specs.declared.Weight.the-variants.{Number}
 use Rattle.trees.specs.declared.Front.the-variants.{Empty, Left}
 use Rattle.trees.specs.declared.Choice.{Choice}
 use Rattle.trees.specs.declared.Choice.the-variants.{Word, Chosen}

@@ -2,22 +2,19 @@
 use mathlib.Core.Path.{_≡_, refl, sym, subst, ap, _∙_}
 use mathlib.Core.List.{List}
 use mathlib.Core.Logic.{_≢_}
-use Prim.Native.Nat.{ℕ, suc, _≤_, _<_}
+use Prim.Native.Nat.{ℕ, suc, _≤_}
 use native.Mathlib.Omega.{arith}
 use lib.ListN.{length}
-use Rattle.node.specs.Answers.{noNode}
-use Rattle.forest.specs.Forests.{Product, Node, sum, Under, listed}
+use Rattle.forest.specs.Forests.{Product, Node, sum, Under}
 use Rattle.forest.specs.Stores.{nodeAt, treesAt}
 use Rattle.trees.specs.Faults.{askedAt, Faulty, Below, LowestFault, Sound}
-use Rattle.trees.specs.Answers.{Answer, answer, position, counted, Counts}
+use Rattle.trees.specs.Answers.{Answer, counted, Counts}
 use Rattle.trees.specs.inner.Weights.{weighNode, entryIn, weights, entryAt, answerOf}
-use Rattle.trees.specs.declared.Counted.{Counted}
-use Rattle.trees.specs.declared.Counted.the-variants.{Trees, Faulty as FaultyAt, TooMany}
+use Rattle.trees.specs.declared.Counted.the-variants.{Trees, Faulty as FaultyAt}
 use Rattle.trees.specs.declared.Weight.{Weight}
-use Rattle.trees.specs.declared.Weight.the-variants.{Fault, Number, Many}
 use Rattle.trees.specs.declared.Entry.{Entry}
 use Rattle.trees.specs.declared.Entry.the-variants.{Nothing, Weighed}
-use Rattle.trees.proofs.Belows.{below-low, Down, below-down, FactorIn, under-sum}
+use Rattle.trees.proofs.Belows.{Down, below-down}
 use Rattle.trees.proofs.Means.{Means}
 use Rattle.trees.proofs.Weighing.{FaultBelow, Weighs, entry-weighs}
 

@@ -4,10 +4,10 @@ use mathlib.Core.List.{List, [], _∷_, _++_, append-assoc}
 use Prim.Native.Nat.{ℕ, zero, suc, _+_, _≤_, _<_, min}
 use native.Mathlib.Decide.{decLt}
 use native.Mathlib.Omega.{arith}
-use lib.ListN.{length, set, length-append, length-set}
+use lib.ListN.{length, set, length-append}
 use lib.Seq.{sets, length-sets, set-out}
 use Rattle.forest.specs.Trees.{Tree, leaf, preorder}
-use Rattle.forest.specs.Lists.{At, first, later}
+use Rattle.forest.specs.Lists.{At, first}
 use Rattle.forest.specs.Forests.{token, ofNode, listed}
 use Rattle.forest.specs.Stores.{nodeAt, treesAt}
 use Rattle.trees.specs.inner.Walks.{Walks, FrontWalks, FrontWords, frontEnd, Reached, Picks, Laid, Limited, Walked, FrontWalked}
@@ -15,7 +15,7 @@ use Rattle.trees.specs.declared.Front.{Front}
 use Rattle.trees.specs.declared.Front.the-variants.{Empty, Left}
 use Rattle.trees.specs.declared.Choice.{Choice}
 use Rattle.trees.specs.declared.Choice.the-variants.{Word, Chosen}
-use Rattle.trees.proofs.Chosen.{Kth, kth}
+use Rattle.trees.proofs.Chosen.{kth}
 
 -- Past the end nothing is laid down; and what is laid down behind is laid down after.
 pub sets-past : (l : List ℕ) (i : ℕ) (vs : List ℕ) → length l ≤ i → sets l i vs ≡ l

@@ -24,8 +24,11 @@ same-length c = search needs
 
 returns : tie.Need-returns
 returns c =
-    let limits = c .before .before .before .before .before .before .limit-of .ensures in tells-short (c .before .before .before .before .before .before .before .before .before .pre .0) (c .before .before .before .before .walk-sum .ensures) (limits .1) (limits .0) (c .before .if1 .taken) (c .needed-words .ensures)
-    (nothing-written (c .before .before .before .before .before .before .before .before .before .args .out .now) (c .before .before .before .before .walk-sum .ensures))
+    let given = c .before .before .before .before .before .before .before .before .before .args in
+    let required = c .before .before .before .before .before .before .before .before .before .pre in
+    let limits = c .before .before .before .before .before .before .limit-of .ensures in
+    let measured = c .before .before .before .before .walk-sum .ensures in
+    tells-short (required .0) measured (limits .1) (limits .0) (c .before .if1 .taken) (c .needed-words .ensures) (nothing-written (given .out .now) measured)
 
 walk-sum-requires-2 : tie.Need-walk-sum-requires-2
 walk-sum-requires-2 c κs = search needs
@@ -35,8 +38,12 @@ same-length-2 c = search needs
 
 returns-2 : tie.Need-returns-2
 returns-2 c =
-    let limits = c .before .before .before .before .before .before .before .before .before .limit-of .ensures in tells-written (c .before .before .before .before .before .before .before .before .before .before .before .before .pre .0) (c .before .before .before .before .before .before .before .walk-sum .ensures) (limits .1) (c .before .before .before .before .if1 .left)
-    (nothing-written (c .before .before .before .before .before .before .before .before .before .before .before .before .args .out .now) (c .before .before .before .before .before .before .before .walk-sum .ensures)) (c .before .before .walk-sum2 .ensures)
+    let given = c .before .before .before .before .before .before .before .before .before .before .before .before .args in
+    let required = c .before .before .before .before .before .before .before .before .before .before .before .before .pre in
+    let limits = c .before .before .before .before .before .before .before .before .before .limit-of .ensures in
+    let measured = c .before .before .before .before .before .before .before .walk-sum .ensures in
+    let fits = c .before .before .before .before .if1 .left in
+    tells-written (required .0) measured (limits .1) fits (nothing-written (given .out .now) measured) (c .before .before .walk-sum2 .ensures)
 
 pub write-spec : {M : Type 1} → statement M
 write-spec =

@@ -1,5 +1,5 @@
 -- `walking::walk_sum` and `walking::walk_product`, which call each other, meet their contracts. The Sum's handle falls.
-use mathlib.Core.Path.{_≡_, ap, _∙_}
+use mathlib.Core.Path.{ap, _∙_}
 use native.Mathlib.Omega.{arith}
 use borrow.Author.Needs.{needs}
 use Rattle.trees.specs.inner.Walks.{frontEnd}

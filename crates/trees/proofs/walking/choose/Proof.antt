@@ -1,5 +1,5 @@
 -- `walking::choose` meets its contract: the Products that do not have the tree are passed over.
-use mathlib.Core.Path.{_≡_, sym, ap, _∙_}
+use mathlib.Core.Path.{_≡_, sym, _∙_}
 use native.Mathlib.Omega.{arith}
 use borrow.Author.Needs.{needs}
 use Rattle.node.specs.Writing.{usable}

@@ -1,5 +1,5 @@
 -- `walking::put` meets its contract: past the end nothing is written.
-use mathlib.Core.Path.{refl, sym}
+use mathlib.Core.Path.{sym}
 use lib.Seq.{set-out}
 use native.Mathlib.Omega.{arith}
 use borrow.Author.Needs.{needs}
