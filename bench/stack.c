@@ -31,7 +31,8 @@ static uint8_t file[11 + 6 * RULES];
 static size_t file_len, set, held, used, taken, first, count, position, behind, place;
 static uint32_t items[BRINESADDLE_MAX_ITEM_WORDS], starts[BRINESADDLE_MAX_START_WORDS], queue[BRINESADDLE_MAX_QUEUE_WORDS];
 static uint64_t rows[BRINESADDLE_MAX_ROW_WORDS];
-static uint16_t tokens[TOKENS], forest[UNITS], store[UNITS];
+static uint16_t tokens[TOKENS], positions[2 * TOKENS], forest[UNITS], store[UNITS];
+static const uint16_t both_kinds[] = {0, 1};
 static size_t tokens_len;
 static uint32_t yes, handle, node[5], answer;
 
@@ -58,6 +59,8 @@ static void check(void) { answer = brinesaddle_check(FILE_LENT); }
 static void start(void) { answer = brinesaddle_start(FILE_LENT, STATE, WORDS); }
 static void token(void) { answer = brinesaddle_token(FILE_LENT, STATE, WORDS, tokens[0]); }
 static void run(void) { answer = brinesaddle_run(FILE_LENT, STATE, WORDS, tokens, tokens_len, &taken); }
+static void kinds(void) { answer = brinesaddle_kinds(FILE_LENT, STATE, WORDS, LENT(both_kinds)); }
+static void run_kinds(void) { answer = brinesaddle_run_kinds(FILE_LENT, STATE, WORDS, positions, 2 * tokens_len, &taken); }
 static void finished(void) { answer = brinesaddle_finished(FILE_LENT, READ_STATE, WORDS, &yes, &handle); }
 static void latest_set(void) { answer = brinesaddle_latest_set(FILE_LENT, READ_STATE, WORDS, &first, &count); }
 static void expected(void) { answer = brinesaddle_expected(FILE_LENT, READ_STATE, WORDS, PLACE(expected_tokens)); }
@@ -70,7 +73,7 @@ static void node_walk(void) { answer = brinesaddle_node_walk(store, UNITS, 0, &c
 static void translate(void) { answer = brinesaddle_translate(written, written_len, made, sizeof made, &length, &empty); }
 
 enum {
-    CHECK, START, TOKEN, RUN, FINISHED, LATEST_SET, EXPECTED, LISTING, LATEST_WORDS, LATEST_RECORDS, NODE_WRITE, NODE_READ, NODE_WALK, TRANSLATE, CALLS
+    CHECK, START, TOKEN, RUN, KINDS, RUN_KINDS, FINISHED, LATEST_SET, EXPECTED, LISTING, LATEST_WORDS, LATEST_RECORDS, NODE_WRITE, NODE_READ, NODE_WALK, TRANSLATE, CALLS
 };
 
 static const struct {
@@ -82,6 +85,8 @@ static const struct {
     [START] = {"start", start, BRINESADDLE_PARSE_STACK},
     [TOKEN] = {"token", token, BRINESADDLE_PARSE_STACK},
     [RUN] = {"run", run, BRINESADDLE_PARSE_STACK},
+    [KINDS] = {"kinds", kinds, BRINESADDLE_PARSE_STACK},
+    [RUN_KINDS] = {"run_kinds", run_kinds, BRINESADDLE_PARSE_STACK},
     [FINISHED] = {"finished", finished, BRINESADDLE_REPORT_STACK},
     [LATEST_SET] = {"latest_set", latest_set, BRINESADDLE_REPORT_STACK},
     [EXPECTED] = {"expected", expected, BRINESADDLE_REPORT_STACK},
@@ -177,6 +182,8 @@ static void refused_alike(uint32_t wanted)
 {
     measure(TOKEN, wanted);
     measure(RUN, wanted);
+    measure(KINDS, wanted);
+    measure(RUN_KINDS, wanted);
     measure(FINISHED, wanted);
     measure(LATEST_SET, wanted);
     places(wanted);
@@ -185,7 +192,13 @@ static void refused_alike(uint32_t wanted)
 /* Every call with the file at hand, accepted, and tokens of which the long run is refused with `full`. */
 static void parses(uint32_t full)
 {
+    for (size_t k = 0; k < tokens_len; k++)
+        positions[2 * k] = 1, positions[2 * k + 1] = tokens[k];
     measure(CHECK, BRINESADDLE_DONE);
+    measure(START, BRINESADDLE_DONE);
+    measure(KINDS, BRINESADDLE_DONE);
+    measure(START, BRINESADDLE_DONE);
+    measure(RUN_KINDS, full);
     measure(START, BRINESADDLE_DONE);
     measure(TOKEN, BRINESADDLE_DONE);
     measure(FINISHED, BRINESADDLE_DONE);

@@ -8,11 +8,11 @@
  * written. Any contents are taken: no call needs its words prepared but for what a start does.
  *
  * Answers. Each call returns a number: 0 is done; the others are refusals, in this order of precedence but for 7, 8, 9 and 14, of which the
- * first that is met is told. What a refused call leaves is said at each call. In short: a run keeps the tokens before the refused one and tells
- * how many they are; a walk tells the nodes before the units that are none; finished and latest_set put 0 into their words, finished's handle
- * all ones; a call that fills a place tells in `count` how long it must be, or 0 where it is refused for another reason; every other refused
- * call leaves everything as it was. And 10, 11 and 12 tell their place: 10 and 11 the position asked for, 12 the unit at which the fault was
- * seen.
+ * first that is met is told. What a refused call leaves is said at each call. In short: a run keeps the tokens or positions before the
+ * refused one and tells how many they are; a walk tells the nodes before the units that are none; finished and latest_set put 0 into their
+ * words, finished's handle all ones; a call that fills a place tells in `count` how long it must be, or 0 where it is refused for another
+ * reason; every other refused call leaves everything as it was. And 10, 11 and 12 tell their place: 10 and 11 the position asked for, 12
+ * the unit at which the fault was seen.
  */
 #ifndef BRINESADDLE_H
 #define BRINESADDLE_H
@@ -30,8 +30,8 @@ enum {
     BRINESADDLE_BROKEN = 2,        /* another rule for grammars is broken */
     BRINESADDLE_NO_SETS = 3,       /* start: no room for a set */
     BRINESADDLE_ILL_FORMED = 4,    /* the state is not well formed in these words under this grammar */
-    BRINESADDLE_NO_TOKEN = 5,      /* the token is T or above */
-    BRINESADDLE_NOT_PREDICTED = 6, /* no sentence goes on with this token */
+    BRINESADDLE_NO_TOKEN = 5,      /* the token is T or above; or no kind, kinds that do not rise strictly, or one that is T or above */
+    BRINESADDLE_NOT_PREDICTED = 6, /* no sentence goes on with this token, or with any kind of this position */
     BRINESADDLE_ITEMS_FULL = 7,    /* the items are full */
     BRINESADDLE_QUEUE_FULL = 8,    /* the queue is full */
     BRINESADDLE_SETS_FULL = 9,     /* the new set number would be past the sets */
@@ -39,7 +39,7 @@ enum {
     BRINESADDLE_NO_ROOM = 11,      /* the node does not fit the store from its position */
     BRINESADDLE_NO_NODE = 12,      /* the units at the position are no node */
     BRINESADDLE_TOO_SHORT = 13,    /* the place lent is too short for what is told */
-    BRINESADDLE_STORE_FULL = 14,   /* a token: its nodes do not fit the store */
+    BRINESADDLE_STORE_FULL = 14,   /* a token or a position: its nodes do not fit the store */
     BRINESADDLE_NOT_WRITTEN = 16,  /* translate: the bytes are no written grammar of version 2 */
     BRINESADDLE_CIRCULAR = 17,     /* a nonterminal derives itself */
     BRINESADDLE_BARREN = 18,       /* a nonterminal derives no token string, not even the empty one */
@@ -73,7 +73,7 @@ enum {
 /* The bytes of stack that a call needs, its arguments among them: measured on x86-64 at release (bench/stack), and rounded up. A program
  * whose symbols are bound late needs up to 4 KiB more at its first call, for the linker. */
 enum {
-    BRINESADDLE_PARSE_STACK = 81920,  /* start, token, run */
+    BRINESADDLE_PARSE_STACK = 81920,  /* start, token, run, kinds, run_kinds */
     BRINESADDLE_REPORT_STACK = 40960, /* check, finished, latest_set, expected, listing, latest_words */
     BRINESADDLE_RECORDS_STACK = 122880, /* latest_records: it holds the words of a whole set */
     BRINESADDLE_NODE_STACK = 512,     /* node_write, node_read, node_walk */
@@ -108,10 +108,30 @@ uint32_t brinesaddle_run(const uint8_t *file, size_t file_len, size_t *set, size
                          size_t queue_len, uint16_t *store, size_t store_len, const uint16_t *tokens, size_t tokens_len,
                          size_t *taken);
 
-/* Whether the tokens taken since the start are a sentence; and the handle of all its derivations, the position in the store of the start symbol's
- * Sum.
+/* Reads one position: a word that may be of several kinds of token, as `pool` is a keyword in one place and a name in another. `kinds` are
+ * these kinds, strictly rising. Those that are not predicted here are passed over and leave no trace; each of the others is read, so that a
+ * sentence may go on with any of them. A position of one kind is that token.
+ * Answers as a token does: 5 where there is no kind, the kinds do not rise strictly or one is T or above, whatever the others are; 6 where
+ * none is predicted. Of 7, 8 and 14 the one that is met first, kind by kind in rising order, and then in what they complete. Done: state,
+ * words and store are those after the position, with a node for each kind that is used, in rising order. Refused: all as it was. */
+uint32_t brinesaddle_kinds(const uint8_t *file, size_t file_len, size_t *set, size_t *held, size_t *used, uint32_t *items,
+                           size_t items_len, uint32_t *starts, size_t starts_len, uint64_t *rows, size_t rows_len, uint32_t *queue,
+                           size_t queue_len, uint16_t *store, size_t store_len, const uint16_t *kinds, size_t kinds_len);
+
+/* Reads positions up to the first that is refused. `positions` has them one behind the other: how many kinds, then the kinds. So 2 0 1 1 0
+ * are the positions [0 1] and [0]. One that the slice cuts off is answered 5. The same as one call a position, but grammar and state are
+ * checked once; they are checked for an empty run too.
+ * Answers as a position does, for the first refusal. Done or refused, `taken` is the number of positions, not of words, that were taken,
+ * and state and words are those after them. With 1, 2 and 4 none was taken, and all is as it was. */
+uint32_t brinesaddle_run_kinds(const uint8_t *file, size_t file_len, size_t *set, size_t *held, size_t *used, uint32_t *items,
+                               size_t items_len, uint32_t *starts, size_t starts_len, uint64_t *rows, size_t rows_len,
+                               uint32_t *queue, size_t queue_len, uint16_t *store, size_t store_len, const uint16_t *positions,
+                               size_t positions_len, size_t *taken);
+
+/* Whether the tokens taken since the start are a sentence, or one kind of each position taken; and the handle of all derivations of all such
+ * sentences, the position in the store of the start symbol's Sum.
  * Answers 0, 1, 2 or 4. Done: `yes` is 1 or 0. Refused: `yes` is 0. Where `yes` is 0, `handle` is 0xFFFFFFFF. A handle stays good until the next
- * start: tokens that are read later write behind it. */
+ * start: what is read later writes behind it. */
 uint32_t brinesaddle_finished(const uint8_t *file, size_t file_len, size_t set, size_t held, size_t used, const uint32_t *items,
                               size_t items_len, const uint32_t *starts, size_t starts_len, const uint64_t *rows, size_t rows_len,
                               const uint32_t *queue, size_t queue_len, const uint16_t *store, size_t store_len, uint32_t *yes,
@@ -177,10 +197,10 @@ uint32_t brinesaddle_latest_records(const uint8_t *file, size_t file_len, size_t
                                     const uint16_t *store, size_t store_len, struct brinesaddle_item *records, size_t records_len,
                                     size_t *count);
 
-/* The store of a parse holds, for each token, an Evaluated with the token; and for each nonterminal that it completes over some stretch, a Sum
- * of all the ways, and right behind it a Product a way: the rule number as its action, the nodes of the rule's symbols as its factors. Factors lie
- * before their Sum. Read it as any store, its first `used` units; what a host writes into it itself is no part of the parse, and a state may then
- * be answered 4.
+/* The store of a parse holds, for each token and each kind used of a position, an Evaluated with it; and for each nonterminal that it
+ * completes over some stretch, a Sum of all the ways, and right behind it a Product a way: the rule number as its action, the nodes of the
+ * rule's symbols as its factors. Factors lie before their Sum. Read it as any store, its first `used` units; what a host writes into it
+ * itself is no part of the parse, and a state may then be answered 4.
  *
  * A node of a forest is five numbers: its kind, and
  *   Sum          count, nonterminal, 0, 0

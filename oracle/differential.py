@@ -5,7 +5,7 @@
 
 First some strings in every room of a box, so that each of 7, 8, 9 and 14 comes first somewhere. Then ROUNDS times 400 random cases from SEED beside
 the model, and 25 runs beside the Rust: grammars, capacities of every small size, rubbish in all words and units before a start and in those past
-the capacities after it, tokens in and out of range, runs, reports, forged and damaged states and stores; every word and unit is compared after
+the capacities after it, tokens in and out of range, positions of several kinds, runs, reports, forged and damaged states and stores; every word and unit is compared after
 every call. Prints what was met. Fails where one of the refusals 3 to 9 and 14 was met less than LEAST times, an answer of one call or a way to
 damage a state less than a twentieth of that, or a large grammar not at all.
 """
@@ -74,6 +74,18 @@ class Both:
         self.state = wanted[1]
         return wanted[0]
 
+    def kinds(self, position):
+        wanted = forest.kinds(self.data, self.state, self.buffers, position)
+        self.tell("kinds", library.kinds(self.file, self.state, self.lent, position), wanted)
+        self.state = wanted[1]
+        return wanted[0]
+
+    def run_kinds(self, words):
+        wanted = forest.run_kinds(self.data, self.state, self.buffers, words)
+        self.tell("run_kinds", library.run_kinds(self.file, self.state, self.lent, words), wanted)
+        self.state = wanted[1]
+        return wanted[0]
+
     def reports(self):
         wanted = forest.finished(self.data, self.state, self.buffers)
         self.tell("finished", library.finished(self.file, self.state, self.lent), wanted)
@@ -85,7 +97,8 @@ class Both:
         """Each call but start, where all are to be refused alike."""
         token = rng.randrange(grammar.tokens)
         answer = self.token(token)
-        same("a run refused alike", self.run([token]), answer)
+        for call, read in [("run", [token]), ("kinds", [token]), ("run_kinds", [1, token])]:
+            same(f"{call} refused alike", getattr(self, call)(read), answer)
         self.reports()
         return answer
 
@@ -110,7 +123,7 @@ def large_words(rng):
                           rubbish(rng, about(queue), U32), rubbish(rng, about(node_model.USABLE), U16))
 
 
-# ------------------------------------------------------------------------------------------------------ Kinds of case
+# ----------------------------------------------------------------------------------------------------------- Cases
 
 def any_state(rng):
     return forest.State(rng.randrange(5), rng.randrange(5), rng.randrange(5))
@@ -142,6 +155,38 @@ def next_token(rng, both, grammar):
     return rng.choice([grammar.tokens, grammar.symbols - 1, 65535, 65536, 65536 + rng.randrange(grammar.tokens), U32 - 1])
 
 
+def next_position(rng, both, grammar):
+    """A few kinds, mostly rising tokens of which one is predicted or more; else none, some that do not rise, or one that is no token."""
+    kinds = sorted({min(next_token(rng, both, grammar), 65535) for _ in range(rng.choice([1, 2, 2, 3, 5]))})
+    if kinds[-1] >= grammar.tokens and rng.random() < 0.8:
+        kinds = [kind for kind in kinds if kind < grammar.tokens]
+    if rng.random() < 0.1:
+        return rng.choice([kinds[::-1], kinds + kinds[-1:], []])
+    return kinds
+
+
+def words_of_a_run(rng, both, grammar):
+    """The words of some positions, now and then cut off or with a wrong number of kinds."""
+    words = model.words_of_positions(next_position(rng, both, grammar) for _ in range(rng.randint(0, 4)))
+    if words and rng.random() < 0.2:
+        words = words[:rng.randrange(len(words))]
+    if words and rng.random() < 0.1:
+        words[rng.randrange(len(words))] = rng.choice([0, 1, 2, 65535])
+    return words
+
+
+def any_call(rng, both, grammar):
+    """Reads a token or a position, or a run of them."""
+    call = rng.choice(["token"] * 5 + ["run"] * 2 + ["kinds"] * 4 + ["run_kinds"] * 2)
+    if call == "token":
+        return both.token(next_token(rng, both, grammar))
+    if call == "run":
+        return both.run([min(next_token(rng, both, grammar), 65535) for _ in range(rng.randint(0, 4))])
+    if call == "kinds":
+        return both.kinds(next_position(rng, both, grammar))
+    return both.run_kinds(words_of_a_run(rng, both, grammar))
+
+
 def a_parse(rng):
     """A parse from the start, in words of any size, each answer looked at."""
     file, grammar = random_file(rng)
@@ -156,10 +201,7 @@ def a_parse(rng):
     met["parses of large grammars"] += is_large(grammar)
     refusals = 0
     for _ in range(rng.randint(1, 16)):
-        if rng.random() < 0.25:
-            answer = both.run([min(next_token(rng, both, grammar), 65535) for _ in range(rng.randint(0, 4))])
-        else:
-            answer = both.token(next_token(rng, both, grammar))
+        answer = any_call(rng, both, grammar)
         if rng.random() < 0.3:
             both.reports()
         refusals += answer != 0
@@ -187,12 +229,12 @@ def fitting(rng, chart):
 
 
 def a_forged_state(rng):
-    """Tokens on a well-formed state that no start need reach."""
+    """Tokens and positions on a well-formed state that no start need reach."""
     case = generate.forged_case(rng, generate.small_grammar, 0)
     grammar = model.check(case.file)[1]
     both = Both(case.file, *fitting(rng, case.chart))
     for _ in range(rng.randint(1, 4)):
-        if both.token(next_token(rng, both, grammar)):
+        if any_call(rng, both, grammar):
             break
     both.reports()
 
@@ -386,11 +428,16 @@ def a_walk(position, store):
 # -------------------------------------------------------------------------------------------------------- The Rust
 
 def beside_the_rust(rng, cases=20):
-    """Whole states after each token, of random runs from the start and from forged states, as the Rust tells them. The capacities are
-    just those that the Rust needed; with one less of a kind the last step is refused 7, 8 or 9, and with one unit less than were used 14."""
+    """Random runs from the start and from forged states."""
     makers = [generate.small_grammar] * 36 + [generate.middle_grammar] * 12 + [generate.large_grammar] * 6 + [generate.largest_grammar]
     made = [generate.reached_case(rng, rng.choice(makers), 12, 250) for _ in range(cases)]
     made += [generate.forged_case(rng, generate.small_grammar, 4, 150) for _ in range(cases // 4)]
+    compare_with_the_rust(made)
+
+
+def compare_with_the_rust(made):
+    """Whole states after each token or position, as the Rust tells them. The capacities are just those that the Rust needed; with one less of a kind
+    the last step is refused 7, 8 or 9, and with one unit less than were used 14."""
     for case, (before, answers) in zip(made, streams.ask_states(made)):
         items = max([len(before.items)] + [answer.room[0] for answer in answers if answer.number == 0])
         queue = max([0] + [answer.room[1] for answer in answers if answer.number == 0])
@@ -420,14 +467,19 @@ def placed(case, before, items, sets, queue, units):
     return file, state, lent
 
 
+def read_next(file, state, lent, token):
+    """A token, or the kinds of a position."""
+    return (library.token if isinstance(token, int) else library.kinds)(file, state, lent, token)
+
+
 def compare_run(case, before, answers, items, sets, queue):
     """How many units were used. The Rust tells origins and rules; the handles and units are compared with the model's elsewhere."""
     file, state, lent = placed(case, before, items, sets, queue, ENOUGH_UNITS)
     began = state.used
     for token, answer in zip(case.tokens, answers):
-        number, state = library.token(file, state, lent, token)
-        same(f"Rust: token {token} on {case.file.hex()}", number, answer.number)
-        met[f"Rust: token {number}"] += 1
+        number, state = read_next(file, state, lent, token)
+        same(f"Rust: {token} on {case.file.hex()}", number, answer.number)
+        met[f"Rust: {'token' if isinstance(token, int) else 'position'} {number}"] += 1
         if number == 0:
             wanted_state, wanted = generate.rooms(answer.chart, items, sets, queue)
             same("Rust: state", state[:2], wanted_state)
@@ -444,7 +496,7 @@ def refused_run(case, before, items, sets, queue, units, refusal):
     file, state, lent = placed(case, before, items, sets, queue, units)
     number, taken = 0, 0
     while number in (0, 6) and taken < len(case.tokens):
-        number, state = library.token(file, state, lent, case.tokens[taken])
+        number, state = read_next(file, state, lent, case.tokens[taken])
         taken += 1
     same(f"Rust: with one less, {items} items, {sets} sets, {queue} queued, {units} units, {case.file.hex()}", number, refusal)
     met[f"Rust: one less {refusal}"] += 1
@@ -471,8 +523,9 @@ def every_room():
 
 # ------------------------------------------------------------------------------------------------------------- Runs
 
-KINDS = [(a_parse, 50), (a_forged_state, 12), (a_damaged_state, 22), (some_nodes, 6)]
-ASKED = [f"start {n}" for n in (0, 1, 2, 3)] + [f"{call} {n}" for call in ("token", "run") for n in (0, 1, 2, 4, 5, 6, *ROOM_REFUSALS)] + \
+READING = ("token", "run", "kinds", "run_kinds")
+CASES = [(a_parse, 50), (a_forged_state, 12), (a_damaged_state, 22), (some_nodes, 6)]
+ASKED = [f"start {n}" for n in (0, 1, 2, 3)] + [f"{call} {n}" for call in READING for n in (0, 1, 2, 4, 5, 6, *ROOM_REFUSALS)] + \
         [f"{call} {n}" for call in ("finished", "latest set") for n in (0, 1, 2, 4)] + [f"damaged: {way}" for way in WAYS] + \
         ["node write 0", "node write 10", "node write 11", "node read 0", "node read 12", "node read 0 end", "node walk 0", "node walk 12", "Rust: runs", "Rust: token 0", "Rust: token 6"]
 
@@ -480,18 +533,18 @@ RARER = ["parses of large grammars", "Rust: runs of large grammars"]
 
 
 def refusals(number):
-    return sum(count for name, count in met.items() if name in (f"start {number}", f"token {number}", f"run {number}"))
+    return sum(count for name, count in met.items() if name in [f"{call} {number}" for call in ("start", *READING)])
 
 
 def main():
     seed, rounds, least = (int(word) for word in sys.argv[1:4])
     rng = random.Random(seed)
-    kinds, weights = zip(*KINDS)
+    cases, weights = zip(*CASES)
     try:
         every_room()
         for _ in range(rounds):
-            for kind in rng.choices(kinds, weights, k=400):
-                kind(rng)
+            for case in rng.choices(cases, weights, k=400):
+                case(rng)
             beside_the_rust(rng)
     except Differs as differs:
         print(f"seed {seed}: {differs}")

@@ -1,6 +1,6 @@
 """The parse with the forest (02, C-17) in plain Python, beside which the library is run; and the trees of a store (C-20).
 
-All that the forest leaves as it was is model.py's, run over these lent words: begin, token, run, latest_set and the reports are its functions. Nodes
+All that the forest leaves as it was is model.py's, run over these lent words: begin, token, kinds, run, run_kinds, latest_set and the reports are its functions. Nodes
 are written and read by node_model.py.
 """
 
@@ -101,7 +101,7 @@ class Buffers(model.Buffers):
 
 
 class Step(model.Step):
-    """One token: its nodes too are written into units of its own, and into the lent ones only when nothing was refused."""
+    """One position: its nodes too are written into units of its own, and into the lent ones only when nothing was refused."""
 
     def __init__(self, grammar, state, buffers):
         super().__init__(grammar, state, buffers)
@@ -129,7 +129,7 @@ class Step(model.Step):
         return handle
 
     def complete(self, k, symbol):
-        """Called with the token first, and then for each sum when its entries are popped: its node is due just before."""
+        """Called with each kind first, and then for each sum when its entries are popped: its node is due just before."""
         self.link = self.write_sum(*self.sums[-1]) if self.sums else self.write_node("Evaluated", symbol)
         super().complete(k, symbol)
 
@@ -148,6 +148,7 @@ class Step(model.Step):
 
 
 begin, take, token, run, latest_set = model.begin, model.take, model.token, model.run, model.latest_set
+take_position, kinds, run_kinds = model.take_position, model.kinds, model.run_kinds
 expected, listing, latest_words, latest_records = model.expected, model.listing, model.latest_words, model.latest_records
 
 

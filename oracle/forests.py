@@ -98,9 +98,11 @@ def new_words_never_decide(rng):
 # --------------------------------------------------------------------------------------------- Beside the recognizer
 
 def nodes_from(store, first, behind):
-    """The nodes that a token wrote, with their handles: its leaf, and the sums with their summands as (action, left, right or NO_NODE)."""
-    leaf, position = forest.node_at(store, first)
-    sums = []
+    """The nodes that a position wrote, with their handles: its leaves, and the sums with their summands as (action, left, right or NO_NODE)."""
+    leaves, sums, position = [], [], first
+    while position < behind and forest.kind(store, position) == "Evaluated":
+        leaves.append((position, forest.node_at(store, position)[0][1]))
+        position = forest.node_at(store, position)[1]
     while position < behind:
         handle = position
         (kind, count, left_side), position = forest.node_at(store, position)
@@ -111,14 +113,15 @@ def nodes_from(store, first, behind):
             same("a Product is due", kind, "Product")
             summands.append((action, left, NO_NODE if right is None else right))
         sums.append((left_side, handle, summands))
-    same("the token's nodes end where the state says", position, behind)
-    return leaf, sums
+    same("the position's nodes end where the state says", position, behind)
+    return leaves, sums
 
 
 def beside_the_recognizer(rng):
-    """The unchanged recognizer tells a forest the same leaves, sums and summands in the same order, and has the same nodes in its items."""
+    """The unchanged recognizer tells a forest the same leaves, sums and summands in the same order, and has the same nodes in its items. But it tells a leaf
+    for each kind of a position, also for those that are passed over."""
     wide = [Case(model.CHAIN, None, False, [0, 208, 207]), Case(forest_numbers.FORTY, None, False, [0])]
-    cases = some_cases(rng, True) + wide
+    cases = some_cases(rng, True) + wide + [generate.position_case(rng, generate.small_grammar, forged) for forged in (True, False, False) * 10]
     for case, told in zip(cases, streams.ask_told(cases)):
         state, buffers = beginning(case)
         grammar = model.check(case.file)[1]
@@ -126,14 +129,18 @@ def beside_the_recognizer(rng):
         handle_of[NO_NODE] = NO_NODE
         for token, rust in zip(case.tokens, told):
             old, rows = state, [buffers.row(k) for k in range(state.set_number + 1)]
-            answer, state, popped = forest.take(grammar, state, buffers, token)
+            kinds = [token] if isinstance(token, int) else token
+            answer, state, popped = forest.take_position(grammar, state, buffers, kinds)
             same("answer", answer, rust.number)
             met[f"told {answer}"] += 1
             if answer:
                 continue
-            leaf, sums = nodes_from(buffers.store, old.used, state.used)
-            same("the leaf", leaf, ("Evaluated", token))
-            handle_of[rust.leaf] = old.used
+            leaves, sums = nodes_from(buffers.store, old.used, state.used)
+            used = [(leaf, kind) for leaf, kind in enumerate(kinds, rust.leaf + 1 - len(kinds)) if rows[-1] & model.bit(kind)]
+            same("the leaves", [kind for _, kind in leaves], [kind for _, kind in used])
+            handle_of.update((leaf, handle) for (leaf, _), (handle, _) in zip(used, leaves))
+            met["told positions of several kinds used"] += len(used) > 1
+            met["told positions with a kind passed over"] += len(used) < len(kinds)
             same("number of sums", len(sums), len(rust.sums))
             for (left_side, handle, summands), (origin, left, node, wanted), (popped_origin, _, _) in zip(sums, rust.sums, popped):
                 same("the sum's origin and left side", (popped_origin, left_side), (origin, left))
@@ -343,6 +350,7 @@ LEAST = {
     "beside the model 0": 150, "beside the model 6": 20, "beside the model 7": 1, "beside the model 8": 1, "beside the model 9": 1, "beside the model 14": 3,
     "forged states beside the model": 40,
     "told 0": 200, "told 6": 10, "told sums": 1000, "told sums of several": 300, "told sums that are wide": 3, "told sums that complete nothing": 10,
+    "told positions of several kinds used": 12, "told positions with a kind passed over": 5,
     "finished nodes": 80, "ambiguous finished nodes": 30, "trees beside the Rust": 500, "stores of the Rust with fillers": 10,
     "sentences": 150, "ambiguous sentences": 50, "trees beside the rules": 800, "strings without a tree": 100,
     "neighbours that part by a rule": 400, "neighbours that part by a split": 80,

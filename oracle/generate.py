@@ -171,6 +171,29 @@ def random_tokens(rng, grammar, chart, count, most_items):
     return tokens
 
 
+def random_positions(rng, grammar, chart, count, most_items):
+    """The same of positions of one kind or more, of which one or more are predicted or none."""
+    state, buffers = rooms(chart)
+    positions = []
+    while len(positions) < count:
+        kinds = sorted(rng.sample(range(grammar.tokens), rng.randint(1, min(3, grammar.tokens))))
+        answer, state, _ = model.take_position(grammar, state, buffers, kinds)
+        first, behind = buffers.latest(state)
+        if answer not in (0, 6) or (answer == 0 and first == behind) or state.item_count > most_items:
+            break
+        positions.append(kinds)
+        if answer == 6 and rng.random() < 0.5:
+            break
+    return positions
+
+
+def position_case(rng, make_grammar, forged=False, most_items=200):
+    """A run of positions from the start, or from a well-formed state that need not be reachable."""
+    case = (forged_case if forged else reached_case)(rng, make_grammar, 0)
+    grammar = model.check(case.file)[1]
+    return case._replace(tokens=random_positions(rng, grammar, case.chart or start_chart(grammar), rng.randint(2, 9), most_items))
+
+
 def reached_case(rng, make_grammar, count, most_items=250):
     """A run from the start."""
     file, grammar = make_grammar(rng)

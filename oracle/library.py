@@ -35,6 +35,8 @@ for name, parameters in {
     "start": FILE + STATE + WORDS,
     "token": FILE + STATE + WORDS + [u32],
     "run": FILE + STATE + WORDS + slice_of(u16) + OUT,
+    "kinds": FILE + STATE + WORDS + slice_of(u16),
+    "run_kinds": FILE + STATE + WORDS + slice_of(u16) + OUT,
     "finished": FILE + STATE_BY_VALUE + WORDS + [ctypes.POINTER(u32)] * 2,
     "latest_set": FILE + STATE_BY_VALUE + WORDS + OUT + OUT,
     "expected": FILE + STATE_BY_VALUE + WORDS + slice_of(u16) + OUT,
@@ -102,10 +104,24 @@ def token(file, state, lent, number):
     return answer, lent.state()
 
 
-def run(file, state, lent, tokens):
+def some_run(call, file, state, lent, words):
     taken = size(0xBAD)
-    answer = library.brinesaddle_run(*file.lent, *by_reference(state, lent), *lent.lent(), *array(u16, tokens), ctypes.byref(taken))
+    answer = call(*file.lent, *by_reference(state, lent), *lent.lent(), *array(u16, words), ctypes.byref(taken))
     return answer, lent.state(), taken.value
+
+
+def run(file, state, lent, tokens):
+    return some_run(library.brinesaddle_run, file, state, lent, tokens)
+
+
+def kinds(file, state, lent, position):
+    answer = library.brinesaddle_kinds(*file.lent, *by_reference(state, lent), *lent.lent(), *array(u16, position))
+    return answer, lent.state()
+
+
+def run_kinds(file, state, lent, words):
+    """The words are those of model.words_of_positions, or any."""
+    return some_run(library.brinesaddle_run_kinds, file, state, lent, words)
 
 
 def finished(file, state, lent):

@@ -11,7 +11,7 @@ PROGRAMS = os.path.join(os.path.dirname(HERE), "target", "oracle")
 VECTORS = os.path.join(HERE, "vectors")
 
 FROM_START, FROM_WELL_FORMED, FROM_ANY_SHAPE = 0, 1, 2
-RESET = 0xFFFFFFFF
+RESET, AND_NEXT = 0xFFFFFFFF, 1 << 31
 PUSH, POP = 0, 1
 
 # A whole state. finished: 1 or 0; items: (origin, rule) each; rows: one number each, symbol s being bit s.
@@ -19,7 +19,7 @@ Chart = namedtuple("Chart", "set_number finished items starts rows")
 # The answer to a token. room: the most items and queued entries at a time; sums: (origin, left side, places in pop order).
 # Refused, there is only the number.
 Answer = namedtuple("Answer", "number room sums chart", defaults=[None, [], None])
-# A run of tokens from the start, or from a chart. any_shape: the chart's lists may have any length.
+# A run of tokens from the start, or from a chart. any_shape: the chart's lists may have any length. A token may be a list: the kinds of one position.
 Case = namedtuple("Case", "file chart any_shape tokens")
 
 
@@ -83,7 +83,15 @@ def case_numbers(case):
         if case.any_shape:
             numbers += [len(chart.starts), len(chart.rows)]
         numbers += [*chart.starts, *row_words(chart.rows)]
-    return numbers + [len(case.tokens), *case.tokens]
+    tokens = flat(map(position_numbers, case.tokens))
+    return numbers + [len(tokens), *tokens]
+
+
+def position_numbers(token):
+    """A token, or each kind of a position: all but the last say that another one follows."""
+    if isinstance(token, int):
+        return [token]
+    return [kind | AND_NEXT for kind in token[:-1]] + token[-1:]
 
 
 def read_case(numbers):

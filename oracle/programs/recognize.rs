@@ -45,6 +45,9 @@ const FROM_ANY_SHAPE: u32 = 2;
 /// In place of a token: call the crate's `reset`.
 const RESET: u32 = 0xFFFF_FFFF;
 
+/// In a token: the next one is another kind of the same position.
+const AND_NEXT: u32 = 0x8000_0000;
+
 /// The words of a row in the streams, whatever the number of symbols. Those past the crate's own row are 0.
 const ROW_WORDS: usize = 8;
 
@@ -149,7 +152,7 @@ fn read_parse<'g>(numbers: &mut Numbers, grammar: &'g InternalGrammar) -> Parse<
     parse
 }
 
-/// What an accepted token did.
+/// What an accepted position did.
 struct Taken {
     /// The most items and the most queued entries that there were at a time.
     most_items: usize,
@@ -158,10 +161,12 @@ struct Taken {
     sums: Vec<(u32, usize, Vec<usize>)>,
 }
 
-/// Reads a token. `None` where the recognizer calls itself exhausted.
-fn take_token(parse: &mut Parse, token: u32) -> Option<Taken> {
+/// Reads a position, a token or more. `None` where the recognizer calls itself exhausted.
+fn take(parse: &mut Parse, kinds: &[u32]) -> Option<Taken> {
     parse.forest.sums.clear();
-    parse.scan(Symbol::from(token), ());
+    for kind in kinds {
+        parse.scan(Symbol::from(*kind), ());
+    }
     // `end_earleme` in its parts: between them the popped items still stand at the places that were queued.
     if parse.is_exhausted() {
         return None;
@@ -206,9 +211,25 @@ fn print_state(parse: &Parse) {
     println!();
 }
 
-/// Reads each case of standard input and does something with its parse and tokens.
+/// The kinds of each position.
+fn positions(tokens: Vec<u32>) -> Vec<Vec<u32>> {
+    let mut positions = vec![];
+    let mut kinds = vec![];
+    for token in tokens {
+        if token != RESET && token & AND_NEXT != 0 {
+            kinds.push(token & !AND_NEXT);
+        } else {
+            kinds.push(token);
+            positions.push(kinds.split_off(0));
+        }
+    }
+    assert!(kinds.is_empty(), "a position is cut off");
+    positions
+}
+
+/// Reads each case of standard input and does something with its parse and positions.
 fn for_each_case<F>(what: F)
-    where F: Fn(Parse, Vec<u32>)
+    where F: Fn(Parse, Vec<Vec<u32>>)
 {
     let mut numbers = Numbers::from_stdin();
     while !numbers.at_end() {
@@ -217,17 +238,17 @@ fn for_each_case<F>(what: F)
         let grammar = InternalGrammar::from_file(&file);
         let parse = read_parse(&mut numbers, &grammar);
         let count = numbers.next();
-        what(parse, numbers.list(count));
+        what(parse, positions(numbers.list(count)));
     }
 }
 
-fn states(mut parse: Parse, tokens: Vec<u32>) {
+fn states(mut parse: Parse, positions: Vec<Vec<u32>>) {
     print_state(&parse);
-    for token in tokens {
-        if token == RESET {
+    for kinds in positions {
+        if kinds == [RESET] {
             parse.reset();
             print_state(&parse);
-        } else if let Some(taken) = take_token(&mut parse, token) {
+        } else if let Some(taken) = take(&mut parse, &kinds) {
             print!("{} {} {} {}", ACCEPTED, taken.most_items, taken.most_queued, taken.sums.len());
             for (origin, left_side, places) in taken.sums {
                 print!("  {} {} {}", origin, left_side, places.len());
@@ -243,9 +264,9 @@ fn states(mut parse: Parse, tokens: Vec<u32>) {
     }
 }
 
-fn told(mut parse: Parse, tokens: Vec<u32>) {
-    for token in tokens {
-        let answer = if take_token(&mut parse, token).is_some() { ACCEPTED } else { EXHAUSTED };
+fn told(mut parse: Parse, positions: Vec<Vec<u32>>) {
+    for kinds in positions {
+        let answer = if take(&mut parse, &kinds).is_some() { ACCEPTED } else { EXHAUSTED };
         println!("{} {}", answer, parse.forest.latest_leaf);
         if answer == ACCEPTED {
             println!("{}", parse.forest.sums.len());
@@ -265,7 +286,7 @@ fn told(mut parse: Parse, tokens: Vec<u32>) {
     }
 }
 
-fn latest(parse: Parse, _: Vec<u32>) {
+fn latest(parse: Parse, _: Vec<Vec<u32>>) {
     let items: Vec<_> = parse.medial_items().collect();
     print!("{}", items.len());
     for item in items {
@@ -276,11 +297,11 @@ fn latest(parse: Parse, _: Vec<u32>) {
 
 static PANIC_LINE: AtomicUsize = AtomicUsize::new(0);
 
-fn panics(mut parse: Parse, tokens: Vec<u32>) {
+fn panics(mut parse: Parse, positions: Vec<Vec<u32>>) {
     PANIC_LINE.store(0, Ordering::SeqCst);
     let _ = panic::catch_unwind(AssertUnwindSafe(|| {
-        for token in tokens {
-            take_token(&mut parse, token);
+        for kinds in positions {
+            take(&mut parse, &kinds);
         }
         parse.medial_items().count()
     }));
@@ -337,7 +358,7 @@ fn show(file: &str, tokens: &[String]) {
     show_state(&parse);
     for token in tokens {
         println!("token {}", token);
-        match take_token(&mut parse, token.parse().expect("a token's number")) {
+        match take(&mut parse, &[token.parse().expect("a token's number")]) {
             None => println!("  exhausted"),
             Some(taken) => {
                 for (origin, left_side, places) in taken.sums {

@@ -24,8 +24,8 @@ mod raw;
 use std::error::Error;
 use std::{fmt, str};
 
-/// Why a call was refused: document 01's numbers 1 to 12, and 14. A refused run has taken the tokens before the refused one, and a refused walk
-/// tells the nodes before; every other refused call leaves all as it was.
+/// Why a call was refused: document 01's numbers 1 to 12, and 14. A refused run has taken the tokens or positions before the refused one, and
+/// a refused walk tells the nodes before; every other refused call leaves all as it was.
 #[derive(Clone, Copy, Debug, PartialEq, Eq)]
 #[repr(u32)]
 pub enum Refusal {
@@ -72,8 +72,8 @@ impl Refusal {
             Refusal::Broken => "the grammar breaks a rule for grammars",
             Refusal::NoSets => "there is no room for a set",
             Refusal::IllFormed => "the state is not well formed in these words under this grammar",
-            Refusal::NoToken => "the grammar has no such token",
-            Refusal::NotPredicted => "no sentence goes on with this token",
+            Refusal::NoToken => "the grammar has no such token or position",
+            Refusal::NotPredicted => "no sentence goes on with this token or position",
             Refusal::ItemsFull => "there is no room for another item",
             Refusal::QueueFull => "there is no room for another queue entry",
             Refusal::SetsFull => "there is no room for another set",
@@ -238,8 +238,8 @@ pub struct State {
     pub used: usize,
 }
 
-/// What a run came to: how many tokens were taken, and the first refusal if there was one. The parse stands behind the tokens taken either
-/// way.
+/// What a run came to: how many tokens or positions were taken, and the first refusal if there was one. The parse stands behind those taken
+/// either way.
 #[derive(Clone, Copy, Debug, PartialEq, Eq)]
 pub struct Ran {
     pub taken: usize,
@@ -320,8 +320,37 @@ impl<'a> Parse<'a> {
         Ran { taken, answer: answer(number) }
     }
 
-    /// Where the tokens taken since the start are a sentence, the position of the start symbol's node: all their derivations. It stays good
-    /// until the next start.
+    /// Reads one position: a word that may be of several kinds of token, these strictly rising. Kinds that are not predicted here are passed
+    /// over, and it is refused [`Refusal::NotPredicted`] where all are; no kind, kinds that do not rise or one that is no token are
+    /// [`Refusal::NoToken`]. Refused, state and words are as they were.
+    ///
+    /// ```
+    /// # use brinesaddle::{Parse, Refusal, Words};
+    /// // S ::= 0 0 | 1 1
+    /// let grammar = [1, 0, 0, 0, 29, 0, 5, 0, 2, 0, 3, 0, 3, 0, 2, 0, 4, 0, 2, 0, 0, 0, 0, 0, 2, 0, 1, 0, 1];
+    /// let mut words = Words::largest();
+    /// let mut parse = Parse::start(&grammar, words.lend())?;
+    /// parse.kinds(&[0, 1])?; // it may be either, and what follows decides
+    /// parse.kinds(&[1])?;
+    /// assert!(parse.finished()?.is_some());
+    /// assert_eq!(parse.kinds(&[1, 0]), Err(Refusal::NoToken));
+    /// # Ok::<(), Box<dyn std::error::Error>>(())
+    /// ```
+    pub fn kinds(&mut self, kinds: &[u16]) -> Result<(), Refusal> {
+        answer(write_call!(brinesaddle_kinds, self, kinds.as_ptr(), kinds.len()))
+    }
+
+    /// Reads positions up to the first that is refused. They stand one behind the other, of each the number of its kinds and then the kinds:
+    /// `[2, 0, 1, 1, 0]` are the positions `[0, 1]` and `[0]`. One that is cut off is refused [`Refusal::NoToken`]. Those before the refused one
+    /// stay taken; with 1, 2 and 4 none was, and all is as it was.
+    pub fn run_kinds(&mut self, positions: &[u16]) -> Ran {
+        let mut taken = 0;
+        let number = write_call!(brinesaddle_run_kinds, self, positions.as_ptr(), positions.len(), &mut taken);
+        Ran { taken, answer: answer(number) }
+    }
+
+    /// Where the tokens taken since the start are a sentence, or one kind of each position taken, the position of the start symbol's node: all
+    /// derivations of all such sentences. It stays good until the next start.
     pub fn finished(&self) -> Result<Option<u32>, Refusal> {
         let (mut yes, mut handle) = (0, 0);
         answer(read_call!(brinesaddle_finished, self, &mut yes, &mut handle))?;

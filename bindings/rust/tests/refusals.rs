@@ -36,8 +36,8 @@ fn of_a_parse() {
     let mut words = Words::new(8, 8, 8, 40);
     let forged = Parse::resume(&GRAMMAR, words.lend(), State { set: 3, items: 9, used: 0 }).finished().unwrap_err();
     assert_eq!(text(forged), "the state is not well formed in these words under this grammar (refusal 4)");
-    assert_eq!(text(run(8, 8, 8, 40, &[2]).1), "the grammar has no such token (refusal 5)");
-    assert_eq!(text(run(8, 8, 8, 40, &[1]).1), "no sentence goes on with this token (refusal 6)");
+    assert_eq!(text(run(8, 8, 8, 40, &[2]).1), "the grammar has no such token or position (refusal 5)");
+    assert_eq!(text(run(8, 8, 8, 40, &[1]).1), "no sentence goes on with this token or position (refusal 6)");
     assert_eq!(text(run(2, 8, 8, 40, &[0]).1), "there is no room for another item (refusal 7)");
     assert_eq!(text(run(8, 8, 0, 40, &[0]).1), "there is no room for another queue entry (refusal 8)");
     assert_eq!(text(run(8, 1, 8, 40, &[0]).1), "there is no room for another set (refusal 9)");
@@ -62,6 +62,45 @@ fn a_store_that_is_full_keeps_the_tokens_before() {
     assert_eq!((parse.nodes(), parse.state().used), ([0x8000, 0x0102, 0x2202, 0x8001].as_slice(), 4));
     parse.restart().expect("a start empties the store");
     assert_eq!((parse.nodes().len(), parse.run(&[0]).answer, parse.finished()), (0, Ok(()), Ok(Some(1))));
+}
+
+/// The parse after so many calls, whole: its state, its finished node, its nodes and its latest set.
+fn whole(parse: &Parse) -> (State, Result<Option<u32>, Refusal>, Vec<u16>, Vec<u32>) {
+    (parse.state(), parse.finished(), parse.nodes().to_vec(), parse.latest_set().expect("it is well formed").to_vec())
+}
+
+#[test]
+fn a_position_passes_over_what_is_not_predicted() {
+    let (mut words, mut others) = (Words::new(64, 16, 16, 256), Words::new(64, 16, 16, 256));
+    let mut parse = Parse::start(&GRAMMAR, words.lend()).expect("there is room");
+    let mut tokens = Parse::start(&GRAMMAR, others.lend()).expect("there is room");
+    for token in [0, 1, 0] {
+        assert_eq!((parse.kinds(&[0, 1]), tokens.token(token)), (Ok(()), Ok(())));
+        assert_eq!(whole(&parse), whole(&tokens));
+    }
+    for kinds in [[].as_slice(), &[1, 0], &[1, 1], &[1, 2]] {
+        assert_eq!(parse.kinds(kinds), Err(Refusal::NoToken));
+    }
+    assert_eq!((parse.kinds(&[0]), whole(&parse)), (Err(Refusal::NotPredicted), whole(&tokens)));
+}
+
+#[test]
+fn a_run_of_positions_keeps_those_before_the_refused_one() {
+    let (mut words, mut others) = (Words::new(64, 16, 16, 256), Words::new(64, 16, 16, 256));
+    let mut parse = Parse::start(&GRAMMAR, words.lend()).expect("there is room");
+    let mut tokens = Parse::start(&GRAMMAR, others.lend()).expect("there is room");
+    assert_eq!(tokens.run(&[0, 1]).answer, Ok(()));
+    for (positions, refusal) in [
+        ([2, 0, 1, 1, 1, 0].as_slice(), Refusal::NoToken), // no kind
+        (&[2, 0, 1, 1, 1, 3, 0, 1], Refusal::NoToken),     // cut off
+        (&[2, 0, 1, 1, 1, 1, 1], Refusal::NotPredicted),
+    ] {
+        parse.restart().expect("there is room");
+        let ran = parse.run_kinds(positions);
+        assert_eq!((ran.taken, ran.answer), (2, Err(refusal)));
+        assert_eq!(whole(&parse), whole(&tokens));
+    }
+    assert_eq!((parse.run_kinds(&[]).taken, parse.run_kinds(&[1, 0]).answer, parse.finished()), (0, Ok(()), Ok(Some(10))));
 }
 
 /// Grammar A after "0": a plus could stand next, and the latest set has two items.

@@ -1,6 +1,6 @@
 -- The plain engine says yes exactly when the main engine takes all tokens and is finished.
 use mathlib.Core.Path.{_≡_, refl, sym, ap, subst, _∙_}
-use mathlib.Core.Bool.{Bool, true, false}
+use mathlib.Core.Bool.{Bool, true}
 use mathlib.Core.Logic.{_↔_}
 use mathlib.Core.List.{List, [], _∷_, _++_, append-assoc}
 use Prim.Native.Nat.{ℕ, suc, _+_, _-_, _≤_, _<_}
@@ -14,12 +14,16 @@ use Rattle.grammar.specs.Sentences.{Derives, Sentence, Begins}
 use Rattle.grammar.specs.File.{grammarOf}
 use Rattle.parse.specs.declared.State.{State}
 use Rattle.parse.specs.Words.{Words}
-use Rattle.demands.specs.Steps.{Ended, notPredicted}
+use Rattle.earley.specs.Positions.{Positions, plain}
+use Rattle.earley.proofs.Spelling.{plain-behind, plain-taken}
+use Rattle.demands.specs.Steps.{Ended}
 use Rattle.demands.specs.Calls.{FileFault, CallFault}
 use Rattle.demands.specs.Histories.{History}
-use Rattle.demands.specs.Sentences.{AcceptedOrNoRoom, Judged, RunJudged, FinishedJudged}
+use Rattle.demands.specs.Sentences.{AcceptedOrNoRoom, FinishedJudged}
+use Rattle.demands.specs.Tokens.{TokenJudged, TokensJudged, TokensFinished}
 use Rattle.demands.proofs.Lasting.{lasts, no-fault}
 use Rattle.demands.proofs.Telling.{run-tells, finished-tells}
+use Rattle.demands.proofs.Tokens.{judged-run, judged-finished}
 use Rattle.plain.specs.Calls.{Ordinary, Settles, Tables, Tells}
 use Rattle.agreement.specs.Compared.{Read, Plain}
 
@@ -47,7 +51,7 @@ derives-ordinary {g} (Derives.binary {u = u} {v = v} s n d e) = joined (derives-
             subst (λ (t : ℕ). t < g .tokens) (sym (getD-append-add u v k 0) ∙ ap (λ (j : ℕ). getD (u ++ v) j 0) e) (b .below k (omega (arith, length-append u v)))
 
 -- The plain engine says yes exactly on sentences, also where it refuses a token.
-pub plain-sentence : {file ts : List ℕ} {s : State} {w : Words} {us : List ℕ} {says : Bool} → History file s w us → Plain file ts says → (says ≡ true) ↔ Sentence (grammarOf file) ts
+pub plain-sentence : {file ts : List ℕ} {s : State} {w : Words} {a : Positions} {says : Bool} → History file s w a → Plain file ts says → (says ≡ true) ↔ Sentence (grammarOf file) ts
 plain-sentence {file} {ts} {says = says} h p = by-answer (p .tables) (p .tells) (p .words-enough) (p .few-enough)
   where
     refuted : {number : ℕ} → 0 < number → (Sentence (grammarOf file) ts → ⊥) → Tells (grammarOf file) ts number says → (says ≡ true) ↔ Sentence (grammarOf file) ts
@@ -70,12 +74,17 @@ plain-sentence {file} {ts} {says = says} h p = by-answer (p .tables) (p .tells) 
     by-answer (Tables.accepted m a settles) tells words few = by-grammar settles tells words few
 
 module _ {file : List ℕ} {s : State} {w : Words} {ts us : List ℕ} {ended : Ended} {finished : Bool} (main : Read file s w ts us ended finished) where
-  judged : RunJudged (grammarOf file) ts us (ended .outcome .number) (ended .taken)
-  judged = run-tells (main .runs) .sentences ts (main .history)
+  judged : TokensJudged (grammarOf file) ts us (ended .outcome .number) (ended .taken)
+  judged = judged-run ts us .0 (run-tells (main .runs) .sentences (plain ts) (main .history))
 
   -- Behind the run, finished is told of the tokens that were taken.
-  after : FinishedJudged (grammarOf file) (ts ++ take (ended .taken) us) (main .report) finished
-  after = finished-tells (main .finishes) .sentences (ts ++ take (ended .taken) us) (History.run (main .history) (main .runs))
+  after : TokensFinished (grammarOf file) (ts ++ take (ended .taken) us) (main .report) finished
+  after =
+      let read : plain ts ++ take (ended .taken) (plain us) ≡ plain (ts ++ take (ended .taken) us) =
+      ap (λ (b : Positions). plain ts ++ b) (plain-taken (ended .taken) us) ∙ plain-behind ts (take (ended .taken) us) in
+      judged-finished (ts ++ take (ended .taken) us) .0
+      (subst (λ (a : Positions). FinishedJudged (grammarOf file) a (main .report) finished) read
+      (finished-tells (main .finishes) .sentences (plain ts ++ take (ended .taken) (plain us)) (History.run (main .history) (main .runs))))
 
   all-taken : ended .taken ≡ length us → ts ++ take (ended .taken) us ≡ ts ++ us
   all-taken e = ap (λ (k : ℕ). ts ++ take k us) e ∙ ap (λ (l : List ℕ). ts ++ l) (take-length us)
@@ -97,7 +106,7 @@ module _ {file : List ℕ} {s : State} {w : Words} {ts us : List ℕ} {ended : E
           ordinary = subst (λ (x : ℕ). x < grammarOf file .tokens) (getD-append-add ts us (ended .taken) 0)
               (derives-ordinary d .below (length ts + ended .taken) (omega (arith, length-append ts us)))
 
-          judge : Judged (grammarOf file) (ts ++ take (ended .taken) us) t (ended .outcome .number)
+          judge : TokenJudged (grammarOf file) (ts ++ take (ended .taken) us) t (ended .outcome .number)
           judge = judged .at-refusal less ordinary
 
           front : (ts ++ take (ended .taken) us) ++ (t ∷ []) ≡ ts ++ take (suc (ended .taken)) us

@@ -8,15 +8,17 @@ use Rattle.grammar.specs.File.{grammarOf}
 use Rattle.parse.specs.declared.State.{State}
 use Rattle.parse.specs.Words.{Words}
 use Rattle.completion.specs.Pass.{itemsFull, queueFull, storeFull}
+use Rattle.earley.specs.Positions.{plain}
 use Rattle.demands.specs.Steps.{Ended, setsFull}
 use Rattle.demands.specs.Calls.{Runs, Finishes}
 use Rattle.demands.specs.Histories.{History}
 use Rattle.plain.specs.Calls.{Tables, Tells}
 
--- A parse over any buffers with any history, in which the tokens `ts` were accepted; then a run of `us`, which no room refusal met, and finished.
+-- A parse over any buffers with any history, in which the tokens `ts` were accepted, positions of one kind each; then a run of `us`, which no room refusal
+-- met, and finished.
 pub record Read (file : List ℕ) (s : State) (w : Words) (ts us : List ℕ) (ended : Ended) (finished : Bool) : Type 0 where
-  pub history : History file s w ts
-  pub runs : Runs file s w us ended
+  pub history : History file s w (plain ts)
+  pub runs : Runs file s w (plain us) ended
   pub items : ended .outcome .number ≡ itemsFull → ⊥
   pub queue : ended .outcome .number ≡ queueFull → ⊥
   pub sets : ended .outcome .number ≡ setsFull → ⊥

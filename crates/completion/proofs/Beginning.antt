@@ -1,4 +1,4 @@
--- The pass of a token on a well-formed state of an accepted grammar begins pending.
+-- The pass of a position on a well-formed state of an accepted grammar begins pending.
 use mathlib.Core.Path.{_≡_, sym, ap, subst}
 use mathlib.Core.List.{List}
 use Prim.Native.Nat.{ℕ, zero, suc, _+_, _-_, _*_, _/_, _≤_, _<_}
@@ -46,7 +46,7 @@ pub accepted-grounds : (g : Grammar) → Accepted g → (starts rows : List ℕ)
 accepted-grounds g accepted starts rows rowed =
     record { rules-fit = accepted-rules-fit g accepted; rowed = rowed; adjacent = accepted .adjacent; unary-below = accepted .unary-below }
 
--- The pass of a token begins with the items of the sets, an empty queue, and the used units.
+-- The pass of a position begins with the items of the sets, an empty queue, and the used units.
 abbrev pub beginning : State → Words → Pass
 beginning st v = passOver (record { stopped = 0; items = st .items; queued = 0; used = st .used }) (v .items) (v .queue) (v .store)
 

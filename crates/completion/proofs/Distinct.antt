@@ -1,6 +1,7 @@
 -- The items that a pass stores are distinct, each of a rule and of an origin up to the latest set.
 use mathlib.Core.Path.{_≡_, refl, sym, ap, _∙_, subst}
-use mathlib.Core.List.{List}
+use mathlib.Core.Bool.{true}
+use mathlib.Core.List.{List, _∷_, List·Memᴰ as Member, List·Memᴰ·head as here, List·Memᴰ·tail as later}
 use mathlib.Core.Logic.{_⊎_, inl, inr}
 use Prim.Native.Nat.{ℕ, suc, _+_, _*_, _≤_, _<_}
 use native.Mathlib.Decide.{decLt}
@@ -13,20 +14,23 @@ use Rattle.item.specs.Item.{Item, itemAt, originAt, ruleAt, keyOf}
 use Rattle.grammar.specs.Rules.{Rule, none, noRule}
 use Rattle.parse.specs.WellFormed.{leftOf, ruleOf}
 use Rattle.node.specs.Rows.{allOnes}
-use Rattle.completion.specs.Pass.{Pass, store, enqueue}
-use Rattle.completion.specs.Complete.{completeMedialItems, completeUnaryPredictions, completeBinaryPredictions, complete}
+use Rattle.node.specs.declared.Node.the-variants.{Evaluated}
+use Rattle.completion.specs.Pass.{Pass, store, enqueue, append}
+use Rattle.completion.specs.Complete.{predicted, completeMedialItems, completeUnaryPredictions, completeBinaryPredictions, complete}
+use Rattle.completion.specs.Scan.{scanAll}
 use Rattle.completion.specs.Sums.{greatest, summed, completeSum, rests, completeAllSums}
 use Rattle.completion.specs.inner.Ready.{IsSet, PassFits}
 use Rattle.completion.proofs.Waiting.{store-place}
 use Rattle.completion.proofs.Searching.{enqueue-count}
 use Rattle.completion.proofs.Turning.{summed-items, not-resting}
-use Rattle.completion.proofs.Entries.{entriesOf, entries-length, each-entry, then-cases, store-cases}
+use Rattle.completion.proofs.Entries.{entriesOf, entries-length, each-entry, append-count, then-cases, store-cases}
 use Rattle.completion.proofs.Onward.{Onward, onward-store, onward-enqueue}
 use Rattle.completion.proofs.Through.{Begins, medial-items-keep, unary-predictions-go, binary-predictions-go, complete-cases}
-use Rattle.completion.proofs.Charting.{Charts, Steady, stored-new, steady-store, steady-enqueue, steady-medial-items, greatest-charts}
-use Rattle.completion.proofs.Heaped.{Heaped}
+use Rattle.completion.proofs.Charting.{Charts, Steady, stored-new, steady-store, steady-enqueue, steady-medial-items, steady-complete, greatest-charts}
+use Rattle.completion.proofs.Heaped.{Heaped, heaped-append}
 use Rattle.completion.specs.inner.Pending.{Grounds, Pending}
-use Rattle.completion.proofs.Pending.{Lower, lower-down, lower-other, pending-steady, pending-sum, pop-lower, complete-lower, first-pending}
+use Rattle.completion.proofs.Pending.{Lower, lower-down, lower-other, pending-steady, pending-append, pending-complete, pending-sum, pop-lower, complete-lower}
+use Rattle.completion.proofs.Scanning.{Leaf, Scannable, first-once, rest-scannable, leaf-lower, scan-all-goes, pending-scan-all}
 use Rattle.completion.proofs.Once.{AllLower, heaped-all, greatest-lower}
 
 -- The items at the places from `from` on are of origin `k` and of rules that begin with `x` and have `Used`, no rule twice.
@@ -274,28 +278,107 @@ module _ {rs : List Rule} {starts rows : List ℕ} (grounds : Grounds rs starts 
           rule : (p : ℕ) → p < s .at .items → ruleAt (t .items) p ≡ ruleAt (s .items) p
           rule p h = ap (λ (i : Item). i .rule) (item p h)
 
+-- An item of the latest set, of a rule that begins with a token, none of the kinds that are left.
+record Scanned (rs : List Rule) (e : ℕ) (kinds : List ℕ) (i : Item) : Type 0 where
+  pub latest : i .origin ≡ e
+  pub leaf : Leaf rs (firstOf rs i)
+  pub done-with : Member (firstOf rs i) kinds → ⊥
+
+-- A pass on its way through a position, with the kinds that are left: its new items are fresh, and of kinds that are done with.
+record Scanning (rs : List Rule) (starts : List ℕ) (e old : ℕ) (kinds : List ℕ) (s : Pass) : Type 0 where
+  pub scannable : Scannable rs kinds
+  pub pending : Pending rs starts s
+  pub fresh : Fresh rs e old s
+  pub scanned : (p : ℕ) → old ≤ p → p < s .at .items → Scanned rs e kinds (itemAt (s .items) p)
+
+module _ {rs : List Rule} {starts rows : List ℕ} (grounds : Grounds rs starts rows) (e : ℕ) (set : IsSet starts e) (old : ℕ) where
+  scanned-skip : (t : ℕ) (kinds : List ℕ) (i : Item) → Scanned rs e (t ∷ kinds) i → Scanned rs e kinds i
+  scanned-skip t kinds i scanned = record { latest = scanned .latest; leaf = scanned .leaf; done-with = λ m. scanned .done-with (later m) }
+
+  scanning-skip : (t : ℕ) (kinds : List ℕ) (s : Pass) → Scanning rs starts e old (t ∷ kinds) s → Scanning rs starts e old kinds s
+  scanning-skip t kinds s scanning =
+      record {
+        scannable = rest-scannable (scanning .scannable);
+        pending = scanning .pending;
+        fresh = scanning .fresh;
+        scanned = λ p h has. scanned-skip t kinds (itemAt (s .items) p) (scanning .scanned p h has);
+      }
+
+  -- A kind that was not completed yet stores items that were not stored yet.
+  scanning-complete : (t : ℕ) (kinds : List ℕ) (s : Pass) → predicted rows e t ≡ true → Scanning rs starts e old (t ∷ kinds) s
+      → Scanning rs starts e old kinds (complete rs starts rows e t (s .at .used) (append (Evaluated t) s))
+  scanning-complete t kinds s on scanning =
+      by-items (complete rs starts rows e t (s .at .used) (append (Evaluated t) s))
+      (steady-complete rs starts s rows e t (s .at .used) set (append (Evaluated t) s) (written .steady) .onward)
+      (complete-of-pair rs starts rows s e t (s .at .used) set (append (Evaluated t) s) (written .steady))
+      (pending-complete (append (Evaluated t) s) (pending-append s (scanning .pending) (Evaluated t)) rows e t (s .at .used) set)
+      (fresh-complete grounds s (scanning .pending) e old e t (s .at .used) set (omega arith) unmet (append (Evaluated t) s) written (append-count (Evaluated t) s))
+    where
+      leaf : Leaf rs t
+      leaf = scanning .scannable .leaf t (here refl)
+
+      unmet : Unmet rs e old e t s
+      unmet =
+          record {
+            has = scanning .fresh .has;
+            origins = scanning .fresh .origins;
+            other = λ p h has origin first. scanning .scanned p h has .done-with (here first);
+            under = λ p h has i lower. leaf-lower (scanning .scanned p h has .leaf) (omega (arith, lower .up-to, scanning .scanned p h has .latest));
+            distinct = scanning .fresh .distinct;
+          }
+
+      written : Heaped rs starts (Lower rs e t) s (append (Evaluated t) s)
+      written =
+          heaped-append rs starts (Lower rs e t) s (Evaluated t) s
+          (record {
+            steady = pending-steady s (scanning .pending);
+            ordered = record {
+              heap = scanning .pending .heap;
+              each = record { each = λ i has. leaf-lower leaf (scanning .fresh .entry-origins .each i has) };
+            };
+          })
+
+      by-items : (u : Pass) → Onward s u → OfPair rs e t (λ r. Unit {0}) (append (Evaluated t) s .at .items) u → Pending rs starts u → Fresh rs e old u
+          → Scanning rs starts e old kinds u
+      by-items u onward of pending fresh =
+          record {
+            scannable = rest-scannable (scanning .scannable);
+            pending = pending;
+            fresh = fresh;
+            scanned = λ p h has.
+                elim (decLt p (s .at .items)) [
+                  | yes b ↦
+                      subst (Scanned rs e kinds) (sym (onward .same-items p b)) (scanned-skip t kinds (itemAt (s .items) p) (scanning .scanned p h b))
+                  | no b ↦
+                      (let from : append (Evaluated t) s .at .items ≤ p = omega (arith, append-count (Evaluated t) s) in
+                      record {
+                        latest = of .origins p from has;
+                        leaf = subst (Leaf rs) (sym (of .firsts p from has)) leaf;
+                        done-with = λ m. first-once (scanning .scannable) (subst (λ (x : ℕ). Member x kinds) (of .firsts p from has) m);
+                      })
+                ];
+          }
+
 module _ {rs : List Rule} {starts rows : List ℕ} (grounds : Grounds rs starts rows) (e : ℕ) where
-  -- The first completion of a pass stores fresh items.
-  pub fresh-first : (x link : ℕ) (s : Pass) → Pending rs starts s → s .at .queued ≡ 0 → IsSet starts e
-      → Fresh rs e (s .at .items) (complete rs starts rows e x link s)
-  fresh-first x link s pending nothing set =
-      fresh-complete grounds s pending e (s .at .items) e x link set (omega arith)
+  -- Scanning a position stores fresh items.
+  pub fresh-scan-all : (kinds : List ℕ) → Scannable rs kinds → (s : Pass) → Pending rs starts s → s .at .queued ≡ 0 → IsSet starts e
+      → Fresh rs e (s .at .items) (scanAll rs starts rows e kinds s)
+  fresh-scan-all kinds scannable s pending nothing set =
+      scan-all-goes rs starts rows e (Scanning rs starts e (s .at .items)) (scanning-skip grounds e set (s .at .items))
+      (scanning-complete grounds e set (s .at .items)) kinds s
       (record {
-        has = omega arith;
-        origins = λ p h there. absurd (omega arith);
-        other = λ p h there. absurd (omega arith);
-        under = λ p h there. absurd (omega arith);
-        distinct = λ p q h less there. absurd (omega arith);
-      })
-      s
-      (record {
-        steady = pending-steady s pending;
-        ordered = record {
-          heap = pending .heap;
-          each = record { each = λ i there. absurd (omega (arith, entries-length s (pending .sound .queued-fit))) };
+        scannable = scannable;
+        pending = pending;
+        fresh = record {
+          has = omega arith;
+          entry-origins = record { each = λ i there. absurd (omega (arith, entries-length s (pending .sound .queued-fit))) };
+          origins = λ p h there. absurd (omega arith);
+          behind = λ p h there. absurd (omega arith);
+          distinct = λ p q h less there. absurd (omega arith);
         };
+        scanned = λ p h there. absurd (omega arith);
       })
-      refl
+      .fresh
 
   module _ (old : ℕ) where
     -- A sum stores fresh items.
@@ -334,8 +417,8 @@ module _ {rs : List Rule} {starts rows : List ℕ} (grounds : Grounds rs starts 
         (length starts * length rs) s (record { pending = pending; fresh = fresh }) .fresh
 
   -- The items that a pass stores, behind those of the sets, are distinct and of origins up to the latest set.
-  pub pass-fresh : (x link : ℕ) (s : Pass) → Pending rs starts s → s .at .queued ≡ 0 → IsSet starts e
-      → Fresh rs e (s .at .items) (completeAllSums rs starts rows (complete rs starts rows e x link s))
-  pass-fresh x link s pending nothing set =
-      fresh-all-sums (s .at .items) (complete rs starts rows e x link s) (first-pending grounds s pending e x link set nothing)
-      (fresh-first x link s pending nothing set)
+  pub pass-fresh : (kinds : List ℕ) → Scannable rs kinds → (s : Pass) → Pending rs starts s → s .at .queued ≡ 0 → IsSet starts e
+      → Fresh rs e (s .at .items) (completeAllSums rs starts rows (scanAll rs starts rows e kinds s))
+  pass-fresh kinds scannable s pending nothing set =
+      fresh-all-sums (s .at .items) (scanAll rs starts rows e kinds s) (pending-scan-all grounds set kinds s pending)
+      (fresh-scan-all kinds scannable s pending nothing set)

@@ -100,6 +100,18 @@ pub record Heaped (rs : List Rule) (starts : List ℕ) (Q : Item → Type 0) (s 
   pub steady : Steady rs starts s t
   pub ordered : Ordered Q t
 
+-- What has `Q`, and so another, has that.
+pub heaped-more : (rs : List Rule) (starts : List ℕ) (s : Pass) (Q Q′ : Item → Type 0) → ((i : Item) → Q i → Q′ i) → (t : Pass)
+    → Heaped rs starts Q s t → Heaped rs starts Q′ s t
+heaped-more rs starts s Q Q′ more t heaped =
+    record {
+      steady = heaped .steady;
+      ordered = record {
+        heap = heaped .ordered .heap;
+        each = record { each = λ i there. more (itemAt (t .items) (entryAt (entriesOf t) i .place)) (heaped .ordered .each .each i there) };
+      };
+    }
+
 module _ (rs : List Rule) (starts : List ℕ) (Q : Item → Type 0) (s : Pass) where
   pub heaped-store : (k r link : ℕ) (t : Pass) → IsSet starts k → r < length rs → Heaped rs starts Q s t → Heaped rs starts Q s (store k r link t)
   heaped-store k r link t set rule heaped =

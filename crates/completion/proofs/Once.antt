@@ -15,7 +15,7 @@ use Rattle.binary_heap.specs.Entry.{entryKey}
 use Rattle.grammar.specs.Rules.{Rule, noRule}
 use Rattle.parse.specs.WellFormed.{leftOf}
 use Rattle.completion.specs.Pass.{Pass}
-use Rattle.completion.specs.Complete.{complete}
+use Rattle.completion.specs.Scan.{scanAll}
 use Rattle.completion.specs.Sums.{greatest, completeSum, rests}
 use Rattle.completion.specs.inner.Ready.{IsSet}
 use Rattle.completion.proofs.Turning.{not-resting}
@@ -23,7 +23,8 @@ use Rattle.completion.proofs.Entries.{entriesOf, each-entry}
 use Rattle.completion.proofs.Charting.{Charts, greatest-charts}
 use Rattle.completion.proofs.Heaped.{Heaped}
 use Rattle.completion.specs.inner.Pending.{Grounds, Pending}
-use Rattle.completion.proofs.Pending.{Lower, lower-down, lower-other, pending-steady, pending-sum, sum-lower, first-lower, first-pending}
+use Rattle.completion.proofs.Pending.{Lower, lower-down, lower-other, pending-steady, pending-sum, sum-lower}
+use Rattle.completion.proofs.Scanning.{Leaf, pending-scan-all, scan-all-lower}
 
 -- A set and a symbol.
 pub record Pair : Type 0 where
@@ -197,10 +198,10 @@ module _ {rs : List Rule} {starts rows : List ℕ} (grounds : Grounds rs starts 
       (heaped-all (sum-lower grounds s pending some)))
       (next some)))
 
-  -- The first pair of a pass, and those that its sums complete, fall strictly.
-  pub pass-falls : (n k x link : ℕ) (s : Pass) → Pending rs starts s → s .at .queued ≡ 0 → IsSet starts k
-      → Falling rs (record { set = k; symbol = x } ∷ pairsCompleted rs starts rows n (complete rs starts rows k x link s))
-  pass-falls n k x link s pending none set =
-      let after : Pending rs starts (complete rs starts rows k x link s) = first-pending grounds s pending k x link set none in
-      then (pairs-beneath n k x (complete rs starts rows k x link s) after (heaped-all (first-lower grounds s pending k x link set none)))
-      (pairs-fall n (complete rs starts rows k x link s) after)
+  -- The pair of the latest set and a token, and those that the sums complete behind the scanning of a position, fall strictly.
+  pub pass-falls : (n e : ℕ) (kinds : List ℕ) (s : Pass) → Pending rs starts s → s .at .queued ≡ 0 → IsSet starts e → (t : ℕ) → Leaf rs t
+      → Falling rs (record { set = e; symbol = t } ∷ pairsCompleted rs starts rows n (scanAll rs starts rows e kinds s))
+  pass-falls n e kinds s pending none set t leaf =
+      let after : Pending rs starts (scanAll rs starts rows e kinds s) = pending-scan-all grounds set kinds s pending in
+      then (pairs-beneath n e t (scanAll rs starts rows e kinds s) after (heaped-all (scan-all-lower rows s pending e set kinds none t leaf)))
+      (pairs-fall n (scanAll rs starts rows e kinds s) after)

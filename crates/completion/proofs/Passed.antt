@@ -12,18 +12,17 @@ use Rattle.grammar.specs.Accepted.{Accepted, maxRules}
 use Rattle.parse.specs.declared.State.{State}
 use Rattle.parse.specs.Words.{Words, maxItems, maxSets, maxQueued}
 use Rattle.parse.specs.WellFormed.{WellFormed, placing}
-use Rattle.node.specs.declared.Node.{Node}
-use Rattle.completion.specs.Pass.{Pass, append}
-use Rattle.completion.specs.Complete.{complete}
+use Rattle.completion.specs.Pass.{Pass}
+use Rattle.completion.specs.Scan.{scanAll}
 use Rattle.completion.specs.Sums.{completeAllSums}
 use Rattle.completion.specs.inner.Ready.{IsSet, Rowed, PassFits, Charted}
-use Rattle.completion.proofs.Entries.{append-count, append-queued}
-use Rattle.completion.proofs.Onward.{Onward, onward-trans, onward-append, SpareQueue}
+use Rattle.completion.proofs.Onward.{Onward, SpareQueue}
 use Rattle.completion.proofs.Charting.{Steady, steady-all-sums}
 use Rattle.completion.specs.inner.Pending.{Grounds, Pending}
-use Rattle.completion.proofs.Pending.{pending-append, first-lower, first-pending}
+use Rattle.completion.proofs.Pending.{pending-steady}
+use Rattle.completion.proofs.Scanning.{Scannable, steady-scan-all, pending-scan-all}
 use Rattle.completion.proofs.Distinct.{Fresh, pass-fresh}
-use Rattle.completion.proofs.Refusals.{Stops, Ends, on, stops-append, stops-complete, all-sums-end}
+use Rattle.completion.proofs.Refusals.{Stops, Ends, on, stops-scan-all, all-sums-end}
 use Rattle.completion.proofs.Beginning.{beginning, accepted-grounds, begins-pending, is-set}
 
 -- Pass `t` is what steps 2 and 3 made of pass `s`, with `e` the latest set.
@@ -38,15 +37,15 @@ pub record Passed (rs : List Rule) (starts : List ℕ) (e : ℕ) (s t : Pass) : 
   -- the queue is empty, or a push met full items or a full queue
   pub ends : Ends t
 
--- A pass from a pending one with an empty queue.
-pub pass-done : {rs : List Rule} {starts rows : List ℕ} → Grounds rs starts rows → (e x link : ℕ) → IsSet starts e → (s : Pass) → Pending rs starts s
-    → s .at .queued ≡ 0 → Stops s → Passed rs starts e s (completeAllSums rs starts rows (complete rs starts rows e x link s))
-pass-done {rs} {starts} {rows} grounds e x link set s pending nothing stops =
-    by-parts (completeAllSums rs starts rows (complete rs starts rows e x link s))
-    (steady-all-sums rs starts s rows (complete rs starts rows e x link s) (first-lower grounds s pending e x link set nothing .steady))
-    (pass-fresh grounds e x link s pending nothing set)
-    (all-sums-end grounds (complete rs starts rows e x link s) (first-pending grounds s pending e x link set nothing)
-    (stops-complete rs starts rows e x link s stops))
+-- A position's pass from a pending one with an empty queue.
+pub pass-done : {rs : List Rule} {starts rows : List ℕ} → Grounds rs starts rows → (e : ℕ) → IsSet starts e → (kinds : List ℕ) → Scannable rs kinds
+    → (s : Pass) → Pending rs starts s → s .at .queued ≡ 0 → Stops s
+    → Passed rs starts e s (completeAllSums rs starts rows (scanAll rs starts rows e kinds s))
+pass-done {rs} {starts} {rows} grounds e set kinds scannable s pending nothing stops =
+    by-parts (completeAllSums rs starts rows (scanAll rs starts rows e kinds s))
+    (steady-all-sums rs starts s rows (scanAll rs starts rows e kinds s) (steady-scan-all rs starts rows e s set kinds s (pending-steady s pending)))
+    (pass-fresh grounds e kinds scannable s pending nothing set)
+    (all-sums-end grounds (scanAll rs starts rows e kinds s) (pending-scan-all grounds set kinds s pending) (stops-scan-all rs starts rows e kinds s stops))
   where
     by-parts : (t : Pass) → Steady rs starts s t → Fresh rs e (s .at .items) t → Ends t → Passed rs starts e s t
     by-parts t steady fresh ends =
@@ -88,27 +87,13 @@ module _ {rs : List Rule} {starts : List ℕ} {e : ℕ} {s t : Pass} (passed : P
   pub passed-spare : ((i : ℕ) → itemWords * s .at .items ≤ i → getD (s .items) i 0 ≡ 0) → (i : ℕ) → itemWords * t .at .items ≤ i → getD (t .items) i 0 ≡ 0
   passed-spare spare i behind = passed .onward .same-spare i behind ∙ spare i (omega (arith, passed .onward .more-items))
 
--- A node written first.
-passed-written : {rs : List Rule} {starts : List ℕ} {e : ℕ} {s t : Pass} (n : Node) → Passed rs starts e (append n s) t → Passed rs starts e s t
-passed-written {s = s} n passed =
-    let same : append n s .at .items ≡ s .at .items = append-count n s in
-    record {
-      onward = onward-trans (onward-append n s) (passed .onward);
-      sound = passed .sound;
-      charted = passed .charted;
-      origins = λ p from there. passed .origins p (omega arith) there;
-      distinct = λ p q from less there. passed .distinct p q (omega arith) less there;
-      ends = passed .ends;
-    }
-
--- A token's pass on any well-formed state of an accepted grammar.
-pub token-passed : (g : Grammar) → Accepted g → {n : ℕ} {st : State} {v : Words} → WellFormed n (g .rules) st v
-    → length (v .items) ≤ itemWords * maxItems → length (v .queue) ≤ entryWords * maxQueued → Rowed (v .starts) (v .rows) → (x link : ℕ) (node : Node)
+-- A position's pass on any well-formed state of an accepted grammar.
+pub position-passed : (g : Grammar) → Accepted g → {n : ℕ} {st : State} {v : Words} → WellFormed n (g .rules) st v
+    → length (v .items) ≤ itemWords * maxItems → length (v .queue) ≤ entryWords * maxQueued → Rowed (v .starts) (v .rows) → (kinds : List ℕ)
+    → Scannable (g .rules) kinds
     → Passed (g .rules) (v .starts) (st .set) (beginning st v)
-    (completeAllSums (g .rules) (v .starts) (v .rows) (complete (g .rules) (v .starts) (v .rows) (st .set) x link (append node (beginning st v))))
-token-passed g accepted {n} {st} {v} well few-items few-entries rowed x link node =
-    let pending = begins-pending well (accepted .few-rules) few-items few-entries rowed in
-    passed-written node
-    (pass-done (accepted-grounds g accepted (v .starts) (v .rows) rowed) (st .set) x link
-    (is-set well (accepted .few-rules) few-items few-entries rowed (st .set) (omega arith)) (append node (beginning st v))
-    (pending-append (beginning st v) pending node) (append-queued node (beginning st v)) (stops-append (beginning st v) node (on refl)))
+    (completeAllSums (g .rules) (v .starts) (v .rows) (scanAll (g .rules) (v .starts) (v .rows) (st .set) kinds (beginning st v)))
+position-passed g accepted {n} {st} {v} well few-items few-entries rowed kinds scannable =
+    pass-done (accepted-grounds g accepted (v .starts) (v .rows) rowed) (st .set)
+    (is-set well (accepted .few-rules) few-items few-entries rowed (st .set) (omega arith)) kinds scannable (beginning st v)
+    (begins-pending well (accepted .few-rules) few-items few-entries rowed) refl (on refl)

@@ -116,12 +116,19 @@ module _ {rs : List Rule} {starts : List ℕ} (s : Pass) (pending : Pending rs s
         heap = heaped .ordered .heap;
       }
 
--- A node written leaves a pending pass pending.
-pub pending-append : {rs : List Rule} {starts : List ℕ} (s : Pass) → Pending rs starts s → (n : Node) → Pending rs starts (append n s)
-pending-append {rs} {starts} s pending n =
-    pending-onward s pending (append n s)
-    (heaped-append rs starts (λ i. Unit {0}) s n s
-    (record { steady = pending-steady s pending; ordered = record { heap = pending .heap; each = record { each = λ i there. tt } } }))
+  pending-heaped : Heaped rs starts (λ i. Unit {0}) s s
+  pending-heaped =
+      record { steady = pending-steady; ordered = record { heap = pending .heap; each = record { each = λ i there. tt } } }
+
+  -- A node written leaves a pending pass pending,
+  pub pending-append : (n : Node) → Pending rs starts (append n s)
+  pending-append n = pending-onward (append n s) (heaped-append rs starts (λ i. Unit {0}) s n s pending-heaped)
+
+  -- and so does a pair completed.
+  pub pending-complete : (rows : List ℕ) (k x link : ℕ) → IsSet starts k → Pending rs starts (complete rs starts rows k x link s)
+  pending-complete rows k x link set =
+      pending-onward (complete rs starts rows k x link s)
+      (heaped-complete rs starts (λ i. Unit {0}) s rows k x link set (pending .charted) (λ p inside second. tt) (λ r begins one. tt) s pending-heaped)
 
 module _ {rs : List Rule} {starts rows : List ℕ} (grounds : Grounds rs starts rows) (s : Pass) (pending : Pending rs starts s) (k x link : ℕ)
     (set : IsSet starts k) where
@@ -133,21 +140,6 @@ module _ {rs : List Rule} {starts rows : List ℕ} (grounds : Grounds rs starts 
       lower-earlier (grounds .rules-fit .few-rules)
       (pending .charted .rules p (omega (arith, inside .up-to, pending .charted .starts-fit (k + 1)))) (pending .earlier k p (inside .from) (inside .up-to)))
       (λ r begins one. lower-unary grounds begins one)
-
-  -- The first completion of a pass, from an empty queue.
-  pub first-lower : s .at .queued ≡ 0 → Heaped rs starts (Lower rs k x) s (complete rs starts rows k x link s)
-  first-lower none =
-      complete-lower s
-      (record {
-        steady = pending-steady s pending;
-        ordered = record {
-          heap = pending .heap;
-          each = record { each = λ i there. absurd (omega (arith, entries-length s (pending .sound .queued-fit))) };
-        };
-      })
-
-  pub first-pending : s .at .queued ≡ 0 → Pending rs starts (complete rs starts rows k x link s)
-  first-pending none = pending-onward s pending (complete rs starts rows k x link s) (first-lower none)
 
 module _ {rs : List Rule} {starts rows : List ℕ} (grounds : Grounds rs starts rows) (s : Pass) (pending : Pending rs starts s)
     (some : 0 < s .at .queued) where

@@ -15,9 +15,10 @@ use Rattle.parse.specs.WellFormed.{leftOf}
 use Rattle.binary_heap.specs.Sift.{entryAt}
 use Rattle.node.specs.Rows.{allOnes}
 use Rattle.node.specs.declared.Node.{Node}
-use Rattle.node.specs.declared.Node.the-variants.{Sum}
+use Rattle.node.specs.declared.Node.the-variants.{Evaluated, Sum}
 use Rattle.completion.specs.Pass.{Pass, store, enqueue, append, itemsFull, queueFull, storeFull}
 use Rattle.completion.specs.Complete.{completeMedial, completeMedialItems, completeUnary, completeUnaryPredictions, completeBinary, completeBinaryPredictions, complete}
+use Rattle.completion.specs.Scan.{scanAll}
 use Rattle.completion.specs.Sums.{greatest, summands, productNode, sumEnds, popGreatest, nextSummand, popSum, summed, completeSum, rests, completeAllSums}
 use Rattle.completion.proofs.Pushes.{stays, store-done, store-refused, enqueue-done, enqueue-refused}
 use Rattle.completion.proofs.Waiting.{unary-stopped, binary-stopped}
@@ -26,6 +27,7 @@ use Rattle.completion.proofs.Through.{medial-items-keep, unary-predicti
 use Rattle.completion.proofs.Turning.{not-resting, rests-stopped, rest-empty}
 use Rattle.completion.specs.inner.Pending.{Grounds, Pending}
 use Rattle.completion.proofs.Pending.{all-sums-rest}
+use Rattle.completion.proofs.Scanning.{scan-all-keeps}
 
 -- How a step left a pass: going on, or refused by full items, by a full queue, or by a full store.
 pub data Stops (s : Pass) : Type 0 where
@@ -159,6 +161,12 @@ module _ (rs : List Rule) (starts rows : List ℕ) where
           ap (λ (t : Pass). completeBinaryPredictions rs rows k x link (completeUnaryPredictions rs rows k x link t)) medial-items-stopped
           ∙ ap (completeBinaryPredictions rs rows k x link) unary-predictions-stopped
           ∙ binary-predictions-stopped)
+
+  -- Scanning a position leaves a pass going on, or refused by what is full.
+  pub stops-scan-all : (e : ℕ) (kinds : List ℕ) (s : Pass) → Stops s → Stops (scanAll rs starts rows e kinds s)
+  stops-scan-all e kinds =
+      scan-all-keeps rs starts rows e kinds Stops
+      (λ t s m on stops. stops-complete e t (s .at .used) (append (Evaluated t) s) (stops-append s (Evaluated t) stops))
 
   -- No sum follows a refusal.
   pub all-sums-stopped : (s : Pass) → (s .at .stopped ≡ 0 → ⊥) → completeAllSums rs starts rows s ≡ s

@@ -2,6 +2,7 @@
 pub mod medial;
 pub mod pass;
 pub mod predictions;
+pub mod scan;
 pub mod sums;
 
 ghost use mathlib.Core.Path.{_≡_};

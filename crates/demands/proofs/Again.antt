@@ -10,6 +10,7 @@ use Rattle.parse.specs.declared.State.{State}
 use Rattle.parse.specs.Words.{Words, setRoom, within, beyond, behind}
 use Rattle.parse.specs.WellFormed.{WellFormed}
 use Rattle.parse.proofs.Capacities.{SameSizes, sets-room, within-new}
+use Rattle.earley.specs.Positions.{Positions}
 use Rattle.demands.specs.Steps.{Outcome, started, stepped}
 use Rattle.demands.specs.Calls.{Sound, Ready, asItWas, inPlace, Starts, Takes}
 use Rattle.demands.specs.Histories.{History}
@@ -18,9 +19,9 @@ use Rattle.demands.proofs.Starting.{started-sizes, started-well}
 use Rattle.demands.proofs.Refusing.{step-sizes, step-well}
 
 -- A history behind which a call may follow.
-pub record Reading (file : List ℕ) (g : Grammar) (table : List (List ℕ)) (s : State) (w : Words) (ts : List ℕ) : Type 0 where
+pub record Reading (file : List ℕ) (g : Grammar) (table : List (List ℕ)) (s : State) (w : Words) (a : Positions) : Type 0 where
   pub ready : Ready file s w g table
-  pub history : History file s w ts
+  pub history : History file s w a
 
 module _ {file : List ℕ} {g : Grammar} {table : List (List ℕ)} where
   -- Well-formed words in the place of those within the capacities.
@@ -37,15 +38,15 @@ module _ {file : List ℕ} {g : Grammar} {table : List (List ℕ)} where
       ready-in w sound (omega arith) (started-sizes (sound .checked .accepted) (sound .predicts) (within w) sets)
       (started-well (sound .checked .accepted) (sound .predicts) (within w) sets)
 
-  -- and after a token.
-  pub stepped-ready : (s : State) (w : Words) (t : ℕ) → Ready file s w g table
-      → Ready file (stepped g table s (within w) t .state) (inPlace w (stepped g table s (within w) t) .words) g table
-  stepped-ready s w t ready =
+  -- and after a position.
+  pub stepped-ready : (s : State) (w : Words) (kinds : List ℕ) → Ready file s w g table
+      → Ready file (stepped g table s (within w) kinds .state) (inPlace w (stepped g table s (within w) kinds) .words) g table
+  stepped-ready s w kinds ready =
       let some : 0 < setRoom w = omega (arith, ready .well-formed .set-fits, sets-room w) in
       let cut : Cut (within w) = within-cut w some in
       ready-in w (ready .sound) (omega arith)
-      (step-sizes (ready .sound .checked .accepted) (ready .well-formed) cut t (ready .sound .predicts))
-      (step-well (ready .sound .checked .accepted) (ready .well-formed) cut t (ready .sound .predicts))
+      (step-sizes (ready .sound .checked .accepted) (ready .well-formed) cut kinds (ready .sound .predicts))
+      (step-well (ready .sound .checked .accepted) (ready .well-formed) cut kinds (ready .sound .predicts))
 
   -- One that starts, over any state and words,
   pub reading-start : {s′ : State} {w′ : Words} (s : State) (w : Words) → Sound file g table → 0 < setRoom w → inPlace w (started g table (within w)) ≡ asItWas 0 s′ w′
@@ -56,11 +57,11 @@ module _ {file : List ℕ} {g : Grammar} {table : List (List ℕ)} where
   }
 
   -- and one that goes on.
-  pub reading-on : {s s′ : State} {w w′ : Words} {ts : List ℕ} → Reading file g table s w ts → (t : ℕ) → inPlace w (stepped g table s (within w) t) ≡ asItWas 0 s′ w′
-      → Reading file g table s′ w′ (ts ++ (t ∷ []))
-  reading-on {s} {w = w} {ts = ts} h t e = record {
-    ready = subst (λ (o : Outcome). Ready file (o .state) (o .words) g table) e (stepped-ready s w t (h .ready));
+  pub reading-on : {s s′ : State} {w w′ : Words} {a : Positions} → Reading file g table s w a → (kinds : List ℕ) → inPlace w (stepped g table s (within w) kinds) ≡ asItWas 0 s′ w′
+      → Reading file g table s′ w′ (a ++ (kinds ∷ []))
+  reading-on {s} {w = w} {a = a} h kinds e = record {
+    ready = subst (λ (o : Outcome). Ready file (o .state) (o .words) g table) e (stepped-ready s w kinds (h .ready));
     history =
-        subst (λ (o : Outcome). History file (o .state) (o .words) (ts ++ (t ∷ []))) e
+        subst (λ (o : Outcome). History file (o .state) (o .words) (a ++ (kinds ∷ []))) e
         (History.accepted (h .history) (Takes.done (h .ready)) (ap (λ (o : Outcome). o .number) e));
   }

@@ -12,6 +12,7 @@ use Rattle.prediction.proofs.Reaching.{predicts-unique}
 use Rattle.parse.specs.declared.State.{State}
 use Rattle.parse.specs.Words.{Words, setRoom, within}
 use Rattle.parse.specs.WellFormed.{WellFormed}
+use Rattle.earley.specs.Positions.{Positions}
 use Rattle.demands.specs.Steps.{Outcome, Ended, started, stepped, ran}
 use Rattle.demands.specs.Calls.{Checked, Sound, Formed, Ready, FileFault, StartFault, CallFault, asItWas, inPlace, inPlaceEnded, Starts, Takes, Runs, Finishes, Reports}
 
@@ -77,21 +78,21 @@ module _ {file : List ℕ} where
     starts-agree (Starts.done sound room) (Starts.done sound′ room′) =
         sound-same (λ (g : Grammar) (table : List (List ℕ)). inPlace w (started g table (within w))) sound sound′
 
-    -- of a token,
-    pub takes-agree : {t : ℕ} {o o′ : Outcome} → Takes file s w t o → Takes file s w t o′ → o ≡ o′
+    -- of a position,
+    pub takes-agree : {kinds : List ℕ} {o o′ : Outcome} → Takes file s w kinds o → Takes file s w kinds o′ → o ≡ o′
     takes-agree (Takes.refused f) (Takes.refused f′) = ap (λ (n : ℕ). asItWas n s w) (call-number f f′)
     takes-agree (Takes.refused f) (Takes.done ready) = absurd (not-ready ready f)
     takes-agree (Takes.done ready) (Takes.refused f) = absurd (not-ready ready f)
-    takes-agree {t} (Takes.done ready) (Takes.done ready′) =
-        sound-same (λ (g : Grammar) (table : List (List ℕ)). inPlace w (stepped g table s (within w) t)) (ready .sound) (ready′ .sound)
+    takes-agree {kinds} (Takes.done ready) (Takes.done ready′) =
+        sound-same (λ (g : Grammar) (table : List (List ℕ)). inPlace w (stepped g table s (within w) kinds)) (ready .sound) (ready′ .sound)
 
     -- of a run,
-    pub runs-agree : {ts : List ℕ} {e e′ : Ended} → Runs file s w ts e → Runs file s w ts e′ → e ≡ e′
+    pub runs-agree : {a : Positions} {e e′ : Ended} → Runs file s w a e → Runs file s w a e′ → e ≡ e′
     runs-agree (Runs.refused f) (Runs.refused f′) = ap (λ (n : ℕ). record { outcome = asItWas n s w; taken = 0 }) (call-number f f′)
     runs-agree (Runs.refused f) (Runs.done ready) = absurd (not-ready ready f)
     runs-agree (Runs.done ready) (Runs.refused f) = absurd (not-ready ready f)
-    runs-agree {ts} (Runs.done ready) (Runs.done ready′) =
-        sound-same (λ (g : Grammar) (table : List (List ℕ)). inPlaceEnded w (ran g table s (within w) ts)) (ready .sound) (ready′ .sound)
+    runs-agree {a} (Runs.done ready) (Runs.done ready′) =
+        sound-same (λ (g : Grammar) (table : List (List ℕ)). inPlaceEnded w (ran g table s (within w) a)) (ready .sound) (ready′ .sound)
 
     -- of finished,
     pub finishes-agree : {n n′ handle handle′ : ℕ} {yes yes′ : Bool} → Finishes file s w n yes handle → Finishes file s w n′ yes′ handle′
@@ -108,7 +109,7 @@ module _ {file : List ℕ} where
     reports-agree (Reports.done formed) (Reports.refused f) = absurd (not-formed formed f)
     reports-agree (Reports.done formed) (Reports.done formed′) = (refl, refl)
 
-    -- Refusing always is shut out: where the file is accepted and the state well formed, a token gets what the steps give.
-    pub never-always-refused : {g : Grammar} {table : List (List ℕ)} {t : ℕ} {o : Outcome} → Ready file s w g table → Takes file s w t o
-        → o ≡ inPlace w (stepped g table s (within w) t)
+    -- Refusing always is shut out: where the file is accepted and the state well formed, a position gets what the steps give.
+    pub never-always-refused : {g : Grammar} {table : List (List ℕ)} {kinds : List ℕ} {o : Outcome} → Ready file s w g table → Takes file s w kinds o
+        → o ≡ inPlace w (stepped g table s (within w) kinds)
     never-always-refused ready takes = takes-agree takes (Takes.done ready)

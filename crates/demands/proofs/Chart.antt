@@ -1,6 +1,6 @@
 -- The words of a parse as a chart: sets of items and rows of symbols.
 use mathlib.Core.Path.{_≡_}
-use mathlib.Core.List.{[], _∷_}
+use mathlib.Core.List.{List}
 use Prim.Native.Nat.{ℕ, _≤_, _<_}
 use Rattle.laws.specs.Bits.{Holds, rowOf}
 use Rattle.bits.specs.Width.{rowWords}
@@ -35,8 +35,8 @@ pub record New (s : State) (pass : Pass) (o r : ℕ) : Type 0 where
 
 -- What a completion pass that was not refused has done: it has completed what the rules of completion give, and nothing else, and the
 -- items with a second symbol that it stored are those that completed pairs call for.
-pub record Completed (g : Grammar) (s : State) (v : Words) (t : ℕ) : Type 1 where
+pub record Completed (g : Grammar) (s : State) (v : Words) (kinds : List ℕ) : Type 1 where
   pub done : ℕ → ℕ → Type 0
-  pub pass : steps.Pass g (chartOf s v) (t ∷ []) done
-  pub stored : (o r : ℕ) → Stored g (chartOf s v) done o r → New s (completed g s v t) o r
-  pub called : (o r : ℕ) → New s (completed g s v t) o r → (ruleAtG g r .second ≡ none → ⊥) → Stored g (chartOf s v) done o r
+  pub pass : steps.Pass g (chartOf s v) kinds done
+  pub stored : (o r : ℕ) → Stored g (chartOf s v) done o r → New s (completed g s v kinds) o r
+  pub called : (o r : ℕ) → New s (completed g s v kinds) o r → (ruleAtG g r .second ≡ none → ⊥) → Stored g (chartOf s v) done o r

@@ -1,13 +1,15 @@
 -- THE PASS IS EXACT: a completion pass that is not refused completes what the rules of completion give, and nothing else.
 use mathlib.Core.Path.{_≡_, refl, sym, ap, _∙_, subst, subst₂}
 use mathlib.Core.Bool.{true, false}
-use mathlib.Core.List.{List, [], _∷_, List·Memᴰ·head as here, List·Memᴰ·eq-of-singleton as only}
+use mathlib.Core.Logic.{_⊎_, inl, inr, ⊎-elim}
+use mathlib.Core.List.{List, [], _∷_, List·Memᴰ as Member, List·Memᴰ·head as here, List·Memᴰ·tail as behind}
+use mathlib.Core.List.{List·Memᴰ·not-nil as no-member, List·Memᴰ·cases-cons as first-or-later}
 use Prim.Native.Nat.{ℕ, zero, suc, _+_, _*_, _<_}
 use native.Mathlib.Omega.{arith}
 use lib.ListN.{length}
 use Rattle.laws.specs.Bits.{Holds, rowOf}
 use Rattle.laws.specs.Turns.{until}
-use Rattle.laws.proofs.Bits.{holds-true, true-holds}
+use Rattle.laws.proofs.Bits.{holds-true, holds-false, true-holds}
 use Rattle.laws.proofs.Tests.{either-way}
 use Rattle.laws.proofs.Turns.{until-rests, until-turns}
 use Rattle.bits.specs.Width.{rowWords}
@@ -20,23 +22,26 @@ use Rattle.parse.specs.WellFormed.{WellFormed, leftOf}
 use Rattle.node.specs.declared.Node.the-variants.{Sum, Evaluated}
 use Rattle.completion.specs.Pass.{Pass, append}
 use Rattle.completion.specs.Complete.{predicted, complete}
+use Rattle.completion.specs.Scan.{scan, scanAll}
 use Rattle.completion.specs.Sums.{greatest, summands, summed, completeSum, rests, completeAllSums}
 use Rattle.completion.specs.inner.Ready.{IsSet, Charted}
-use Rattle.completion.proofs.Entries.{append-queued, entries-length, each-entry}
+use Rattle.completion.proofs.Entries.{entries-length, each-entry}
 use Rattle.completion.proofs.Turning.{not-resting, rest-empty, summed-items, summed-words}
 use Rattle.completion.proofs.Through.{Begins}
 use Rattle.completion.proofs.Charting.{steady-refl, greatest-charts}
 use Rattle.completion.proofs.Heaped.{heaped-append, heaped-pop}
-use Rattle.completion.specs.inner.Pending.{Grounds, Pending}
-use Rattle.completion.proofs.Pending.{pending-append, first-pending, all-sums-rest}
+use Rattle.completion.specs.inner.Pending.{Pending}
+use Rattle.completion.proofs.Pending.{all-sums-rest}
+use Rattle.completion.proofs.Scanning.{pending-scan-all}
 use Rattle.completion.proofs.Beginning.{beginning, accepted-grounds, begins-pending, is-set}
 use Rattle.earley.proofs.Steps as steps
 use Rattle.earley.proofs.Next.{Stored}
+use Rattle.demands.specs.Positions.{isPosition}
 use Rattle.demands.specs.Steps.{scanned, completed}
 use Rattle.demands.proofs.Chart.{Has, chartOf, New, Completed}
 use Rattle.demands.proofs.Cut.{Cut}
-use Rattle.demands.proofs.Growing.{Step, new-grows}
-use Rattle.demands.proofs.Following.{OfPair, Calls, Met, Follows, Closed, Kept, kept-sound, kept-append, follows-on, met-grows, calls-more, complete-step}
+use Rattle.demands.proofs.Growing.{Step, new-grows, grows-append, before-append}
+use Rattle.demands.proofs.Following.{OfPair, Calls, Met, Follows, Closed, Kept, kept-sound, kept-append, kept-more, follows-on, met-grows, met-more, calls-more, complete-step}
 use Rattle.demands.proofs.Popping.{summed-met, met-empty}
 
 -- `done`, and the pair of set `k` and symbol `x`.
@@ -44,10 +49,10 @@ pub data With (done : ℕ → ℕ → Type 0) (k x : ℕ) : ℕ → ℕ → Type
   this : With done k x k x
   before : {l y : ℕ} → done l y → With done k x l y
 
-module _ (g : Grammar) (st : State) (v : Words) (t : ℕ) (charted : Charted (g .rules) (v .starts) (beginning st v)) where
+module _ (g : Grammar) (st : State) (v : Words) (kinds : List ℕ) (charted : Charted (g .rules) (v .starts) (beginning st v)) where
   -- What the rules of completion give,
   abbrev Gives : ℕ → ℕ → Type 0
-  Gives = steps.Done g (chartOf st v) (t ∷ [])
+  Gives = steps.Done g (chartOf st v) kinds
 
   -- is closed under what the code does.
   gives-closed : Closed (g .rules) st v Gives
@@ -67,11 +72,16 @@ module _ (g : Grammar) (st : State) (v : Words) (t : ℕ) (charted : Charted (g 
             (holds-true (rowOf rowWords (v .rows) k) (ruleAtG g r .left) (begins .left-predicted));
       }
 
-  -- A pass on its way: what was completed is right, and unless the pass was refused, what follows from it was completed, is queued or is stored.
-  pub record SoFar (s : Pass) : Type 1 where
+  -- Of the kinds of the position that the latest row has, each was completed with the latest set, or is left to scan.
+  abbrev Scanned : List ℕ → (ℕ → ℕ → Type 0) → Type 0
+  Scanned left done = (t : ℕ) → Member t kinds → Holds (rowOf rowWords (v .rows) (st .set)) t → Member t left ⊎ done (st .set) t
+
+  -- A pass on its way, with the kinds `left` to scan: what was completed is right, and unless the pass was refused, what follows from it was completed, is
+  -- queued or is stored.
+  pub record SoFar (left : List ℕ) (s : Pass) : Type 1 where
     pub done : ℕ → ℕ → Type 0
     pub right : (k x : ℕ) → done k x → Gives k x
-    pub scanned : done (st .set) t
+    pub scanned : Scanned left done
     pub kept : Kept (g .rules) st v Gives done s
     pub follows : s .at .stopped ≡ 0 → (k x : ℕ) → done k x → predicted (v .rows) k x ≡ true → Follows (g .rules) st v done s k x
 
@@ -92,7 +102,7 @@ module _ (g : Grammar) (st : State) (v : Words) (t : ℕ) (charted : Charted (g 
 
   -- One pair more is completed: what followed from those before it follows still, and what follows from it does.
   module _ (done : ℕ → ℕ → Type 0) (k x : ℕ) (set : IsSet (v .starts) k) (right : (l y : ℕ) → With done k x l y → Gives l y)
-      (scanned : With done k x (st .set) t) (link : ℕ) (s : Pass) (kept : Kept (g .rules) st v Gives (With done k x) s)
+      {left : List ℕ} (scanned : Scanned left (With done k x)) (link : ℕ) (s : Pass) (kept : Kept (g .rules) st v Gives (With done k x) s)
       (follows : s .at .stopped ≡ 0 → (l y : ℕ) → done l y → predicted (v .rows) l y ≡ true → Follows (g .rules) st v (With done k x) s l y) where
     abbrev after : Pass
     after = complete (g .rules) (v .starts) (v .rows) k x link s
@@ -108,22 +118,69 @@ module _ (g : Grammar) (st : State) (v : Words) (t : ℕ) (charted : Charted (g 
         follows-on (g .rules) st v (λ o r. met-grows o r (kept-sound (g .rules) st v kept) (pair-step .grows)) (λ o r. new-grows (pair-step .grows))
         (follows (pair-step .before on) l y d there)
 
-    pair-so-far : SoFar after
+    pair-so-far : SoFar left after
     pair-so-far = record { done = With done k x; right = right; scanned = scanned; kept = pair-step .kept; follows = pair-follows }
 
-  -- The first pair: the latest set and the token, which is predicted there.
-  first-so-far : Pending (g .rules) (v .starts) (beginning st v) → IsSet (v .starts) (st .set) → Holds (rowOf rowWords (v .rows) (st .set)) t
-      → SoFar (complete (g .rules) (v .starts) (v .rows) (st .set) t (st .used) (scanned st v t))
-  first-so-far pending set there =
-      pair-so-far (λ l y. ⊥) (st .set) t set right this (st .used) (scanned st v t)
-      (kept-append (g .rules) st v (Evaluated t) (beginning st v) (begins-kept pending)) (λ on l y never. absurd never)
-    where
-      right : (l y : ℕ) → With (λ l y. ⊥) (st .set) t l y → Gives l y
-      right l y this = steps.Done.scanned (here refl) there
-      right l y (before never) = absurd never
+  -- Before the first kind nothing was completed.
+  first-so-far : Pending (g .rules) (v .starts) (beginning st v) → SoFar kinds (beginning st v)
+  first-so-far pending = record {
+    done = λ l y. ⊥;
+    right = λ l y never. absurd never;
+    scanned = λ t of there. inl of;
+    kept = begins-kept pending;
+    follows = λ on l y never. absurd never;
+  }
+
+  -- One kind: if it is predicted its pair with the latest set comes to those that were completed; if not it is passed over.
+  module _ (set : IsSet (v .starts) (st .set)) (t : ℕ) (left : List ℕ) (s : Pass) (so-far : SoFar (t ∷ left) s) where
+    abbrev with-kind : ℕ → ℕ → Type 0
+    with-kind = With (so-far .done) (st .set) t
+
+    kind-scanned : Scanned left with-kind
+    kind-scanned u of there =
+        ⊎-elim (λ m. ⊎-elim (λ is. inr (subst (with-kind (st .set)) (sym is) this)) inl (first-or-later m)) (λ d. inr (before d))
+        (so-far .scanned u of there)
+
+    kind-met : (o r : ℕ) → Met (g .rules) (so-far .done) s o r → Met (g .rules) with-kind (append (Evaluated t) s) o r
+    kind-met o r met = met-more (λ l y d. before d) (met-grows o r (kept-sound (g .rules) st v (so-far .kept)) (grows-append (Evaluated t) s) met)
+
+    kind-so-far : Member t kinds → predicted (v .rows) (st .set) t ≡ true
+        → SoFar left (complete (g .rules) (v .starts) (v .rows) (st .set) t (s .at .used) (append (Evaluated t) s))
+    kind-so-far of there =
+        pair-so-far (so-far .done) (st .set) t set right kind-scanned (s .at .used) (append (Evaluated t) s)
+        (kept-append (g .rules) st v (Evaluated t) s (kept-more (g .rules) st v (λ l y d. before d) (so-far .kept)))
+        (λ on l y d row.
+        follows-on (g .rules) st v kind-met (λ o r. new-grows (grows-append (Evaluated t) s)) (so-far .follows (before-append (Evaluated t) s on) l y d row))
+      where
+        right : (l y : ℕ) → with-kind l y → Gives l y
+        right l y this = steps.Done.scanned of (holds-true (rowOf rowWords (v .rows) (st .set)) t there)
+        right l y (before d) = so-far .right l y d
+
+    passed-over : predicted (v .rows) (st .set) t ≡ false → SoFar left s
+    passed-over other = record {
+      done = so-far .done;
+      right = so-far .right;
+      scanned = λ u of there. ⊎-elim (λ m. ⊎-elim (λ is. absurd (not-held is there)) inl (first-or-later m)) inr (so-far .scanned u of there);
+      kept = so-far .kept;
+      follows = so-far .follows;
+    }
+      where
+        not-held : {u : ℕ} → u ≡ t → Holds (rowOf rowWords (v .rows) (st .set)) u → ⊥
+        not-held is there =
+            holds-false (rowOf rowWords (v .rows) (st .set)) t other (subst (Holds (rowOf rowWords (v .rows) (st .set))) is there)
+
+  -- All kinds.
+  kinds-so-far : IsSet (v .starts) (st .set) → (left : List ℕ) → ((t : ℕ) → Member t left → Member t kinds) → (s : Pass) → SoFar left s
+      → SoFar [] (scanAll (g .rules) (v .starts) (v .rows) (st .set) left s)
+  unfolding scanAll scan
+  kinds-so-far set [] of s so-far = so-far
+  kinds-so-far set (t ∷ left) of s so-far =
+      kinds-so-far set left (λ u m. of u (behind m)) (scan (g .rules) (v .starts) (v .rows) (st .set) t s)
+      (either-way (predicted (v .rows) (st .set) t) (λ there. rw (scan, there) (kind-so-far set t left s so-far (of t (here refl)) there))
+      (λ other. rw (scan, other) (passed-over set t left s so-far other)))
 
   -- One sum: its pair comes to those that were completed.
-  module _ (s : Pass) (goes : rests s ≡ false) (so-far : SoFar s) where
+  module _ (s : Pass) (goes : rests s ≡ false) (so-far : SoFar [] s) where
     abbrev set : ℕ
     set = greatest s .origin
 
@@ -172,27 +229,27 @@ module _ (g : Grammar) (st : State) (v : Words) (t : ℕ) (charted : Charted (g 
           rule = ap (λ (w : List ℕ). ruleAt w (new .place)) (summed-words (g .rules) set symbol s) ∙ new .rule;
         }
 
-    sum-so-far : SoFar (completeSum (g .rules) (v .starts) (v .rows) s)
+    sum-so-far : SoFar [] (completeSum (g .rules) (v .starts) (v .rows) s)
     unfolding completeSum
     sum-so-far =
         pair-so-far (so-far .done) set symbol
-        (greatest-charts (g .rules) (v .starts) (beginning st v) s some (so-far .kept .heaped .steady) .is-set) sum-right (before (so-far .scanned))
-        (s .at .used) popped popped-kept
+        (greatest-charts (g .rules) (v .starts) (beginning st v) s some (so-far .kept .heaped .steady) .is-set) sum-right
+        (λ t of there. ⊎-elim inl (λ d. inr (before d)) (so-far .scanned t of there)) (s .at .used) popped popped-kept
         (λ on l y d there. follows-on (g .rules) st v popped-met popped-new (so-far .follows (not-resting s goes .0) l y d there))
 
   -- All sums.
-  sums-so-far : (n : ℕ) (s : Pass) → SoFar s → SoFar (until n rests (completeSum (g .rules) (v .starts) (v .rows)) s)
+  sums-so-far : (n : ℕ) (s : Pass) → SoFar [] s → SoFar [] (until n rests (completeSum (g .rules) (v .starts) (v .rows)) s)
   unfolding until
   sums-so-far zero s so-far = so-far
   sums-so-far (suc n) s so-far =
-      let next : (goes : rests s ≡ false) → SoFar (until n rests (completeSum (g .rules) (v .starts) (v .rows)) (completeSum (g .rules) (v .starts) (v .rows) s)) =
+      let next : (goes : rests s ≡ false) → SoFar [] (until n rests (completeSum (g .rules) (v .starts) (v .rows)) (completeSum (g .rules) (v .starts) (v .rows) s)) =
       λ goes. sums-so-far n (completeSum (g .rules) (v .starts) (v .rows) s) (sum-so-far s goes so-far) in
       either-way (rests s)
-      (λ at-rest. subst SoFar (sym (until-rests rests (completeSum (g .rules) (v .starts) (v .rows)) (suc n) s at-rest)) so-far)
-      (λ goes. subst SoFar (sym (until-turns rests (completeSum (g .rules) (v .starts) (v .rows)) n s goes)) (next goes))
+      (λ at-rest. subst (SoFar []) (sym (until-rests rests (completeSum (g .rules) (v .starts) (v .rows)) (suc n) s at-rest)) so-far)
+      (λ goes. subst (SoFar []) (sym (until-turns rests (completeSum (g .rules) (v .starts) (v .rows)) n s goes)) (next goes))
 
   -- A pass that has ended, and was not refused, is exact.
-  module _ (s : Pass) (so-far : SoFar s) (on : s .at .stopped ≡ 0) (none-left : s .at .queued ≡ 0) where
+  module _ (s : Pass) (so-far : SoFar [] s) (on : s .at .stopped ≡ 0) (none-left : s .at .queued ≡ 0) where
     begins : {k r x y z : ℕ} → Says g r x y z → Holds (rowOf rowWords (v .rows) k) x → Begins (g .rules) (v .rows) k y r
     begins {k} {r} {x} {y} {z} says row =
         record {
@@ -204,11 +261,11 @@ module _ (g : Grammar) (st : State) (v : Words) (t : ℕ) (charted : Charted (g 
     following : {k x : ℕ} → so-far .done k x → Holds (rowOf rowWords (v .rows) k) x → Follows (g .rules) st v (so-far .done) s k x
     following {k} {x} d row = so-far .follows on k x d (true-holds (rowOf rowWords (v .rows) k) x row)
 
-    exact-pass : steps.Pass g (chartOf st v) (t ∷ []) (so-far .done)
+    exact-pass : steps.Pass g (chartOf st v) kinds (so-far .done)
     exact-pass =
         record {
           sound = λ {k} {x} d. so-far .right k x d;
-          scanned = λ kind there. subst (so-far .done (st .set)) (sym (only kind)) (so-far .scanned);
+          scanned = λ {t} of there. ⊎-elim (λ none. absurd (no-member none)) (λ d. d) (so-far .scanned t of there);
           unary = λ {r} {x} {y} {k} says d row-y row-x.
               subst (so-far .done k) (says .left)
               (met-empty (kept-sound (g .rules) st v (so-far .kept)) none-left
@@ -240,37 +297,31 @@ module _ (g : Grammar) (st : State) (v : Words) (t : ℕ) (charted : Charted (g 
           left = holds-true (rowOf rowWords (v .rows) o) (ruleAtG g r .left) (calls .left);
         }
 
--- The pass of a predicted token on a well-formed state of an accepted grammar, unless it is refused.
+-- The pass of a position on a well-formed state of an accepted grammar, unless it is refused.
 pub completed-exactly : (g : Grammar) → Accepted g → (s : State) (v : Words) → WellFormed (g .symbols) (g .rules) s v
-    → Cut v → (t : ℕ) → Holds (rowOf rowWords (v .rows) (s .set)) t
-    → completed g s v t .at .stopped ≡ 0 → Completed g s v t
+    → Cut v → (kinds : List ℕ) → isPosition (g .tokens) kinds ≡ true → completed g s v kinds .at .stopped ≡ 0 → Completed g s v kinds
 unfolding completeAllSums
-completed-exactly g accepted s v well cut t there on =
+completed-exactly g accepted s v well cut kinds position on =
     record {
       done = so-far .done;
-      pass = exact-pass g s v t (pending .charted) (completed g s v t) so-far on none-left;
-      stored = exact-stored g s v t (pending .charted) (completed g s v t) so-far on none-left;
-      called = exact-called g s v t (pending .charted) (completed g s v t) so-far on none-left;
+      pass = exact-pass g s v kinds (pending .charted) (completed g s v kinds) so-far on none-left;
+      stored = exact-stored g s v kinds (pending .charted) (completed g s v kinds) so-far on none-left;
+      called = exact-called g s v kinds (pending .charted) (completed g s v kinds) so-far on none-left;
     }
   where
     pending : Pending (g .rules) (v .starts) (beginning s v)
     pending = begins-pending well (accepted .few-rules) (cut .few-items) (cut .few-entries) (cut .rowed)
 
-    grounds : Grounds (g .rules) (v .starts) (v .rows)
-    grounds = accepted-grounds g accepted (v .starts) (v .rows) (cut .rowed)
-
     set : IsSet (v .starts) (s .set)
     set = is-set well (accepted .few-rules) (cut .few-items) (cut .few-entries) (cut .rowed) (s .set) (omega arith)
 
-    so-far : SoFar g s v t (pending .charted) (completed g s v t)
+    so-far : SoFar g s v kinds (pending .charted) [] (completed g s v kinds)
     so-far =
-        sums-so-far g s v t (pending .charted) (length (v .starts) * length (g .rules))
-        (complete (g .rules) (v .starts) (v .rows) (s .set) t (s .used) (scanned s v t))
-        (first-so-far g s v t (pending .charted) pending set there)
+        sums-so-far g s v kinds (pending .charted) (length (v .starts) * length (g .rules)) (scanned g s v kinds)
+        (kinds-so-far g s v kinds (pending .charted) set kinds (λ t m. m) (beginning s v) (first-so-far g s v kinds (pending .charted) pending))
 
-    none-left : completed g s v t .at .queued ≡ 0
+    none-left : completed g s v kinds .at .queued ≡ 0
     none-left =
-        rest-empty (completed g s v t)
-        (all-sums-rest grounds (complete (g .rules) (v .starts) (v .rows) (s .set) t (s .used) (scanned s v t))
-        (first-pending grounds (scanned s v t) (pending-append (beginning s v) pending (Evaluated t)) (s .set) t (s .used) set
-        (append-queued (Evaluated t) (beginning s v)))) on
+        rest-empty (completed g s v kinds)
+        (all-sums-rest (accepted-grounds g accepted (v .starts) (v .rows) (cut .rowed)) (scanned g s v kinds)
+        (pending-scan-all (accepted-grounds g accepted (v .starts) (v .rows) (cut .rowed)) set kinds (beginning s v) pending)) on

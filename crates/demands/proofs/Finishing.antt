@@ -1,4 +1,4 @@
--- The last item of the latest set has rule 0 exactly when the accepted tokens are a sentence.
+-- The last item of the latest set has rule 0 exactly when the accepted positions spell a sentence.
 use mathlib.Core.Path.{_≡_, refl, sym, ap, ap₂, _∙_, subst}
 use mathlib.Core.Bool.{true, _&&_}
 use mathlib.Core.Logic.{_↔_, ⊎-elim}
@@ -11,13 +11,12 @@ use borrow.Author.Tests.{ltb-true, lt-ltb, eqb-true, eq-eqb}
 use Rattle.laws.proofs.Tests.{both-true}
 use Rattle.item.specs.Item.{itemAt, originAt, ruleAt}
 use Rattle.grammar.specs.Rules.{Rule, Grammar, ruleAt as ruleAtG}
-use Rattle.grammar.specs.Sentences.{Sentence}
 use Rattle.grammar.specs.Accepted.{Accepted}
 use Rattle.parse.specs.declared.State.{State}
 use Rattle.parse.specs.Words.{Words, startOf}
 use Rattle.parse.specs.WellFormed.{WellFormed, InSet, Fits, placing, secondOf}
-use Rattle.earley.proofs.Answers.{Wrapped, end-greatest}
-use Rattle.earley.proofs.Plain.{plain-sentence}
+use Rattle.earley.specs.Positions.{Positions, SpellSentence}
+use Rattle.earley.proofs.Answers.{Wrapped, wrapped-sentence, end-greatest}
 use Rattle.demands.specs.Steps.{lastWraps}
 use Rattle.demands.proofs.Chart.{Has, chartOf}
 use Rattle.demands.proofs.Holding.{Holding}
@@ -32,7 +31,7 @@ module _ {n : ℕ} {rs : List Rule} {s : State} {v : Words} (well : WellFormed n
       let mid : InSet v k (p + 1) = record { from = omega (arith, i .from); up-to = omega (arith, j .up-to) } in
       omega (arith, well .rise k p there i mid, rises-to d (p + 1) q (omega arith) mid j)
 
-module _ {g : Grammar} {a : List ℕ} {s : State} {v : Words} (accepted : Accepted g) (h : Holding g a s v) where
+module _ {g : Grammar} {a : Positions} {s : State} {v : Words} (accepted : Accepted g) (h : Holding g a s v) where
   abbrev e : ℕ
   e = s .set
 
@@ -87,6 +86,6 @@ module _ {g : Grammar} {a : List ℕ} {s : State} {v : Words} (accepted : Accept
       ap₂ _&&_ (lt-ltb (startOf v e) (s .items) some) (eq-eqb (ruleAt (v .items) last) 0 (last-zero (w .origin) (w .item) some))
 
   -- FINISHED EXACTLY ON SENTENCES.
-  pub finished-sentence : (lastWraps s v ≡ true) ↔ Sentence g a
+  pub finished-sentence : (lastWraps s v ≡ true) ↔ SpellSentence g a
   finished-sentence =
-      ((λ says. plain-sentence a accepted (h .holds) .0 (wraps says)), (λ sentence. wrapped (plain-sentence a accepted (h .holds) .1 sentence)))
+      ((λ says. wrapped-sentence accepted (h .holds) .0 (wraps says)), (λ sentence. wrapped (wrapped-sentence accepted (h .holds) .1 sentence)))

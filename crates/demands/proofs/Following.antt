@@ -50,6 +50,12 @@ pub met-grows : {rs : List Rule} {done : ℕ → ℕ → Type 0} {s t : Pass} (o
 met-grows o r sound grows (Met.completed c) = Met.completed c
 met-grows o r sound grows (Met.queued q) = Met.queued (queued-grows sound grows q)
 
+-- And with more pairs completed.
+pub met-more : {rs : List Rule} {done done′ : ℕ → ℕ → Type 0} {s : Pass} {o r : ℕ} → ((k x : ℕ) → done k x → done′ k x)
+    → Met rs done s o r → Met rs done′ s o r
+met-more more (Met.completed c) = Met.completed (more _ _ c)
+met-more more (Met.queued q) = Met.queued q
+
 -- More pairs call for no fewer items.
 pub calls-more : {rs : List Rule} {rows : List ℕ} {done done′ : ℕ → ℕ → Type 0} {o r : ℕ} → ((k x : ℕ) → done k x → done′ k x)
     → Calls rs rows done o r → Calls rs rows done′ o r
@@ -104,6 +110,10 @@ module _ (rs : List Rule) (st : State) (v : Words) where
   pub record Kept (T done : ℕ → ℕ → Type 0) (s : Pass) : Type 0 where
     pub heaped : Heaped rs (v .starts) (OfPair T rs) (beginning st v) s
     pub calls : (p : ℕ) → st .items ≤ p → p < s .at .items → Calls rs (v .rows) done (originAt (s .items) p) (ruleAt (s .items) p)
+
+  -- With more pairs completed it is so still.
+  pub kept-more : {T done done′ : ℕ → ℕ → Type 0} {s : Pass} → ((k x : ℕ) → done k x → done′ k x) → Kept T done s → Kept T done′ s
+  kept-more more kept = record { heaped = kept .heaped; calls = λ p from up-to. calls-more more (kept .calls p from up-to) }
 
   module _ {T done : ℕ → ℕ → Type 0} where
     pub kept-sound : {s : Pass} → Kept T done s → PassFits s

@@ -118,6 +118,11 @@ grows-enqueue place right s sound = record { onward = onward-enqueue place right
 pub grows-append : (n : Node) (s : Pass) → Grows s (append n s)
 grows-append n s = record { onward = onward-append n s; entries = entry-append n s }
 
+-- A node that was written was written where nothing had been refused.
+pub before-append : (n : Node) (s : Pass) → append n s .at .stopped ≡ 0 → s .at .stopped ≡ 0
+before-append n s =
+    append-cases (λ (t : Pass). t .at .stopped ≡ 0 → s .at .stopped ≡ 0) s n (λ on. on) (λ us on is some room still. on) (λ still. absurd (omega arith))
+
 -- What is queued stays queued, and what was stored stays stored.
 pub queued-grows : {s t : Pass} {o r : ℕ} → PassFits s → Grows s t → Queued s o r → Queued t o r
 queued-grows {s} {t} {o} {r} sound grows queued =

@@ -1,4 +1,5 @@
--- Laws on the steps of a token and on histories.
+-- Laws on the steps of a position and on histories.
+pub mod Positions
 pub mod Chart
 pub mod Cut
 pub mod Growing
@@ -12,12 +13,14 @@ pub mod Ways
 pub mod Members
 pub mod NextSet
 pub mod Refusing
+pub mod OneKind
 pub mod Holding
 pub mod Running
 pub mod Agree
 pub mod Lasting
 pub mod Finishing
 pub mod Telling
+pub mod Tokens
 pub mod Again
 pub mod Singles
 pub mod Computed

@@ -1,6 +1,7 @@
 -- A step that is done: its state is well formed, and its chart is what earley calls the next one.
 use mathlib.Core.Path.{_≡_, refl, sym, ap, _∙_, subst, subst₂}
 use mathlib.Core.Logic.{_⊎_, inl, inr}
+use mathlib.Core.Bool.{true}
 use mathlib.Core.List.{List}
 use Prim.Native.Nat.{ℕ, suc, _+_, _-_, _*_, _/_, _≤_, _<_}
 use native.Mathlib.Decide.{decLt}
@@ -19,10 +20,9 @@ use Rattle.parse.specs.Words.{Words, startOf}
 use Rattle.parse.specs.Heads.{Meets}
 use Rattle.parse.specs.WellFormed.{WellFormed, InSet, secondOf}
 use Rattle.parse.proofs.Capacities.{SameSizes}
-use Rattle.node.specs.declared.Node.the-variants.{Evaluated}
 use Rattle.completion.specs.Pass.{Pass}
 use Rattle.completion.proofs.Beginning.{beginning, start-fits}
-use Rattle.completion.proofs.Passed.{Passed, token-passed, passed-apart}
+use Rattle.completion.proofs.Passed.{Passed, position-passed, passed-apart}
 use Rattle.advance.specs.inner.Order.{All}
 use Rattle.advance.specs.inner.Advances.{withoutNew}
 use Rattle.advance.specs.Advance.{predictions}
@@ -34,7 +34,9 @@ use Rattle.advance.proofs.Advancing.{new-few, greatest-below}
 use Rattle.advance.proofs.Keeping.{Newcomer, well-formed-again}
 use Rattle.advance.proofs.Steps.{without-new}
 use Rattle.earley.proofs.Next.{Stored, Led, Unpruned, Pruned, Next}
+use Rattle.demands.specs.Positions.{isPosition}
 use Rattle.demands.specs.Steps.{completed, withNodes}
+use Rattle.demands.proofs.Positions.{position-scannable}
 use Rattle.demands.proofs.Chart.{Has, New, chartOf, Completed}
 use Rattle.demands.proofs.Cut.{Cut}
 use Rattle.demands.proofs.Readable.{usedOf, Readable, readable-completed}
@@ -44,33 +46,34 @@ use Rattle.demands.proofs.Members.{PlaceIn, Standing, among-place, plac
 use Rattle.advance.proofs.Moved.{Movable, kept-below, start-kept, start-last, item-kept, item-new, row-kept, row-latest, row-cleared, row-new, moved-sizes}
 
 module _ {g : Grammar} {table : List (List ℕ)} {s : State} {v : Words} (accepted : Accepted g) (predicts : Predicts g rowWords table)
-    (well : WellFormed (g .symbols) (g .rules) s v) (cut : Cut v) (t : ℕ) (room : keptOf g s v t + 1 < length (v .rows) / rowWords) where
+    (well : WellFormed (g .symbols) (g .rules) s v) (cut : Cut v) (kinds : List ℕ) (position : isPosition (g .tokens) kinds ≡ true)
+    (room : keptOf g s v kinds + 1 < length (v .rows) / rowWords) where
   abbrev pass : Pass
-  pass = completed g s v t
+  pass = completed g s v kinds
 
   abbrev new : List Item
-  new = newOf g s v t
+  new = newOf g s v kinds
 
   abbrev m : ℕ
-  m = reachOf g s v t
+  m = reachOf g s v kinds
 
   abbrev kept : ℕ
-  kept = keptOf g s v t
+  kept = keptOf g s v kinds
 
   abbrev row : List ℕ
   row = predictions (g .rules) table new
 
   abbrev s′ : State
-  s′ = following g table s v t .state
+  s′ = following g table s v kinds .state
 
   abbrev v′ : Words
-  v′ = following g table s v t .words
+  v′ = following g table s v kinds .words
 
   passed : Passed (g .rules) (v .starts) (s .set) (beginning s v) pass
-  passed = token-passed g accepted well (cut .few-items) (cut .few-entries) (cut .rowed) t (s .used) (Evaluated t)
+  passed = position-passed g accepted well (cut .few-items) (cut .few-entries) (cut .rowed) kinds (position-scannable g accepted kinds position)
 
   readable : Readable pass
-  readable = readable-completed g well t
+  readable = readable-completed g well kinds
 
   -- The state and the words with the nodes that the pass has written.
   abbrev written-state : State
@@ -282,7 +285,7 @@ module _ {g : Grammar} {table : List (List ℕ)} {s : State} {v : Words} (accept
       (predicts .all (secondOf (g .rules) (newly .item)) x (second-symbol (newcomer (newly .among)))
       (subst (λ (r : ℕ). Reaches g (ruleAtG g r .second) x) (sym (newly .rule)) (led .reaches))))
 
-  module _ (exactly : Completed g s v t) where
+  module _ (exactly : Completed g s v kinds) where
     -- What the completed pairs call for are the new items.
     new-stored : {i : Item} → Among i new → Stored g (chartOf s v) (exactly .done) (i .origin) (i .rule)
     new-stored {i} among =

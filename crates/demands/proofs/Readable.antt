@@ -1,9 +1,9 @@
 -- The store of a pass: the used units read to their end, the others are fillers, and every handle is the head of a node that reading them meets. No
 -- step of a pass loses that: nodes are written behind the used units, and an item is stored with the head of a node written before.
-use mathlib.Core.Path.{_≡_, refl, sym, ap, _∙_, subst, subst₂}
+use mathlib.Core.Path.{_≡_, sym, ap, _∙_, subst, subst₂}
 use mathlib.Core.List.{List, _++_}
 use Prim.Native.Nat.{ℕ, _+_, _*_, _/_, _≤_, _<_}
-use native.Mathlib.Decide.{decLt}
+use native.Mathlib.Decide.{decLt, ℕ-discrete}
 use native.Mathlib.Omega.{arith}
 use lib.ListN.{length, take, length-append}
 use lib.Seq.{length-take-le}
@@ -26,10 +26,11 @@ use Rattle.parse.proofs.Padded.{filled-behind}
 use Rattle.parse.proofs.Appended.{filled-spare, filled-put, Appended, appended-reads, appended-keeps, appended-new}
 use Rattle.completion.specs.Pass.{Pass, refused, store, enqueue, append, itemsFull, queueFull, storeFull}
 use Rattle.completion.specs.Complete.{completeMedialItems, completeUnaryPredictions, complete}
+use Rattle.completion.specs.Scan.{scanAll}
 use Rattle.completion.specs.Sums.{greatest, summands, productNode, sumEnds, popGreatest, nextSummand, popSum, summed, completeSum, rests, completeAllSums}
 use Rattle.completion.proofs.Entries.{storedPass, appendedPass, store-cases, enqueue-cases, then-cases, append-goes, append-cases}
 use Rattle.completion.proofs.Through.{medial-items-keep, unary-predictions-go, binary-predictions-go, complete-cases}
-use Rattle.completion.proofs.Turning.{not-resting}
+use Rattle.completion.proofs.Scanning.{scan-all-keeps}
 use Rattle.completion.proofs.Beginning.{beginning}
 use Rattle.demands.specs.Steps.{scanned, completed}
 
@@ -104,11 +105,14 @@ linked-append {link} n s linked =
     (record { readable = readable-refused storeFull s (linked .readable); linked = λ still. absurd (omega (arith, still)) })
 
 -- that has its head where the used units ended,
-pub linked-new : (n : Node) (s : Pass) → s .at .stopped ≡ 0 → Readable s → Linked (s .at .used) (append n s)
-linked-new n s on readable =
-    append-goes (Linked (s .at .used)) s n on
-    (λ us is some room. record { readable = readable-written s readable n us is some room; linked = λ still. new-met s readable n us is some room })
-    (record { readable = readable-refused storeFull s readable; linked = λ still. absurd (omega (arith, still)) })
+pub linked-new : (n : Node) (s : Pass) → Readable s → Linked (s .at .used) (append n s)
+linked-new n s readable = elim (ℕ-discrete (s .at .stopped) 0) [
+  | no stopped ↦ linked-append n s (record { readable = readable; linked = λ on. absurd (stopped on) })
+  | yes on ↦
+      append-goes (Linked (s .at .used)) s n on
+      (λ us is some room. record { readable = readable-written s readable n us is some room; linked = λ still. new-met s readable n us is some room })
+      (record { readable = readable-refused storeFull s readable; linked = λ still. absurd (omega (arith, still)) })
+]
 
 -- storing an item with the handle of the pair,
 pub linked-store : {link : ℕ} (k r : ℕ) (s : Pass) → s .at .stopped ≡ 0 → Linked link s → Linked link (store k r link s)
@@ -184,13 +188,19 @@ module _ (rs : List Rule) (starts rows : List ℕ) where
       (medial-items-keep rs starts rows k x link (Linked link) (λ p t inside second on linked. linked-enqueue p link t on linked) s linked)))
 
   -- a sum gives the handle of its pair,
-  pub linked-summed : (k x : ℕ) (s : Pass) → s .at .stopped ≡ 0 → Readable s → Linked (s .at .used) (summed rs k x s)
+  pub linked-summed : (k x : ℕ) (s : Pass) → Readable s → Linked (s .at .used) (summed rs k x s)
   unfolding popSum nextSummand
-  linked-summed k x s on readable =
+  linked-summed k x s readable =
       let n : Node = Sum (summands rs k x s) x in
       until-keeps (sumEnds rs k x) nextSummand (Linked (s .at .used))
       (λ t goes linked. linked-append (productNode (t .items) (entryAt (t .queue) 0)) (popGreatest t) (linked-pop t linked))
-      (append n s .at .queued) (append n s) (linked-new n s on readable)
+      (append n s .at .queued) (append n s) (linked-new n s readable)
+
+  -- scanning the kinds of a position keeps it,
+  pub readable-scan : (e : ℕ) (kinds : List ℕ) (s : Pass) → Readable s → Readable (scanAll rs starts rows e kinds s)
+  readable-scan e kinds =
+      scan-all-keeps rs starts rows e kinds Readable
+      (λ t s of there readable. linked-complete e t (s .at .used) (append (Evaluated t) s) (linked-new (Evaluated t) s readable) .readable)
 
   -- and all sums keep it.
   pub readable-sums : (s : Pass) → Readable s → Readable (completeAllSums rs starts rows s)
@@ -199,7 +209,7 @@ module _ (rs : List Rule) (starts rows : List ℕ) where
       until-keeps rests (completeSum rs starts rows) Readable
       (λ t goes readable.
       linked-complete (greatest t .origin) (leftOf rs (greatest t)) (t .at .used) (summed rs (greatest t .origin) (leftOf rs (greatest t)) t)
-      (linked-summed (greatest t .origin) (leftOf rs (greatest t)) t (not-resting t goes .0) readable) .readable)
+      (linked-summed (greatest t .origin) (leftOf rs (greatest t)) t readable) .readable)
       (length starts * length rs) s readable
 
 module _ {n : ℕ} {rs : List Rule} {s : State} {v : Words} (well : WellFormed n rs s v) where
@@ -208,8 +218,7 @@ module _ {n : ℕ} {rs : List Rule} {s : State} {v : Words} (well : WellFormed n
   readable-begins = record { used-fit = well .units-fit; spare = record { unit = well .spare-units }; reads = well .reads; handles = well .handles }
 
 -- AND ENDS SO.
-pub readable-completed : (g : Grammar) {n : ℕ} {s : State} {v : Words} → WellFormed n (g .rules) s v → (t : ℕ) → Readable (completed g s v t)
-readable-completed g {s = s} {v = v} well t =
-    readable-sums (g .rules) (v .starts) (v .rows) (complete (g .rules) (v .starts) (v .rows) (s .set) t (s .used) (scanned s v t))
-    (linked-complete (g .rules) (v .starts) (v .rows) (s .set) t (s .used) (scanned s v t)
-    (linked-new (Evaluated t) (beginning s v) refl (readable-begins well)) .readable)
+pub readable-completed : (g : Grammar) {n : ℕ} {s : State} {v : Words} → WellFormed n (g .rules) s v → (kinds : List ℕ) → Readable (completed g s v kinds)
+readable-completed g {s = s} {v = v} well kinds =
+    readable-sums (g .rules) (v .starts) (v .rows) (scanned g s v kinds)
+    (readable-scan (g .rules) (v .starts) (v .rows) (s .set) kinds (beginning s v) (readable-begins well))

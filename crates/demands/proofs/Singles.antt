@@ -1,4 +1,4 @@
--- A run equals one call a token up to the first refusal. With `runs-agree` this leaves a run nothing else to answer.
+-- A run equals one call a position up to the first refusal. With `runs-agree` this leaves a run nothing else to answer.
 use mathlib.Core.Path.{_≡_, sym, ap, ap₂, _∙_, subst}
 use mathlib.Core.List.{List, [], _∷_, _++_}
 use Prim.Native.Nat.{ℕ, _+_, _≤_}
@@ -8,6 +8,7 @@ use Rattle.grammar.specs.Rules.{Grammar}
 use Rattle.parse.specs.declared.State.{State}
 use Rattle.parse.specs.Words.{Words, setRoom, within, beyond, behind}
 use Rattle.parse.proofs.Capacities.{SameSizes, sets-room, split-whole, within-new, beyond-new}
+use Rattle.earley.specs.Positions.{Positions}
 use Rattle.demands.specs.Steps.{Outcome, Ended, oneMore, stepped, ran}
 use Rattle.demands.specs.Calls.{Ready, FileFault, CallFault, asItWas, inPlace, inPlaceEnded, Takes, Runs}
 use Rattle.demands.proofs.Agree.{sound-same, not-ready, runs-agree}
@@ -29,10 +30,10 @@ ending past e = record {
   taken = e .taken;
 }
 
--- Behind an accepted token, what is left of the run is a run from what the token's call left.
-module _ {file : List ℕ} {s : State} {w : Words} {g : Grammar} {table : List (List ℕ)} (ready : Ready file s w g table) (t : ℕ) where
+-- Behind an accepted position, what is left of the run is a run from what its call left.
+module _ {file : List ℕ} {s : State} {w : Words} {g : Grammar} {table : List (List ℕ)} (ready : Ready file s w g table) (kinds : List ℕ) where
   abbrev after : Outcome
-  after = stepped g table s (within w) t
+  after = stepped g table s (within w) kinds
 
   abbrev left : Words
   left = behind (after .words) (beyond w)
@@ -41,87 +42,87 @@ module _ {file : List ℕ} {s : State} {w : Words} {g : Grammar} {table : List (
   some = omega (arith, ready .well-formed .set-fits, sets-room w)
 
   sizes : SameSizes (after .words) (within w)
-  sizes = step-sizes (ready .sound .checked .accepted) (ready .well-formed) (within-cut w (omega (arith, some))) t (ready .sound .predicts)
+  sizes = step-sizes (ready .sound .checked .accepted) (ready .well-formed) (within-cut w (omega (arith, some))) kinds (ready .sound .predicts)
 
-  goes-on : {g′ : Grammar} {table′ : List (List ℕ)} (ts : List ℕ) → after .number ≡ 0 → Ready file (after .state) left g′ table′
-      → inPlaceEnded w (ran g table s (within w) (t ∷ ts)) ≡ oneMore (inPlaceEnded left (ran g′ table′ (after .state) (within left) ts))
-  goes-on ts zero ready′ =
-      ap (inPlaceEnded w) (ran-on g table s (within w) t ts zero)
-      ∙ ap₂ (λ (past : Words) (v : Words). oneMore (ending past (ran g table (after .state) v ts)))
+  goes-on : {g′ : Grammar} {table′ : List (List ℕ)} (a : Positions) → after .number ≡ 0 → Ready file (after .state) left g′ table′
+      → inPlaceEnded w (ran g table s (within w) (kinds ∷ a)) ≡ oneMore (inPlaceEnded left (ran g′ table′ (after .state) (within left) a))
+  goes-on a zero ready′ =
+      ap (inPlaceEnded w) (ran-on g table s (within w) kinds a zero)
+      ∙ ap₂ (λ (past : Words) (v : Words). oneMore (ending past (ran g table (after .state) v a)))
       (sym (beyond-new w (after .words) some sizes)) (sym (within-new w (after .words) some sizes))
       ∙ ap (λ (e : Ended). oneMore (inPlaceEnded left e))
-      (sound-same (λ (k : Grammar) (rows : List (List ℕ)). ran k rows (after .state) (within left) ts) (ready .sound) (ready′ .sound))
+      (sound-same (λ (k : Grammar) (rows : List (List ℕ)). ran k rows (after .state) (within left) a) (ready .sound) (ready′ .sound))
 
 module _ {file : List ℕ} {s : State} {w : Words} where
-  -- A run of no token takes 0 and leaves everything as it was.
+  -- A run of no position takes 0 and leaves everything as it was.
   pub run-none : {g : Grammar} {table : List (List ℕ)} → Ready file s w g table → Runs file s w [] (record { outcome = asItWas 0 s w; taken = 0 })
   unfolding ran
   run-none ready =
       subst (λ (u : Words). Runs file s w [] (record { outcome = asItWas 0 s u; taken = 0 })) (split-whole w) (Runs.done ready)
 
-  -- A run ends at a token that is refused, as that call does, and takes it not.
-  pub run-ends : {t : ℕ} {ts : List ℕ} {o : Outcome} → Takes file s w t o → (o .number ≡ 0 → ⊥) → Runs file s w (t ∷ ts) (record { outcome = o; taken = 0 })
+  -- A run ends at a position that is refused, as that call does, and takes it not.
+  pub run-ends : {kinds : List ℕ} {a : Positions} {o : Outcome} → Takes file s w kinds o → (o .number ≡ 0 → ⊥) → Runs file s w (kinds ∷ a) (record { outcome = o; taken = 0 })
   run-ends (Takes.refused f) n = Runs.refused f
-  run-ends {t} {ts} (Takes.done {g = g} {table = table} ready) n =
-      subst (λ (e : Ended). Runs file s w (t ∷ ts) (inPlaceEnded w e)) (ran-off g table s (within w) t ts n) (Runs.done ready)
+  run-ends {kinds} {a} (Takes.done {g = g} {table = table} ready) n =
+      subst (λ (e : Ended). Runs file s w (kinds ∷ a) (inPlaceEnded w e)) (ran-off g table s (within w) kinds a n) (Runs.done ready)
 
-  -- Behind a token that is accepted it goes on as a run from what that call left, with one token more taken.
-  pub run-goes-on : {t : ℕ} {ts : List ℕ} {o : Outcome} {e : Ended} → Takes file s w t o → o .number ≡ 0 → Runs file (o .state) (o .words) ts e → Runs file s w (t ∷ ts) (oneMore e)
+  -- Behind a position that is accepted it goes on as a run from what that call left, with one position more taken.
+  pub run-goes-on : {kinds : List ℕ} {a : Positions} {o : Outcome} {e : Ended} → Takes file s w kinds o → o .number ≡ 0 → Runs file (o .state) (o .words) a e → Runs file s w (kinds ∷ a) (oneMore e)
   run-goes-on (Takes.refused f) zero runs = absurd (call-some f zero)
-  run-goes-on {t} (Takes.done ready) zero (Runs.refused f) = absurd (not-ready (stepped-ready s w t ready) f)
-  run-goes-on {t} {ts} (Takes.done ready) zero (Runs.done ready′) = subst (Runs file s w (t ∷ ts)) (goes-on ready t ts zero ready′) (Runs.done ready)
+  run-goes-on {kinds} (Takes.done ready) zero (Runs.refused f) = absurd (not-ready (stepped-ready s w kinds ready) f)
+  run-goes-on {kinds} {a} (Takes.done ready) zero (Runs.done ready′) = subst (Runs file s w (kinds ∷ a)) (goes-on ready kinds a zero ready′) (Runs.done ready)
 
--- What a run came to, with so many tokens taken before it.
+-- What a run came to, with so many positions taken before it.
 abbrev pub further : ℕ → Ended → Ended
 further before e = record { outcome = e .outcome; taken = before + e .taken }
 
-module _ (file us : List ℕ) (e′ : Ended) where
-  -- The run `us` behind what a run came to.
+module _ (file : List ℕ) (b : Positions) (e′ : Ended) where
+  -- The run over `b` behind what a run came to.
   abbrev Behind : Ended → Type 0
-  Behind e = Runs file (e .outcome .state) (e .outcome .words) us e′
+  Behind e = Runs file (e .outcome .state) (e .outcome .words) b e′
 
-  counted : {s : State} {w : Words} (ts : List ℕ) (n k : ℕ) → n ≡ k → Runs file s w ts (record { outcome = e′ .outcome; taken = n })
-      → Runs file s w ts (record { outcome = e′ .outcome; taken = k })
-  counted {s} {w} ts n k same runs = subst (λ (m : ℕ). Runs file s w ts (record { outcome = e′ .outcome; taken = m })) same runs
+  counted : {s : State} {w : Words} (a : Positions) (n k : ℕ) → n ≡ k → Runs file s w a (record { outcome = e′ .outcome; taken = n })
+      → Runs file s w a (record { outcome = e′ .outcome; taken = k })
+  counted {s} {w} a n k same runs = subst (λ (m : ℕ). Runs file s w a (record { outcome = e′ .outcome; taken = m })) same runs
 
   join-none : {s : State} {w : Words} {g : Grammar} {table : List (List ℕ)} {e : Ended} → Ready file s w g table → Runs file s w [] e → Behind e
-      → Runs file s w us (further (e .taken) e′)
+      → Runs file s w b (further (e .taken) e′)
   join-none {e = e} ready runs next =
       let same = runs-agree runs (run-none ready) in
       let none : e .taken ≡ 0 = ap (λ (d : Ended). d .taken) same in
-      counted us (e′ .taken) (e .taken + e′ .taken) (omega (arith, none)) (subst Behind same next)
+      counted b (e′ .taken) (e .taken + e′ .taken) (omega (arith, none)) (subst Behind same next)
 
-  module _ {s : State} {w : Words} {g : Grammar} {table : List (List ℕ)} (ready : Ready file s w g table) (t : ℕ) (ts : List ℕ) where
+  module _ {s : State} {w : Words} {g : Grammar} {table : List (List ℕ)} (ready : Ready file s w g table) (kinds : List ℕ) (a : Positions) where
     abbrev first : Outcome
-    first = inPlace w (stepped g table s (within w) t)
+    first = inPlace w (stepped g table s (within w) kinds)
 
     abbrev others : Ended
-    others = inPlaceEnded (first .words) (ran g table (first .state) (within (first .words)) ts)
+    others = inPlaceEnded (first .words) (ran g table (first .state) (within (first .words)) a)
 
-    join-more : {e : Ended} → Runs file s w (t ∷ ts) e → e .outcome .number ≡ 0 → Behind e
-        → (others .outcome .number ≡ 0 → Behind others → Runs file (first .state) (first .words) (ts ++ us) (further (others .taken) e′))
-        → Runs file s w (t ∷ (ts ++ us)) (further (e .taken) e′)
+    join-more : {e : Ended} → Runs file s w (kinds ∷ a) e → e .outcome .number ≡ 0 → Behind e
+        → (others .outcome .number ≡ 0 → Behind others → Runs file (first .state) (first .words) (a ++ b) (further (others .taken) e′))
+        → Runs file s w (kinds ∷ (a ++ b)) (further (e .taken) e′)
     join-more {e} runs zero next more =
         elim (ℕ-discrete (first .number) 0) [
           | yes on ↦
-              let same = runs-agree runs (run-goes-on (Takes.done ready) on (Runs.done (stepped-ready s w t ready))) in
+              let same = runs-agree runs (run-goes-on (Takes.done ready) on (Runs.done (stepped-ready s w kinds ready))) in
               let taken : e .taken ≡ others .taken + 1 = ap (λ (d : Ended). d .taken) same in
-              counted (t ∷ (ts ++ us)) (others .taken + e′ .taken + 1) (e .taken + e′ .taken) (omega (arith, taken))
+              counted (kinds ∷ (a ++ b)) (others .taken + e′ .taken + 1) (e .taken + e′ .taken) (omega (arith, taken))
               (run-goes-on (Takes.done ready) on (more (sym (ap (λ (d : Ended). d .outcome .number) same) ∙ zero) (subst Behind same next)))
           | no off ↦
               let same = runs-agree runs (run-ends (Takes.done ready) off) in
               absurd (off (sym (ap (λ (d : Ended). d .outcome .number) same) ∙ zero))
         ]
 
-  join : (ts : List ℕ) {s : State} {w : Words} {g : Grammar} {table : List (List ℕ)} (ready : Ready file s w g table) {e : Ended}
-      → Runs file s w ts e → e .outcome .number ≡ 0 → Behind e → Runs file s w (ts ++ us) (further (e .taken) e′)
+  join : (a : Positions) {s : State} {w : Words} {g : Grammar} {table : List (List ℕ)} (ready : Ready file s w g table) {e : Ended}
+      → Runs file s w a e → e .outcome .number ≡ 0 → Behind e → Runs file s w (a ++ b) (further (e .taken) e′)
   join [] ready runs zero next = join-none ready runs next
-  join (t ∷ ts) {s} {w} ready runs zero next =
-      let ready′ = stepped-ready s w t ready in
-      join-more ready t ts runs zero next (join ts ready′ (Runs.done ready′))
+  join (kinds ∷ a) {s} {w} ready runs zero next =
+      let ready′ = stepped-ready s w kinds ready in
+      join-more ready kinds a runs zero next (join a ready′ (Runs.done ready′))
 
-  -- A RUN THAT TOOK ALL ITS TOKENS AND ONE BEHIND IT ARE ONE RUN over the tokens of both.
-  pub runs-join : {s : State} {w : Words} (ts : List ℕ) {e : Ended} → Runs file s w ts e → e .outcome .number ≡ 0 → Behind e
-      → Runs file s w (ts ++ us) (further (e .taken) e′)
-  runs-join ts (Runs.refused f) zero next = absurd (call-some f zero)
-  runs-join ts (Runs.done ready) zero next = join ts ready (Runs.done ready) zero next
+  -- A RUN THAT TOOK ALL ITS POSITIONS AND ONE BEHIND IT ARE ONE RUN over the positions of both.
+  pub runs-join : {s : State} {w : Words} (a : Positions) {e : Ended} → Runs file s w a e → e .outcome .number ≡ 0 → Behind e
+      → Runs file s w (a ++ b) (further (e .taken) e′)
+  runs-join a (Runs.refused f) zero next = absurd (call-some f zero)
+  runs-join a (Runs.done ready) zero next = join a ready (Runs.done ready) zero next

@@ -12,6 +12,7 @@ use Rattle.grammar.specs.Prediction.{Predicts}
 use Rattle.parse.specs.declared.State.{State}
 use Rattle.parse.specs.Words.{Words, setRoom, within, beyond, behind}
 use Rattle.parse.specs.WellFormed.{WellFormed}
+use Rattle.earley.specs.Positions.{Positions}
 use Rattle.demands.specs.Steps.{Outcome, Ended, started, stepped, ran, lastWraps, finishedHandle, latestPart}
 
 -- The grammar that a file gives, where the check accepts it.
@@ -65,17 +66,17 @@ pub data Starts (file : List ℕ) (s : State) (w : Words) : Outcome → Type 0 w
   refused : {n : ℕ} → StartFault file w n → Starts file s w (asItWas n s w)
   done : {g : Grammar} {table : List (List ℕ)} → Sound file g table → 0 < setRoom w → Starts file s w (inPlace w (started g table (within w)))
 
--- A token.
-pub data Takes (file : List ℕ) (s : State) (w : Words) (t : ℕ) : Outcome → Type 0 where
-  refused : {n : ℕ} → CallFault file s w n → Takes file s w t (asItWas n s w)
-  done : {g : Grammar} {table : List (List ℕ)} → Ready file s w g table → Takes file s w t (inPlace w (stepped g table s (within w) t))
+-- A position. A token is one of one kind.
+pub data Takes (file : List ℕ) (s : State) (w : Words) (kinds : List ℕ) : Outcome → Type 0 where
+  refused : {n : ℕ} → CallFault file s w n → Takes file s w kinds (asItWas n s w)
+  done : {g : Grammar} {table : List (List ℕ)} → Ready file s w g table → Takes file s w kinds (inPlace w (stepped g table s (within w) kinds))
 
--- A run.
-pub data Runs (file : List ℕ) (s : State) (w : Words) (ts : List ℕ) : Ended → Type 0 where
-  refused : {n : ℕ} → CallFault file s w n → Runs file s w ts (record { outcome = asItWas n s w; taken = 0 })
+-- A run over positions.
+pub data Runs (file : List ℕ) (s : State) (w : Words) (a : Positions) : Ended → Type 0 where
+  refused : {n : ℕ} → CallFault file s w n → Runs file s w a (record { outcome = asItWas n s w; taken = 0 })
   done :
       {g : Grammar} {table : List (List ℕ)} → Ready file s w g table
-      → Runs file s w ts (inPlaceEnded w (ran g table s (within w) ts))
+      → Runs file s w a (inPlaceEnded w (ran g table s (within w) a))
 
 -- Finished: its number, whether it says yes, and the handle, all ones where it does not.
 pub data Finishes (file : List ℕ) (s : State) (w : Words) : ℕ → Bool → ℕ → Type 0 where

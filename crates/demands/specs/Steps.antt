@@ -1,4 +1,4 @@
--- A token's steps on a well-formed state. The words are those within the capacities.
+-- The steps of a position on a well-formed state. A token is a position of one kind. The words are those within the capacities.
 use mathlib.Core.Bool.{Bool, true, false, _&&_}
 use mathlib.Core.List.{List, [], _∷_}
 use Prim.Native.Nat.{ℕ, _+_, _-_, _*_, _/_}
@@ -11,12 +11,13 @@ use Rattle.parse.specs.declared.State.{State}
 use Rattle.parse.specs.Words.{Words, startOf, padded}
 use Rattle.node.specs.Rows.{allOnes}
 use Rattle.node.specs.Reading.{filler}
-use Rattle.node.specs.declared.Node.the-variants.{Evaluated}
-use Rattle.completion.specs.Pass.{Pass, passOver, append}
-use Rattle.completion.specs.Complete.{predicted, complete}
+use Rattle.completion.specs.Pass.{Pass, passOver}
+use Rattle.completion.specs.Scan.{scanAll}
 use Rattle.completion.specs.Sums.{completeAllSums}
 use Rattle.advance.specs.NewItems.{newItems}
 use Rattle.advance.specs.Advance.{greatestOrigin, lastKept, predictions, nextState, nextWords}
+use Rattle.earley.specs.Positions.{Positions}
+use Rattle.demands.specs.Positions.{isPosition, anyPredicted}
 
 -- What a call answers, by number, and leaves.
 pub record Outcome : Type 0 where
@@ -24,7 +25,8 @@ pub record Outcome : Type 0 where
   pub state : State
   pub words : Words
 
--- The refusals of a token on a well-formed state that are not a push's: token ≥ T; not predicted; the new set number would be ≥ E.
+-- The refusals of a position on a well-formed state that are not a push's: no kind, kinds that do not rise or a kind ≥ T; none predicted; the new set number would
+-- be ≥ E.
 abbrev pub noToken : ℕ
 noToken = 5
 
@@ -50,15 +52,15 @@ started g table v =
           };
     }
 
--- The pass of a token begins: its node is written.
-abbrev pub scanned : State → Words → ℕ → Pass
-scanned s v t =
-    append (Evaluated t) (passOver (record { stopped = 0; items = s .items; queued = 0; used = s .used }) (v .items) (v .queue) (v .store))
+-- Step 2: the pass of a position begins with the items of the sets, an empty queue and the used units; the kinds that are predicted are completed.
+abbrev pub scanned : Grammar → State → Words → List ℕ → Pass
+scanned g s v kinds =
+    scanAll (g .rules) (v .starts) (v .rows) (s .set) kinds
+    (passOver (record { stopped = 0; items = s .items; queued = 0; used = s .used }) (v .items) (v .queue) (v .store))
 
--- Steps 2 and 3: complete (e, t), and then sum after sum.
-abbrev pub completed : Grammar → State → Words → ℕ → Pass
-completed g s v t =
-    completeAllSums (g .rules) (v .starts) (v .rows) (complete (g .rules) (v .starts) (v .rows) (s .set) t (s .used) (scanned s v t))
+-- And step 3: sum after sum.
+abbrev pub completed : Grammar → State → Words → List ℕ → Pass
+completed g s v kinds = completeAllSums (g .rules) (v .starts) (v .rows) (scanned g s v kinds)
 
 -- The words with the nodes that a pass wrote.
 abbrev pub withNodes : List ℕ → Words → Words
@@ -77,25 +79,25 @@ advanced g table s v new used units =
       | false ↦ record { number = setsFull; state = s; words = v }
     ]
 
--- A token: step 1 and the others. A refusal leaves state and words as they were.
-unfoldable pub stepped : Grammar → List (List ℕ) → State → Words → ℕ → Outcome
-stepped g table s v t =
-    elim (ltb t (g .tokens)) [
+-- A position: step 1 and the others. A refusal leaves state and words as they were.
+unfoldable pub stepped : Grammar → List (List ℕ) → State → Words → List ℕ → Outcome
+stepped g table s v kinds =
+    elim (isPosition (g .tokens) kinds) [
       | false ↦ record { number = noToken; state = s; words = v }
       | true ↦
-          elim (predicted (v .rows) (s .set) t) [
+          elim (anyPredicted (v .rows) (s .set) kinds) [
             | false ↦ record { number = notPredicted; state = s; words = v }
             | true ↦
-                elim (eqb (completed g s v t .at .stopped) 0) [
-                  | false ↦ record { number = completed g s v t .at .stopped; state = s; words = v }
+                elim (eqb (completed g s v kinds .at .stopped) 0) [
+                  | false ↦ record { number = completed g s v kinds .at .stopped; state = s; words = v }
                   | true ↦
-                      advanced g table s v (newItems (g .rules) (completed g s v t .items) (s .items) (completed g s v t .at .items))
-                      (completed g s v t .at .used) (completed g s v t .units)
+                      advanced g table s v (newItems (g .rules) (completed g s v kinds .items) (s .items) (completed g s v kinds .at .items))
+                      (completed g s v kinds .at .used) (completed g s v kinds .units)
                 ]
           ]
     ]
 
--- What a run answers and leaves, with the number of tokens taken.
+-- What a run answers and leaves, with the number of positions taken.
 pub record Ended : Type 0 where
   pub outcome : Outcome
   pub taken : ℕ
@@ -103,13 +105,13 @@ pub record Ended : Type 0 where
 abbrev pub oneMore : Ended → Ended
 oneMore e = record { outcome = e .outcome; taken = e .taken + 1 }
 
--- One step a token, up to the first refusal.
-unfoldable pub ran : Grammar → List (List ℕ) → State → Words → List ℕ → Ended
+-- One step a position, up to the first refusal.
+unfoldable pub ran : Grammar → List (List ℕ) → State → Words → Positions → Ended
 ran g table s v [] = record { outcome = record { number = 0; state = s; words = v }; taken = 0 }
-ran g table s v (t ∷ ts) =
-    elim (eqb (stepped g table s v t .number) 0) [
-      | true ↦ oneMore (ran g table (stepped g table s v t .state) (stepped g table s v t .words) ts)
-      | false ↦ record { outcome = stepped g table s v t; taken = 0 }
+ran g table s v (kinds ∷ a) =
+    elim (eqb (stepped g table s v kinds .number) 0) [
+      | true ↦ oneMore (ran g table (stepped g table s v kinds .state) (stepped g table s v kinds .words) a)
+      | false ↦ record { outcome = stepped g table s v kinds; taken = 0 }
     ]
 
 -- The last item of the latest set has rule 0. A set without items has none.

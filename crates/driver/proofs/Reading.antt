@@ -1,5 +1,5 @@
 -- Parts read one after another: they are one run, the lent slices keep their lengths, and the count of tokens stays a word.
-use mathlib.Core.Path.{_≡_, refl, sym, subst, _∙_}
+use mathlib.Core.Path.{_≡_, refl, sym, ap, subst, _∙_}
 use mathlib.Core.List.{List, [], _++_, append-nil, append-assoc}
 use Prim.Native.Nat.{ℕ, suc, _+_, _-_, _*_, _≤_, _<_}
 use native.Mathlib.Omega.{arith}
@@ -11,6 +11,8 @@ use Rattle.recognizer.specs.declared.Answer.the-variants.{Done, Refused}
 use Rattle.recognizer.specs.declared.Ran.{Ran}
 use Rattle.recognizer.specs.declared.Refusal.{Refusal}
 use Rattle.recognizer.specs.Answers.{outcomeOf, endedOf}
+use Rattle.earley.specs.Positions.{Positions, plain}
+use Rattle.earley.proofs.Spelling.{plain-behind}
 use Rattle.demands.specs.Steps.{Ended}
 use Rattle.demands.specs.Calls.{asItWas, Runs}
 use Rattle.demands.proofs.Singles.{further, runs-join}
@@ -48,7 +50,7 @@ pub data SoFar (file : List ℕ) (s₀ : State) (w₀ : Words) : State → Words
   none : SoFar file s₀ w₀ s₀ w₀ 0 mostParts
   going :
       {s : State} {w : Words} {taken left : ℕ} {before : List ℕ} → Full before left
-      → Runs file s₀ w₀ (tokensOf before) (record { outcome = asItWas 0 s w; taken = taken }) → SoFar file s₀ w₀ s w taken left
+      → Runs file s₀ w₀ (plain (tokensOf before)) (record { outcome = asItWas 0 s w; taken = taken }) → SoFar file s₀ w₀ s w taken left
   over : {s : State} {w : Words} {taken : ℕ} → RunsOver file s₀ w₀ (record { outcome = asItWas 0 s w; taken = taken }) → SoFar file s₀ w₀ s w taken 0
 
 -- One more part as the last.
@@ -60,15 +62,15 @@ one-left {number} {parts} {part} some last =
 module _ {file : List ℕ} {s₀ : State} {w₀ : Words} where
   -- The tokens before a part and its own are one run,
   part-more : {s : State} {w : Words} {taken left : ℕ} {before : List ℕ} (part : List ℕ) {e : Ended} → Full before left
-      → Runs file s₀ w₀ (tokensOf before) (record { outcome = asItWas 0 s w; taken = taken }) → Runs file s w (tokensOf part) e
-      → Runs file s₀ w₀ (tokensOf (before ++ part)) (further taken e)
+      → Runs file s₀ w₀ (plain (tokensOf before)) (record { outcome = asItWas 0 s w; taken = taken }) → Runs file s w (plain (tokensOf part)) e
+      → Runs file s₀ w₀ (plain (tokensOf (before ++ part))) (further taken e)
   part-more {taken = taken} {before = before} part {e = e} f runs more =
-      subst (λ (ts : List ℕ). Runs file s₀ w₀ ts (further taken e)) (sym (tokens-join before part (f .even)))
-      (runs-join file (tokensOf part) e (tokensOf before) runs refl more)
+      subst (λ (a : Positions). Runs file s₀ w₀ a (further taken e)) (plain-behind (tokensOf before) (tokensOf part) ∙ ap plain (sym (tokens-join before part (f .even))))
+      (runs-join file (plain (tokensOf part)) e (plain (tokensOf before)) runs refl more)
 
   -- and so are those of the first alone.
-  part-first : {ts : List ℕ} {e : Ended} → Runs file s₀ w₀ ts e → Runs file s₀ w₀ ts (further 0 e)
-  part-first {ts} {e} runs = subst (λ (n : ℕ). Runs file s₀ w₀ ts (record { outcome = e .outcome; taken = n })) (omega arith) runs
+  part-first : {a : Positions} {e : Ended} → Runs file s₀ w₀ a e → Runs file s₀ w₀ a (further 0 e)
+  part-first {a} {e} runs = subst (λ (n : ℕ). Runs file s₀ w₀ a (record { outcome = e .outcome; taken = n })) (omega arith) runs
 
   -- The last part ends the run.
   one-last : {s : State} {w : Words} {taken parts : ℕ} {e : Ended} → SoFar file s₀ w₀ s w taken parts → 0 < parts → (r : RunsPart file s w e)
@@ -99,7 +101,7 @@ module _ {file : List ℕ} {s₀ : State} {w₀ : Words} where
       -- and so does a part that is not full; a full one does not.
       last-by : r .taken < partTokens → SoFar file s₀ w₀ next v (taken + r .taken) 0
       last-by few =
-          let all = runs-all (part-is is .runs) refl in
+          let all = runs-all (tokensOf (part-is is .part)) (part-is is .runs) refl in
           SoFar.over (one-last before some (part-is is) (one-left some (InParts.not-full (omega (arith, few, all, halves (part-is is .part) .all)))))
 
       full-by : partTokens ≤ r .taken → {left : ℕ} → parts ≡ suc left → SoFar file s₀ w₀ next v (taken + r .taken) left

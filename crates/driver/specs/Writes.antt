@@ -8,6 +8,7 @@ use Rattle.node.specs.Writing.{usableUnits}
 use Rattle.parse.specs.declared.State.{State}
 use Rattle.parse.specs.Words.{Words, maxItems, maxQueued, itemRoom, setRoom, queueRoom, storeRoom}
 use Rattle.demands.specs.Steps.{Outcome, Ended}
+use Rattle.earley.specs.Positions.{plain}
 use Rattle.demands.specs.Calls.{Starts, Runs, Finishes}
 use Rattle.driver.specs.declared.header.Header.the-variants.{Malformed, Broken, Length}
 use Rattle.driver.specs.Header.{Judged}
@@ -22,13 +23,13 @@ lentSets = 256
 pub record RunsPart (file : List ℕ) (s : State) (w : Words) (e : Ended) : Type 0 where
   pub part : List ℕ
   pub few : length part ≤ partBytes
-  pub runs : Runs file s w (tokensOf part) e
+  pub runs : Runs file s w (plain (tokensOf part)) e
 
 -- A run over the tokens of all bytes that were read, part by part.
 pub record RunsOver (file : List ℕ) (s : State) (w : Words) (e : Ended) : Type 0 where
   pub bytes : List ℕ
   pub in-parts : InParts (e .outcome .number) mostParts bytes
-  pub runs : Runs file s w (tokensOf bytes) e
+  pub runs : Runs file s w (plain (tokensOf bytes)) e
 
 -- Whether a parse is finished, whatever the report's number and handle.
 pub record SaysFinished (file : List ℕ) (s : State) (w : Words) (yes : Bool) : Type 0 where

@@ -6,6 +6,7 @@ ghost use lib.Dec.{ltb};
 ghost use Rattle.io.specs.Counts.{Counts};
 ghost use Rattle.driver.specs.Parts.{tokensOf, partBytes, partTokens};
 ghost use Rattle.driver.specs.Writes.{RunsPart, RunsOver};
+ghost use Rattle.earley.specs.Positions.{plain};
 ghost use Rattle.demands.specs.Calls.{Runs};
 ghost use Rattle.recognizer.specs.Answers.{endedOf};
 ghost use Rattle.parse.specs.Words.{wordsOf};
@@ -61,7 +62,7 @@ fn run_part(
     requires { ⌜ length (now part) ≤ partBytes ⌝ }
     ensures calls { λ r. ⌜ Runs (now (file .entry)) state
         (wordsOf (now (items .entry)) (now (starts .entry)) (now (rows .entry)) (now (queue .entry)) (now (store .entry)))
-        (tokensOf (now (part .entry)))
+        (plain (tokensOf (now (part .entry))))
         (endedOf r (wordsOf (now (items .exit)) (now (starts .exit)) (now (rows .exit)) (now (queue .exit)) (now (store .exit)))) ⌝ }
     ensures few { λ r. ⌜ r .taken ≤ partTokens ⌝ }
 {

@@ -1,18 +1,21 @@
 -- What a chart that holds tells of sentences that some choice of kinds spells: its latest row, and rule 0 in its latest set.
-use mathlib.Core.Path.{_≡_, sym, subst}
-use mathlib.Core.List.{[], _∷_}
+use mathlib.Core.Path.{_≡_, sym, ap, _∙_, subst}
+use mathlib.Core.List.{List, [], _∷_, _++_, append-assoc, List·Memᴰ as Member}
 use mathlib.Core.Logic.{_↔_, _⊎_, inl, inr, ⊎-elim}
 use Prim.Native.Nat.{ℕ, _≤_, _<_}
 use native.Mathlib.Decide.{decLe}
 use native.Mathlib.Omega.{arith}
-use lib.ListN.{length}
+use lib.ListN.{length, length-append}
 use Rattle.grammar.specs.Rules.{Grammar, ruleAt}
+use Rattle.grammar.specs.Sentences.{Sentence, Begins}
 use Rattle.grammar.specs.Accepted.{Accepted}
-use Rattle.earley.specs.Positions.{Positions}
+use Rattle.earley.specs.Positions.{Positions, SpellSentence, SpellBeginning}
+use Rattle.earley.proofs.Spelling.{Ended, spelt-last, spelt-on}
 use Rattle.earley.proofs.Predictions.{Pred, Item, says}
 use Rattle.earley.proofs.Wrapper.{which}
-use Rattle.earley.proofs.Viable.{Goes, Chosen, pred-viable, viable-pred, item-sentence, item-first}
+use Rattle.earley.proofs.Viable.{Goes, pred-viable, viable-pred, item-sentence, item-first}
 use Rattle.earley.proofs.Charts.{Chart, Live, Holds}
+use Rattle.earley.proofs.Steps.{Kinds}
 
 -- EXACTLY THE VIABLE KINDS: the latest row has the kinds that some sentence goes on with.
 pub row-viable : {g : Grammar} {a : Positions} {c : Chart} {t : ℕ} → Accepted g → Holds g a c → t < g .tokens
@@ -20,6 +23,53 @@ pub row-viable : {g : Grammar} {a : Positions} {c : Chart} {t : ℕ} → Accepte
 row-viable {g} {t = t} acc h l = (
   λ i. pred-viable acc l (subst (Pred g _ t) (h .ends) (h .row-true (omega arith) i)),
   λ b. h .row-there Live.latest (subst (Pred g _ t) (sym (h .ends)) (viable-pred acc b)),
+)
+
+-- A kind of a position that some sentence goes on with.
+pub record Viable (g : Grammar) (a : Positions) (ks : List ℕ) : Type 0 where
+  pub kind : ℕ
+  pub of : Member kind ks
+  pub goes : Goes g a (length a) (kind ∷ [])
+
+-- A sentence that begins with a word of positions and one behind them goes on with a kind of that one.
+ended-viable : {g : Grammar} {a : Positions} {ks w : List ℕ} → Ended a ks 0 w → Begins g w → Viable g a ks
+ended-viable {g} e b = record {
+  kind = e .kind;
+  of = e .of;
+  goes = record {
+    before = e .before;
+    spelt = e .spelt;
+    rest = b .rest;
+    sentence = subst (Sentence g) (ap (λ (u : List ℕ). u ++ b .rest) (e .is) ∙ append-assoc (e .before) (e .kind ∷ []) (b .rest)) (b .sentence);
+  };
+}
+
+-- A sentence begins with positions and one behind them exactly when it goes on with some kind of that one.
+pub begins-any : {g : Grammar} {a : Positions} {ks : List ℕ} → SpellBeginning g (a ++ (ks ∷ [])) ↔ Viable g a ks
+begins-any {g} {a} {ks} = (
+  λ b. ended-viable (spelt-last a ks (b .spelt) (omega arith) (omega (arith, length-append a (ks ∷ [])))) (b .begins),
+  λ v. record {
+    word = v .goes .before ++ v .kind ∷ [];
+    spelt = spelt-on (v .goes .spelt) (v .of);
+    begins = record {
+      rest = v .goes .rest;
+      sentence = subst (Sentence g) (sym (append-assoc (v .goes .before) (v .kind ∷ []) (v .goes .rest))) (v .goes .sentence);
+    };
+  },
+)
+
+-- A kind of a position that the latest row has.
+pub record InRow (c : Chart) (ks : List ℕ) : Type 0 where
+  pub kind : ℕ
+  pub of : Member kind ks
+  pub held : c .row (c .last) kind
+
+-- EXACTLY THE VIABLE POSITIONS: some kind is in the latest row where a sentence begins with the positions and it, and only there.
+pub row-any : {g : Grammar} {a : Positions} {c : Chart} {ks : List ℕ} → Accepted g → Holds g a c → Kinds g ks
+    → SpellBeginning g (a ++ (ks ∷ [])) ↔ InRow c ks
+row-any acc h small = (
+  λ b. let v = begins-any .0 b in record { kind = v .kind; of = v .of; held = row-viable acc h (small .tokens (v .kind) (v .of)) .1 (v .goes) },
+  λ i. begins-any .1 (record { kind = i .kind; of = i .of; goes = row-viable acc h (small .tokens (i .kind) (i .of)) .0 (i .held) }),
 )
 
 -- The latest set has an item of rule 0.
@@ -36,7 +86,7 @@ wrapped-origin {o = o} acc h l i =
     elim (decLe o 0) [ yes k ↦ omega arith | no k ↦ (let b = h .rising 0 o (omega arith) (omega arith) in absurd (omega arith)) ]
 
 -- EXACTLY THE SENTENCES: the latest set has an item of rule 0 where the positions spell a sentence, and only there.
-pub wrapped-sentence : {g : Grammar} {a : Positions} {c : Chart} → Accepted g → Holds g a c → Wrapped c ↔ Chosen g a
+pub wrapped-sentence : {g : Grammar} {a : Positions} {c : Chart} → Accepted g → Holds g a c → Wrapped c ↔ SpellSentence g a
 wrapped-sentence {g} {a} {c} acc h = (
   λ w.
       let i = h .item-true {s = c .last} (omega arith) (w .item) in

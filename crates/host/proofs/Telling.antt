@@ -1,13 +1,14 @@
 -- An answer in the host's words is that answer.
 use mathlib.Core.Path.{_≡_, ap, sym, subst, subst₂}
 use mathlib.Core.Bool.{Bool, true, false}
-use mathlib.Core.List.{List}
+use mathlib.Core.List.{List, [], _∷_}
 use Prim.Native.Nat.{ℕ, min}
 use Rattle.grammar.specs.Answers as check
 use Rattle.grammar.specs.declared.Checked.{Checked}
 use Rattle.grammar.specs.Rules.{Grammar}
 use Rattle.parse.specs.declared.State.{State}
 use Rattle.parse.specs.Words.{Words}
+use Rattle.earley.specs.Positions.{Positions}
 use Rattle.demands.specs.Steps.{Outcome, Ended}
 use Rattle.recognizer.specs.declared.Answer.{Answer}
 use Rattle.recognizer.specs.declared.Ran.{Ran}
@@ -38,17 +39,17 @@ module _ {file : List ℕ} {s : State} {w v : Words} {n set held used : ℕ} whe
   pub starts-told : (a : Answer) → Starts file s w (outcomeOf a v) → Told a n set held used → Starts file s w (outcomeIn n set held used v)
   starts-told a c t = subst (λ (o : Outcome). Starts file s w o) (told-outcome a v t) c
 
-  -- A number past a u16 is answered as the greatest u16 is.
-  pub takes-told : (t u : ℕ) (a : Answer) → Takes file s w u (outcomeOf a v) → u ≡ min t greatest → Told a n set held used
-      → Takes file s w t (outcomeIn n set held used v)
-  takes-told t u a c narrow told =
-      takes-wide t
-      (subst (λ (o : Outcome). Takes file s w (min t greatest) o) (told-outcome a v told)
-      (subst (λ (x : ℕ). Takes file s w x (outcomeOf a v)) narrow c))
+  pub takes-told : {kinds : List ℕ} (a : Answer) → Takes file s w kinds (outcomeOf a v) → Told a n set held used → Takes file s w kinds (outcomeIn n set held used v)
+  takes-told {kinds} a c t = subst (λ (o : Outcome). Takes file s w kinds o) (told-outcome a v t) c
 
-  pub runs-told : {ts : List ℕ} (r : Ran) → Runs file s w ts (endedOf r v) → Told (r .answer) n set held used
-      → Runs file s w ts (endedIn n set held used v (r .taken))
-  runs-told {ts} r c t = subst (λ (e : Ended). Runs file s w ts e) (told-ended r v t) c
+  -- A number past a u16 is answered as the greatest u16 is.
+  pub token-told : (t u : ℕ) (a : Answer) → Takes file s w (u ∷ []) (outcomeOf a v) → u ≡ min t greatest → Told a n set held used
+      → Takes file s w (t ∷ []) (outcomeIn n set held used v)
+  token-told t u a c narrow told = takes-wide t (takes-told a (subst (λ (x : ℕ). Takes file s w (x ∷ []) (outcomeOf a v)) narrow c) told)
+
+  pub runs-told : {b : Positions} (r : Ran) → Runs file s w b (endedOf r v) → Told (r .answer) n set held used
+      → Runs file s w b (endedIn n set held used v (r .taken))
+  runs-told {b} r c t = subst (λ (e : Ended). Runs file s w b e) (told-ended r v t) c
 
 -- The check's number, once its case is known.
 pub verdict-of : {file : List ℕ} {r c : Checked} → check.Verdict file (check.numberOf r) → r ≡ c → check.Verdict file (check.numberOf c)

@@ -2,10 +2,13 @@
 // of a parse is three words of the host, the set number, the item count and the number of used units. include/brinesaddle.h describes each
 // call for a host.
 ghost use mathlib.Core.Path.{_≡_};
+ghost use mathlib.Core.List.{[], _∷_};
 ghost use lib.ListN.{take};
 ghost use Rattle.grammar.specs.Answers.{Verdict};
 ghost use Rattle.demands.specs.Calls.{Starts, Takes, Runs};
-ghost use Rattle.demands.specs.Sentences.{TokenTells, RunTells, FinishedTells};
+ghost use Rattle.demands.specs.Positions.{positionsIn};
+ghost use Rattle.demands.specs.Sentences.{PositionTells, RunTells, FinishedTells};
+ghost use Rattle.earley.specs.Positions.{plain};
 ghost use Rattle.parse.specs.Words.{wordsOf};
 ghost use Rattle.reports.specs.Lists.{Lists, expectedTokens, latestText, latestWords, latestRecords};
 ghost use Rattle.reports.specs.Sentences.{ExpectedTells};
@@ -95,11 +98,11 @@ pub extern "C" fn brinesaddle_token(
     t: u32,
 ) -> u32
     ensures calls { λ r. ⌜ Takes (now (file .entry)) (stateIn (now (set .entry)) (now (held .entry)) (now (used .entry)))
-        (wordsOf (now (items .entry)) (now (starts .entry)) (now (rows .entry)) (now (queue .entry)) (now (store .entry))) t
+        (wordsOf (now (items .entry)) (now (starts .entry)) (now (rows .entry)) (now (queue .entry)) (now (store .entry))) (t ∷ [])
         (outcomeIn r (now (set .exit)) (now (held .exit)) (now (used .exit))
         (wordsOf (now (items .exit)) (now (starts .exit)) (now (rows .exit)) (now (queue .exit)) (now (store .exit)))) ⌝ }
-    ensures sentences { λ r. ⌜ TokenTells (now (file .entry)) (stateIn (now (set .entry)) (now (held .entry)) (now (used .entry)))
-        (wordsOf (now (items .entry)) (now (starts .entry)) (now (rows .entry)) (now (queue .entry)) (now (store .entry))) t r ⌝ }
+    ensures sentences { λ r. ⌜ PositionTells (now (file .entry)) (stateIn (now (set .entry)) (now (held .entry)) (now (used .entry)))
+        (wordsOf (now (items .entry)) (now (starts .entry)) (now (rows .entry)) (now (queue .entry)) (now (store .entry))) (t ∷ []) r ⌝ }
 {
     let state = State {
         set: *set,
@@ -127,13 +130,13 @@ pub extern "C" fn brinesaddle_run(
 ) -> u32
     ensures calls { λ r. ⌜ Runs (now (file .entry)) (stateIn (now (set .entry)) (now (held .entry)) (now (used .entry)))
         (wordsOf (now (items .entry)) (now (starts .entry)) (now (rows .entry)) (now (queue .entry)) (now (store .entry)))
-        (now (tokens .entry))
+        (plain (now (tokens .entry)))
         (endedIn r (now (set .exit)) (now (held .exit)) (now (used .exit))
         (wordsOf (now (items .exit)) (now (starts .exit)) (now (rows .exit)) (now (queue .exit)) (now (store .exit)))
         (now (taken .exit))) ⌝ }
     ensures sentences { λ r. ⌜ RunTells (now (file .entry)) (stateIn (now (set .entry)) (now (held .entry)) (now (used .entry)))
         (wordsOf (now (items .entry)) (now (starts .entry)) (now (rows .entry)) (now (queue .entry)) (now (store .entry)))
-        (now (tokens .entry))
+        (plain (now (tokens .entry)))
         (endedIn r (now (set .exit)) (now (held .exit)) (now (used .exit))
         (wordsOf (now (items .exit)) (now (starts .exit)) (now (rows .exit)) (now (queue .exit)) (now (store .exit)))
         (now (taken .exit))) ⌝ }
@@ -149,7 +152,78 @@ pub extern "C" fn brinesaddle_run(
     tell(answer, set, held, used)
 }
 
-// Whether the tokens so far are a sentence: 1 or 0 in `yes`, and the start symbol's node in `handle`, all ones where it is 0.
+// Reads one position, of one kind of token or of several, strictly rising.
+#[no_mangle]
+pub extern "C" fn brinesaddle_kinds(
+    file: &[u8],
+    set: &mut usize,
+    held: &mut usize,
+    used: &mut usize,
+    items: &mut [u32],
+    starts: &mut [u32],
+    rows: &mut [u64],
+    queue: &mut [u32],
+    store: &mut [u16],
+    kinds: &[u16],
+) -> u32
+    ensures calls { λ r. ⌜ Takes (now (file .entry)) (stateIn (now (set .entry)) (now (held .entry)) (now (used .entry)))
+        (wordsOf (now (items .entry)) (now (starts .entry)) (now (rows .entry)) (now (queue .entry)) (now (store .entry)))
+        (now (kinds .entry))
+        (outcomeIn r (now (set .exit)) (now (held .exit)) (now (used .exit))
+        (wordsOf (now (items .exit)) (now (starts .exit)) (now (rows .exit)) (now (queue .exit)) (now (store .exit)))) ⌝ }
+    ensures sentences { λ r. ⌜ PositionTells (now (file .entry)) (stateIn (now (set .entry)) (now (held .entry)) (now (used .entry)))
+        (wordsOf (now (items .entry)) (now (starts .entry)) (now (rows .entry)) (now (queue .entry)) (now (store .entry)))
+        (now (kinds .entry)) r ⌝ }
+{
+    let state = State {
+        set: *set,
+        items: *held,
+        used: *used,
+    };
+    let answer = recognizer::kinds(file, state, items, starts, rows, queue, store, kinds);
+    tell(answer, set, held, used)
+}
+
+// Reads positions up to the first that is refused, and tells how many were taken: how many kinds, then the kinds, position by position.
+#[no_mangle]
+pub extern "C" fn brinesaddle_run_kinds(
+    file: &[u8],
+    set: &mut usize,
+    held: &mut usize,
+    used: &mut usize,
+    items: &mut [u32],
+    starts: &mut [u32],
+    rows: &mut [u64],
+    queue: &mut [u32],
+    store: &mut [u16],
+    positions: &[u16],
+    taken: &mut usize,
+) -> u32
+    ensures calls { λ r. ⌜ Runs (now (file .entry)) (stateIn (now (set .entry)) (now (held .entry)) (now (used .entry)))
+        (wordsOf (now (items .entry)) (now (starts .entry)) (now (rows .entry)) (now (queue .entry)) (now (store .entry)))
+        (positionsIn (now (positions .entry)))
+        (endedIn r (now (set .exit)) (now (held .exit)) (now (used .exit))
+        (wordsOf (now (items .exit)) (now (starts .exit)) (now (rows .exit)) (now (queue .exit)) (now (store .exit)))
+        (now (taken .exit))) ⌝ }
+    ensures sentences { λ r. ⌜ RunTells (now (file .entry)) (stateIn (now (set .entry)) (now (held .entry)) (now (used .entry)))
+        (wordsOf (now (items .entry)) (now (starts .entry)) (now (rows .entry)) (now (queue .entry)) (now (store .entry)))
+        (positionsIn (now (positions .entry)))
+        (endedIn r (now (set .exit)) (now (held .exit)) (now (used .exit))
+        (wordsOf (now (items .exit)) (now (starts .exit)) (now (rows .exit)) (now (queue .exit)) (now (store .exit)))
+        (now (taken .exit))) ⌝ }
+{
+    let state = State {
+        set: *set,
+        items: *held,
+        used: *used,
+    };
+    let ran = recognizer::run_kinds(file, state, items, starts, rows, queue, store, positions);
+    *taken = ran.taken;
+    let answer = ran.answer;
+    tell(answer, set, held, used)
+}
+
+// Whether the positions so far spell a sentence: 1 or 0 in `yes`, and the start symbol's node in `handle`, all ones where it is 0.
 #[no_mangle]
 pub extern "C" fn brinesaddle_finished(
     file: &[u8],

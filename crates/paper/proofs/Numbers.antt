@@ -19,9 +19,11 @@ use Rattle.node.specs.Reading.{longRight}
 use Rattle.node.specs.Writing.{put, place, writeUnits}
 use Rattle.completion.specs.Pass.{andThen, store, enqueue, written, append}
 use Rattle.completion.specs.Complete.{completeMedial, completeMedialItems, completeUnary, completeUnaryPredictions, completeBinary, completeBinaryPredictions, complete}
+use Rattle.completion.specs.Scan.{scan, scanAll}
 use Rattle.completion.specs.Sums.{popGreatest, nextSummand, popSum, completeSum, completeAllSums}
 use Rattle.advance.specs.NewItems.{itemsFrom, insert, sortInto, binary}
 use Rattle.advance.specs.Advance.{highest, greatestOrigin, predictions}
+use Rattle.demands.specs.Positions.{isPosition, anyPredicted}
 use Rattle.demands.specs.Steps.{advanced, stepped, ran}
 use Rattle.demands.specs.Calls.{Sound}
 use Rattle.demands.proofs.Tabled.{rowsOf, tableOf}
@@ -145,7 +147,7 @@ parseRows =
     ∷ []
 
 parse-numbers : All parseRows
-unfolding entriesIn parseRows tried ended rulesFrom rowsOf ran stepped advanced complete completeMedial completeMedialItems completeUnary completeUnaryPredictions completeBinary completeBinaryPredictions andThen store enqueue append written writeUnits place put unitsOf rowOf sumRow longProduct aloneRow pairRow productRow leafRow unfit unfitProduct unfitRight bothBelow longRight completeAllSums completeSum popSum nextSummand popGreatest count over until pushQueue popQueue pushed popped move goesUp rise siftUp takesRight child goesDown sink siftDown itemsFrom insert sortInto binary highest greatestOrigin predictions union records.flat
+unfolding entriesIn parseRows tried ended rulesFrom rowsOf ran stepped isPosition anyPredicted advanced scanAll scan complete completeMedial completeMedialItems completeUnary completeUnaryPredictions completeBinary completeBinaryPredictions andThen store enqueue append written writeUnits place put unitsOf rowOf sumRow longProduct aloneRow pairRow productRow leafRow unfit unfitProduct unfitRight bothBelow longRight completeAllSums completeSum popSum nextSummand popGreatest count over until pushQueue popQueue pushed popped move goesUp rise siftUp takesRight child goesDown sink siftDown itemsFrom insert sortInto binary highest greatestOrigin predictions union records.flat
 parse-numbers = (refl, (refl, (refl, (refl, (refl, (refl, (refl, (refl, (refl, (refl, (refl, tt)))))))))))
 
 -- ALL OF THEM, in one table.

@@ -1,4 +1,4 @@
--- A trial: a start in words of given capacities, a run of tokens, and then whether it is finished.
+-- A trial: a start in words of given capacities, a run of tokens, positions of one kind each, and then whether it is finished.
 use mathlib.Core.Path.{_≡_, ap, ap₂, _∙_, subst}
 use mathlib.Core.Bool.{Bool}
 use mathlib.Core.List.{List}
@@ -10,6 +10,7 @@ use Rattle.binary_heap.specs.Entry.{entryWords}
 use Rattle.grammar.specs.File.{grammarOf}
 use Rattle.parse.specs.declared.State.{State}
 use Rattle.parse.specs.Words.{Words, setRoom, within}
+use Rattle.earley.specs.Positions.{plain}
 use Rattle.demands.specs.Steps.{Outcome, Ended, started, ran, lastWraps, finishedHandle}
 use Rattle.demands.specs.Calls.{Sound, Formed, inPlace, inPlaceEnded, Starts, Runs, Finishes}
 use Rattle.demands.specs.Histories.{History}
@@ -62,7 +63,7 @@ module _ (file : List ℕ) (table : List (List ℕ)) (w : Words) where
   begun = inPlace w (started (grammarOf file) table (within w))
 
   unfoldable pub ended : List ℕ → Ended
-  ended ts = inPlaceEnded (begun .words) (ran (grammarOf file) table (begun .state) (within (begun .words)) ts)
+  ended ts = inPlaceEnded (begun .words) (ran (grammarOf file) table (begun .state) (within (begun .words)) (plain ts))
 
   unfoldable pub tried : List ℕ → Printed
   tried ts = reported (ended ts)
@@ -71,18 +72,18 @@ module _ {file : List ℕ} {table : List (List ℕ)} (sound : Sound file (gramma
   begins : {o : Outcome} → Starts file s w o → o ≡ begun file table w
   begins starts = starts-agree starts (Starts.done sound room)
 
-  ends : {o : Outcome} {ts : List ℕ} {e : Ended} → Starts file s w o → Runs file (o .state) (o .words) ts e → e ≡ ended file table w ts
+  ends : {o : Outcome} (ts : List ℕ) {e : Ended} → Starts file s w o → Runs file (o .state) (o .words) (plain ts) e → e ≡ ended file table w ts
   unfolding ended
-  ends {ts = ts} {e = e} starts runs =
-      runs-agree (subst (λ (o : Outcome). Runs file (o .state) (o .words) ts e) (begins starts) runs) (Runs.done (started-ready w sound room))
+  ends ts {e = e} starts runs =
+      runs-agree (subst (λ (o : Outcome). Runs file (o .state) (o .words) (plain ts) e) (begins starts) runs) (Runs.done (started-ready w sound room))
 
   -- WHATEVER THE THREE CALLS ANSWER, by their statements, over any old state, is what the steps give.
-  pub told : {o : Outcome} {ts : List ℕ} {e : Ended} {n handle : ℕ} {yes : Bool} → Starts file s w o → Runs file (o .state) (o .words) ts e
+  pub told : {o : Outcome} (ts : List ℕ) {e : Ended} {n handle : ℕ} {yes : Bool} → Starts file s w o → Runs file (o .state) (o .words) (plain ts) e
       → Finishes file (e .outcome .state) (e .outcome .words) n yes handle → printedOf e yes handle ≡ tried file table w ts
   unfolding tried
-  told {ts = ts} {e = e} starts runs finishes =
+  told ts {e = e} starts runs finishes =
       let agreed = finishes-agree finishes (Finishes.done formed) in
-      ap₂ (printedOf e) (agreed .1) (agreed .2) ∙ ap reported (ends starts runs)
+      ap₂ (printedOf e) (agreed .1) (agreed .2) ∙ ap reported (ends ts starts runs)
     where
       formed : Formed file (e .outcome .state) (e .outcome .words) (grammarOf file)
       formed = record {

@@ -1,4 +1,4 @@
--- Grammar A reads "0 1 0 1 0": under the handle that finished tells are its two trees, in the order of the pops.
+-- Grammar A reads "0 1 0 1 0", and grammar K a position of two kinds: under the handle that finished tells are its two trees, in the order of the pops.
 use mathlib.Core.Path.{_≡_, refl, subst}
 use mathlib.Core.Bool.{true}
 use mathlib.Core.List.{[], _∷_, flatMap}
@@ -23,20 +23,24 @@ use Rattle.node.specs.Reading.{fillers, holds, standAll, stand, factorAt, alone
 use Rattle.node.specs.Writing.{put, place, writeUnits}
 use Rattle.completion.specs.Pass.{andThen, store, enqueue, written, append}
 use Rattle.completion.specs.Complete.{completeMedial, completeMedialItems, completeUnary, completeUnaryPredictions, completeBinary, completeBinaryPredictions, complete}
+use Rattle.completion.specs.Scan.{scan, scanAll}
 use Rattle.completion.specs.Sums.{popGreatest, nextSummand, popSum, completeSum, completeAllSums}
 use Rattle.advance.specs.NewItems.{itemsFrom, insert, sortInto, binary}
 use Rattle.advance.specs.Advance.{highest, greatestOrigin, predictions}
+use Rattle.earley.specs.Positions.{plain}
+use Rattle.demands.specs.Positions.{isPosition, anyPredicted}
 use Rattle.demands.specs.Steps.{Ended, started, advanced, stepped, ran, lastWraps, finishedHandle}
 use Rattle.demands.specs.Calls.{inPlace, inPlaceEnded, Runs, Finishes}
 use Rattle.demands.specs.Histories.{History}
 use Rattle.demands.proofs.Tabled.{rowsOf, tableOf}
 use Rattle.demands.proofs.Again.{Reading, reading-start}
 use Rattle.demands.proofs.Lasting.{lasts, lasts-holding}
-use Rattle.demands.proofs.Examples.{file-a, grammar-a, rows-a, sound-a}
+use Rattle.demands.proofs.Examples.{file-a, grammar-a, rows-a, sound-a, state, file-k, sound-k, words-k1, both-k}
+use Rattle.forest.specs.Trees.{leaf, one}
 use Rattle.forest.specs.Stores.{productsAt, nodeAt, treesAt}
 use Rattle.forest.proofs.Examples.{word, first-two, last-two}
-use Rattle.planting.specs.Finished.{TreesOf}
-use Rattle.planting.proofs.Lasting.{finished-trees}
+use Rattle.planting.specs.Finished.{TreesOf, TokenTrees}
+use Rattle.planting.proofs.Lasting.{finished-trees, plain-trees}
 
 -- Words with room for six sets, and a start in them.
 abbrev roomy : Words
@@ -53,25 +57,36 @@ start = reading-start fresh roomy sound-a (omega arith) refl
 
 -- The run.
 abbrev ended : Ended
-ended = inPlaceEnded begun (ran grammar-a (tableOf rows-a) fresh (within begun) word)
+ended = inPlaceEnded begun (ran grammar-a (tableOf rows-a) fresh (within begun) (plain word))
 
-history : History file-a (ended .outcome .state) (ended .outcome .words) word
-unfolding entriesIn advanced stepped ran andThen store enqueue append written writeUnits place put unitsOf rowOf sumRow longProduct aloneRow pairRow productRow leafRow unfit unfitProduct unfitRight bothBelow longRight count completeMedial completeMedialItems completeUnary completeUnaryPredictions completeBinary completeBinaryPredictions complete popGreatest nextSummand popSum completeSum completeAllSums over until union records.flat highest greatestOrigin predictions itemsFrom insert sortInto binary pushQueue popQueue pushed popped move goesUp rise siftUp takesRight child goesDown sink siftDown rowsOf
-history = History.run {us = word} {e = ended} (start .history) (Runs.done (start .ready))
+history : History file-a (ended .outcome .state) (ended .outcome .words) (plain word)
+unfolding entriesIn isPosition anyPredicted scan scanAll advanced stepped ran andThen store enqueue append written writeUnits place put unitsOf rowOf sumRow longProduct aloneRow pairRow productRow leafRow unfit unfitProduct unfitRight bothBelow longRight count completeMedial completeMedialItems completeUnary completeUnaryPredictions completeBinary completeBinaryPredictions complete popGreatest nextSummand popSum completeSum completeAllSums over until union records.flat highest greatestOrigin predictions itemsFrom insert sortInto binary pushQueue popQueue pushed popped move goesUp rise siftUp takesRight child goesDown sink siftDown rowsOf
+history = History.run {b = plain word} {e = ended} (start .history) (Runs.done (start .ready))
 
 -- Finished says yes,
 says : lastWraps (ended .outcome .state) (within (ended .outcome .words)) ≡ true
-unfolding entriesIn advanced stepped ran andThen store enqueue append written writeUnits place put unitsOf rowOf sumRow longProduct aloneRow pairRow productRow leafRow unfit unfitProduct unfitRight bothBelow longRight count completeMedial completeMedialItems completeUnary completeUnaryPredictions completeBinary completeBinaryPredictions complete popGreatest nextSummand popSum completeSum completeAllSums over until union records.flat highest greatestOrigin predictions itemsFrom insert sortInto binary pushQueue popQueue pushed popped move goesUp rise siftUp takesRight child goesDown sink siftDown rowsOf
+unfolding entriesIn isPosition anyPredicted scan scanAll advanced stepped ran andThen store enqueue append written writeUnits place put unitsOf rowOf sumRow longProduct aloneRow pairRow productRow leafRow unfit unfitProduct unfitRight bothBelow longRight count completeMedial completeMedialItems completeUnary completeUnaryPredictions completeBinary completeBinaryPredictions complete popGreatest nextSummand popSum completeSum completeAllSums over until union records.flat highest greatestOrigin predictions itemsFrom insert sortInto binary pushQueue popQueue pushed popped move goesUp rise siftUp takesRight child goesDown sink siftDown rowsOf
 says = refl
 
 -- and these are the trees under its handle.
 are : treesAt (ended .outcome .words .store) (finishedHandle (ended .outcome .state) (within (ended .outcome .words))) ≡ first-two ∷ last-two ∷ []
-unfolding entriesIn advanced stepped ran andThen store enqueue append written writeUnits place put unitsOf rowOf sumRow longProduct aloneRow pairRow productRow leafRow unfit unfitProduct unfitRight bothBelow longRight count completeMedial completeMedialItems completeUnary completeUnaryPredictions completeBinary completeBinaryPredictions complete popGreatest nextSummand popSum completeSum completeAllSums over until union records.flat highest greatestOrigin predictions itemsFrom insert sortInto binary pushQueue popQueue pushed popped move goesUp rise siftUp takesRight child goesDown sink siftDown rowsOf nodeAt productsAt fillers holds standAll stand factorAt alone paired nearSpelt leafSpelt flatMap
+unfolding entriesIn isPosition anyPredicted scan scanAll advanced stepped ran andThen store enqueue append written writeUnits place put unitsOf rowOf sumRow longProduct aloneRow pairRow productRow leafRow unfit unfitProduct unfitRight bothBelow longRight count completeMedial completeMedialItems completeUnary completeUnaryPredictions completeBinary completeBinaryPredictions complete popGreatest nextSummand popSum completeSum completeAllSums over until union records.flat highest greatestOrigin predictions itemsFrom insert sortInto binary pushQueue popQueue pushed popped move goesUp rise siftUp takesRight child goesDown sink siftDown rowsOf nodeAt productsAt fillers holds standAll stand factorAt alone paired nearSpelt leafSpelt flatMap
 are = refl
 
 -- So "0 1 0 1 0" has these two trees, and no other.
-pub two-trees-a : TreesOf (grammarOf file-a) word (first-two ∷ last-two ∷ [])
+pub two-trees-a : TokenTrees (grammarOf file-a) word (first-two ∷ last-two ∷ [])
 two-trees-a =
-    subst (TreesOf (grammarOf file-a) word) are
+    plain-trees word .0
+    (subst (TreesOf (grammarOf file-a) (plain word)) are
     (finished-trees
-    (Finishes.done (record { checked = sound-a .checked; well-formed = lasts-holding (lasts history) (sound-a .checked) .well })) .trees word history says)
+    (Finishes.done (record { checked = sound-a .checked; well-formed = lasts-holding (lasts history) (sound-a .checked) .well })) .trees (plain word) history says))
+
+-- Where the word is 0 or 1, K has a tree for each: `2 1`, then `1 0`.
+are-k : treesAt (words-k1 .store) (finishedHandle (state 1 1 5) (within words-k1)) ≡ one 2 (leaf 1) ∷ one 1 (leaf 0) ∷ []
+unfolding unitsOf rowOf sumRow longProduct aloneRow pairRow productRow leafRow unfit unfitProduct unfitRight bothBelow longRight nodeAt productsAt fillers holds standAll stand factorAt alone paired nearSpelt leafSpelt flatMap rowsOf
+are-k = refl
+
+pub two-trees-k : TreesOf (grammarOf file-k) ((0 ∷ 1 ∷ []) ∷ []) (one 2 (leaf 1) ∷ one 1 (leaf 0) ∷ [])
+two-trees-k =
+    subst (TreesOf (grammarOf file-k) ((0 ∷ 1 ∷ []) ∷ [])) are-k
+    (finished-trees (Finishes.done (record { checked = sound-k .checked; well-formed = both-k .ready .well-formed })) .trees ((0 ∷ 1 ∷ []) ∷ []) (both-k .history) refl)

@@ -10,13 +10,15 @@ use Rattle.grammar.specs.Rules.{Rule}
 use Rattle.parse.specs.WellFormed.{leftOf}
 use Rattle.completion.specs.Pass.{Pass}
 use Rattle.completion.specs.Complete.{complete}
+use Rattle.completion.specs.Scan.{scanAll}
 use Rattle.completion.specs.Sums.{greatest, summed}
 use Rattle.completion.specs.inner.Ready.{IsSet}
 use Rattle.completion.specs.inner.Pending.{Grounds, Pending}
 use Rattle.completion.proofs.Entries.{entriesOf}
 use Rattle.completion.proofs.Charting.{greatest-charts}
 use Rattle.completion.proofs.Heaped.{Heaped, sound-entries}
-use Rattle.completion.proofs.Pending.{Lower, pending-steady, pop-lower, complete-lower, first-lower}
+use Rattle.completion.proofs.Pending.{Lower, pending-steady, pop-lower, complete-lower}
+use Rattle.completion.proofs.Scanning.{Leaf, scan-all-lower}
 use Rattle.completion.proofs.Once.{Beneath, HasRule, beneath-other, lower-beneath, pairOf}
 use Rattle.completion.proofs.Once as once
 use Rattle.forest.proofs.Entries.{Pair, Order}
@@ -63,14 +65,14 @@ module _ {rs : List Rule} {starts rows : List ℕ} (grounds : Grounds rs starts 
       lower-beneath grounds k x (itemAt (t .items) (e .place)) (heaped .steady .charted .rules (e .place) place)
       (every-member (λ v. Lower rs k x (itemAt (t .items) (v .place))) (heaped .ordered .each) m)
 
-  -- After the first completion all entries are of pairs beneath its own;
-  pub first-beneath : (s : Pass) → Pending rs starts s → (k x link : ℕ) → IsSet starts k → s .at .queued ≡ 0 → (e : Entry)
-      → Member e (entriesOf (complete rs starts rows k x link s))
-      → Beneath rs (record { set = k; symbol = x }) (pairOf rs (itemAt (complete rs starts rows k x link s .items) (e .place)))
-  first-beneath s pending k x link set none =
-      heaped-beneath k x s (complete rs starts rows k x link s) (first-lower grounds s pending k x link set none)
+  -- After the scanning of kinds all entries are of pairs beneath that of the set and any token;
+  pub scan-beneath : (s : Pass) → Pending rs starts s → (k : ℕ) → IsSet starts k → s .at .queued ≡ 0 → (kinds : List ℕ) (x : ℕ) → Leaf rs x → (e : Entry)
+      → Member e (entriesOf (scanAll rs starts rows k kinds s))
+      → Beneath rs (record { set = k; symbol = x }) (pairOf rs (itemAt (scanAll rs starts rows k kinds s .items) (e .place)))
+  scan-beneath s pending k set none kinds x leaf =
+      heaped-beneath k x s (scanAll rs starts rows k kinds s) (scan-all-lower rows s pending k set kinds none x leaf)
 
-  -- and so they are after the pops of a sum, and after its pair was completed too.
+  -- and so are those left after the pops of a sum of pairs beneath the sum's, and after its pair was completed too.
   pub rest-beneath : (s : Pass) → Pending rs starts s → 0 < s .at .queued → (e : Entry)
       → Member e (entriesOf (summed rs (greatest s .origin) (leftOf rs (greatest s)) s))
       → Beneath rs (pairOf rs (greatest s)) (pairOf rs (itemAt (summed rs (greatest s .origin) (leftOf rs (greatest s)) s .items) (e .place)))

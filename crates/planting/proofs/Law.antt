@@ -2,14 +2,17 @@
 use mathlib.Core.Path.{_≡_, refl, sym, _∙_, ap, subst, subst₂}
 use mathlib.Core.Bool.{Bool, true, false, not, _||_}
 use mathlib.Core.List.{List, [], _∷_, map}
-use mathlib.Core.List.{List·Memᴰ as Member, List·Memᴰ·head as here, List·Memᴰ·tail as there, List·Memᴰ·eq-of-singleton as only}
+use mathlib.Core.List.{List·Memᴰ as Member, List·Memᴰ·head as here, List·Memᴰ·tail as there}
 use mathlib.Core.Logic.{_↔_}
 use Prim.Native.Nat.{ℕ, zero, suc, _-_, _≤_}
 use native.Mathlib.Decide.{ℕ-discrete}
 use native.Mathlib.Omega.{arith}
-use lib.ListN.{length, length-map}
+use lib.ListN.{length, getD, length-map}
 use lib.Dec.{eqb}
 use borrow.Author.Tests.{eq-eqb, ne-eqb}
+use Rattle.laws.specs.Bits.{rowOf}
+use Rattle.laws.proofs.Bits.{true-holds}
+use Rattle.bits.specs.Width.{rowWords}
 use Rattle.item.specs.Item.{Item, itemAt, ruleAt, handleAt}
 use Rattle.binary_heap.specs.Entry.{Entry, entryKey}
 use Rattle.binary_heap.specs.Sift.{entryAt}
@@ -96,9 +99,9 @@ productsOf (sum ps) = ps
 productsOf (token t) = []
 productsOf other = []
 
-module _ {g : Grammar} {st : State} {v : Words} {kind : ℕ} (a : Unrefused g st v kind) where
+module _ {g : Grammar} {st : State} {v : Words} {kinds : List ℕ} (a : Unrefused g st v kinds) where
   abbrev end : Pass
-  end = completed g st v kind
+  end = completed g st v kinds
 
   abbrev is : Items
   is = itemsOf st v end
@@ -110,8 +113,8 @@ module _ {g : Grammar} {st : State} {v : Words} {kind : ℕ} (a : Unrefused g st
   handle-laws = handles g (chartOf st v) is (beneath-order (g .rules)) (charted a) (tied a)
 
   -- What the rules of completion give is what is completed.
-  done-completes : {k x : ℕ} → steps.Done g (chartOf st v) (kind ∷ []) k x → Completes g st v kind k x
-  done-completes (steps.Done.scanned m r) = subst (Completes g st v kind (st .set)) (sym (only m)) Completes.scanned
+  done-completes : {k x : ℕ} → steps.Done g (chartOf st v) kinds k x → Completes g st v kinds k x
+  done-completes (steps.Done.scanned m r) = Completes.scanned m r
   done-completes (steps.Done.unary says d y x) = Completes.unary says (done-completes d) y x
   done-completes (steps.Done.closed says d z i) =
       Completes.closed {a = handleAt (v .items) (i .place)} says (done-completes d) z
@@ -121,8 +124,8 @@ module _ {g : Grammar} {st : State} {v : Words} {kind : ℕ} (a : Unrefused g st
         is = λ j. record { origin = i .origin j; rule = i .rule j; handle = handleAt (v .items) (i .place) };
       })
 
-  completes-done : {k x : ℕ} → Completes g st v kind k x → steps.Done g (chartOf st v) (kind ∷ []) k x
-  completes-done Completes.scanned = steps.Done.scanned (here refl) (a .row)
+  completes-done : {k x : ℕ} → Completes g st v kinds k x → steps.Done g (chartOf st v) kinds k x
+  completes-done (Completes.scanned m r) = steps.Done.scanned m r
   completes-done (Completes.unary says d y x) = steps.Done.unary says (completes-done d) y x
   completes-done (Completes.closed says d z i) =
       steps.Done.closed says (completes-done d) z
@@ -133,7 +136,7 @@ module _ {g : Grammar} {st : State} {v : Words} {kind : ℕ} (a : Unrefused g st
         rule = ap (λ (j : Item). j .rule) (i .is);
       })
 
-  completes-node : {k x : ℕ} → Completes g st v kind k x ↔ HasNode (Linked turns) k x
+  completes-node : {k x : ℕ} → Completes g st v kinds k x ↔ HasNode (Linked turns) k x
   completes-node {k} {x} = (
     (λ c. let d = steps.pass-all (pass a) (completes-done c) in record { handle = d .handle; is = d .linked }),
     λ n. done-completes (pass a .sound (record { handle = n .handle; linked = n .is })),
@@ -173,12 +176,12 @@ module _ {g : Grammar} {st : State} {v : Words} {kind : ℕ} (a : Unrefused g st
       unitStore (end .units) .reads (p .stands) ∙ p .is-node .sums big
 
   -- The Sum of a completed pair.
-  sum-of : {k x h : ℕ} → Linked turns k x h → g .tokens ≤ x → SumOf g st v kind (Linked turns) k x h
+  sum-of : {k x h : ℕ} → Linked turns k x h → g .tokens ≤ x → SumOf g st v kinds (Linked turns) k x h
   sum-of {k} {x} {h} l big =
       let f : forests.SumOf (unitStore (end .units) .nodeAt) h (forests.Summand g (chartOf st v) handle-laws k x) =
       sums g (chartOf st v) is (beneath-order (g .rules)) (charted a) (tied a) (rising a) (calling a) (unitStore (end .units) .nodeAt) (g .tokens) stands-sum k x h l big in
       let big-turn : g .tokens ≤ l .turn .pair .symbol = omega (arith, l .symbol) in
-      let at : PoppedAt (a .accepted) st v kind _ end (l .turn) = so-far a .popped (l .turn) (l .member) big-turn in
+      let at : PoppedAt (a .accepted) st v kinds _ end (l .turn) = so-far a .popped (l .turn) (l .member) big-turn in
       let its : f .products ≡ map (entries.productOf is) (l .turn .products) =
       ap productsOf (sym (f .stands) ∙ ap (unitStore (end .units) .nodeAt) (sym (l .handle)) ∙ stands-sum (l .turn) (l .member) big-turn) in
       record {
@@ -205,7 +208,7 @@ module _ {g : Grammar} {st : State} {v : Words} {kind : ℕ} (a : Unrefused g st
       }
 
   -- THE LAW.
-  pub step-planted : Planted g st v kind
+  pub step-planted : Planted g st v kinds
   step-planted =
       record {
         NodeOf = Linked turns;
@@ -219,6 +222,7 @@ module _ {g : Grammar} {st : State} {v : Words} {kind : ℕ} (a : Unrefused g st
             subst₂ (λ h x. unitStore (end .units) .nodeAt h ≡ token x) (l .handle) (l .symbol)
             (unitStore (end .units) .reads (p .stands) ∙ p .is-node .leaf (omega (arith, l .symbol)));
         sums = sum-of;
+        leaves = λ i less row. so-far a .leaves i less (true-holds (rowOf rowWords (v .rows) (st .set)) (getD kinds i 0) row);
         behind = λ l. (
           let from = handles-from (so-far a .writing) (l .turn) (l .member) in omega (arith, l .handle),
           let to = handles-before (so-far a .writing) (l .turn) (l .member) in omega (arith, l .handle),

@@ -3,6 +3,7 @@ pub mod Falling
 pub mod Popping
 pub mod Pushing
 pub mod Written
+pub mod Scans
 pub mod Places
 pub mod Looping
 pub mod Turns

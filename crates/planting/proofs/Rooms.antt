@@ -1,11 +1,18 @@
 -- No node of a step is unfit, and refusal 14 is for room alone.
-use mathlib.Core.Path.{_≡_, refl}
+use mathlib.Core.Path.{_≡_, refl, _∙_, subst}
 use mathlib.Core.Bool.{false}
+use mathlib.Core.List.{List}
 use mathlib.Core.Logic.{_↔_, ⊎-elim}
-use Prim.Native.Nat.{ℕ, _+_, _*_, _<_}
+use Prim.Native.Nat.{ℕ, zero, suc, _+_, _*_, _≤_, _<_}
+use native.Mathlib.Decide.{ℕ-discrete}
 use native.Mathlib.Omega.{arith}
-use lib.ListN.{length, length-take}
+use lib.ListN.{length, getD, take, length-take}
+use lib.Seq.{take-length}
+use Rattle.laws.specs.Bits.{rowOf}
+use Rattle.laws.proofs.Bits.{holds-true}
+use Rattle.laws.proofs.Tests.{either-way}
 use Rattle.laws.proofs.Turns.{until-keeps}
+use Rattle.bits.specs.Width.{rowWords}
 use Rattle.grammar.specs.Rules.{Grammar}
 use Rattle.grammar.specs.Accepted.{Accepted}
 use Rattle.node.specs.Rows.{unfit, unitsAt}
@@ -17,25 +24,29 @@ use Rattle.parse.specs.Words.{Words}
 use Rattle.parse.specs.WellFormed.{WellFormed, leftOf}
 use Rattle.parse.proofs.Heads.{meets-below}
 use Rattle.completion.specs.Pass.{Pass, append, storeFull}
-use Rattle.completion.specs.Complete.{complete}
+use Rattle.completion.specs.Complete.{predicted, complete}
+use Rattle.completion.specs.Scan.{scan, scanAll}
 use Rattle.completion.specs.Sums.{greatest, popGreatest, nextSummand, popSum, summed, completeSum, rests, completeAllSums}
 use Rattle.completion.specs.inner.Ready.{IsSet}
 use Rattle.completion.specs.inner.Pending.{Grounds, Pending}
-use Rattle.completion.proofs.Entries.{entries-length, append-queued}
+use Rattle.completion.proofs.Pushes.{stays}
+use Rattle.completion.proofs.Entries.{entries-length}
 use Rattle.completion.proofs.Turning.{sum-goes, not-resting}
 use Rattle.completion.proofs.Charting.{Charts, Steady, steady-refl, steady-append, steady-pop, steady-summed, greatest-charts}
-use Rattle.completion.proofs.Pending.{pending-steady, pending-append, pending-sum, first-pending}
+use Rattle.completion.proofs.Pending.{pending-steady, pending-append, pending-complete, pending-sum}
+use Rattle.completion.proofs.Scanning.{scan-all-keeps}
 use Rattle.completion.proofs.Beginning.{beginning, accepted-grounds, begins-pending, is-set}
-use Rattle.demands.specs.Steps.{completed}
+use Rattle.demands.specs.Steps.{scanned, completed}
 use Rattle.planting.specs.Unrefused.{Within}
 use Rattle.planting.specs.Pops.{Reached}
 use Rattle.planting.specs.Room.{sumNode, summandsOn, Due, Lacks, RoomAlone}
 use Rattle.planting.proofs.Pushing.{Good, complete-good}
-use Rattle.planting.proofs.Written.{append-more, sum-node-good}
+use Rattle.planting.proofs.Written.{append-good, append-more, sum-node-good}
+use Rattle.planting.proofs.Scans.{scan-used, scan-passed, scan-next}
 use Rattle.planting.proofs.Refusing.{complete-full, append-ends, Refuses, refuses}
 use Rattle.planting.proofs.Fitting.{Low, LowSteady, append-lacks, low-append, low-complete, low-summands, product-is-fit, sum-is-fit}
 
-module _ {g : Grammar} (accepted : Accepted g) {s : State} {v : Words} (well : WellFormed (g .symbols) (g .rules) s v) (within : Within v) (t : ℕ) where
+module _ {g : Grammar} (accepted : Accepted g) {s : State} {v : Words} (well : WellFormed (g .symbols) (g .rules) s v) (within : Within v) (kinds : List ℕ) where
   grounds : Grounds (g .rules) (v .starts) (v .rows)
   grounds = accepted-grounds g accepted (v .starts) (v .rows) (within .rowed)
 
@@ -44,12 +55,6 @@ module _ {g : Grammar} (accepted : Accepted g) {s : State} {v : Words} (well : W
 
   latest-set : IsSet (v .starts) (s .set)
   latest-set = is-set well (accepted .few-rules) (within .few-items) (within .few-entries) (within .rowed) (s .set) (omega arith)
-
-  abbrev begun : Pass
-  begun = append (Evaluated t) (beginning s v)
-
-  begun-pending : Pending (g .rules) (v .starts) begun
-  begun-pending = pending-append (beginning s v) begins (Evaluated t)
 
   -- A well-formed state's handles are heads of nodes among the used units.
   begins-low : Low (beginning s v)
@@ -63,15 +68,24 @@ module _ {g : Grammar} (accepted : Accepted g) {s : State} {v : Words} (well : W
     pub pending : Pending (g .rules) (v .starts) u
     pub low : Good u → Low u
 
-  first-low : LowPending (complete (g .rules) (v .starts) (v .rows) (s .set) t (s .used) begun)
-  first-low = record {
-    pending = first-pending grounds begun begun-pending (s .set) t (s .used) latest-set (append-queued (Evaluated t) (beginning s v));
-    low = λ good.
-        low-complete (g .rules) (v .starts) (v .rows) (s .set) t (s .used) latest-set begun
-        (append-more (Evaluated t) (beginning s v)
-        (complete-good (g .rules) (v .starts) (v .rows) (s .set) t (s .used) latest-set begun (begun-pending .sound) (begun-pending .charted) good))
-        (pending-steady begun begun-pending) (low-append (beginning s v) (begins .sound) begins-low (Evaluated t));
-  }
+  scanned-low : (some : List ℕ) → LowPending (scanned g s v some)
+  scanned-low some =
+      scan-all-keeps (g .rules) (v .starts) (v .rows) (s .set) some LowPending (λ t u m row l. kind-low t u l) (beginning s v)
+      (record { pending = begins; low = λ good. begins-low })
+    where
+      kind-low : (t : ℕ) (u : Pass) → LowPending u
+          → LowPending (complete (g .rules) (v .starts) (v .rows) (s .set) t (u .at .used) (append (Evaluated t) u))
+      kind-low t u l =
+          let leaf : Pending (g .rules) (v .starts) (append (Evaluated t) u) = pending-append u (l .pending) (Evaluated t) in
+          record {
+            pending = pending-complete (append (Evaluated t) u) leaf (v .rows) (s .set) t (u .at .used) latest-set;
+            low = λ good.
+                let on : Good (append (Evaluated t) u) =
+                complete-good (g .rules) (v .starts) (v .rows) (s .set) t (u .at .used) latest-set (append (Evaluated t) u) (leaf .sound) (leaf .charted) good in
+                low-complete (g .rules) (v .starts) (v .rows) (s .set) t (u .at .used) latest-set (append (Evaluated t) u) (append-more (Evaluated t) u on)
+                (pending-steady (append (Evaluated t) u) leaf)
+                (low-append u (l .pending .sound) (l .low (append-good (Evaluated t) u on)) (Evaluated t));
+          }
 
   sum-low : (u : Pass) → rests u ≡ false → LowPending u → LowPending (completeSum (g .rules) (v .starts) (v .rows) u)
   unfolding completeSum popSum
@@ -112,14 +126,14 @@ module _ {g : Grammar} (accepted : Accepted g) {s : State} {v : Words} (well : W
           steady-pop (g .rules) (v .starts) (append (sumNode g u) u) k x (append (sumNode g u) u)
           (steady-refl (g .rules) (v .starts) (append (sumNode g u) u) (node-steady .sound) (node-steady .charted))
 
-  reached-low : {u : Pass} → Reached g s v t u → LowPending u
-  reached-low Reached.first = first-low
+  reached-low : {u : Pass} → Reached g s v kinds u → LowPending u
+  reached-low Reached.kinds-scanned = scanned-low kinds
   reached-low (Reached.sum {u = u} reached goes) = sum-low u goes (reached-low reached)
 
   -- EACH NODE THAT IS DUE IS FIT.
-  due-fit : {u : Pass} {n : Node} → Due g s v t u n → unfit (u .at .used) n ≡ false
+  due-fit : {u : Pass} {n : Node} → Due g s v kinds u n → unfit (u .at .used) n ≡ false
   unfolding unfit popGreatest
-  due-fit Due.leaf = refl
+  due-fit (Due.leaf i there row) = refl
   due-fit (Due.sum {u = u} reached goes) =
       sum-is-fit (g .rules) (u .at .used) (greatest u .origin) (leftOf (g .rules) (greatest u)) u (reached-low reached .pending .sound)
   due-fit (Due.product {u = u} n reached goes on) =
@@ -133,19 +147,43 @@ module _ {g : Grammar} (accepted : Accepted g) {s : State} {v : Words} (well : W
       (sum-goes (g .rules) k x (summandsOn g u n) on)
 
   -- ROOM ALONE: it is refused exactly where it does not fit.
-  due-room : {u : Pass} {n : Node} → Due g s v t u n → u .at .stopped ≡ 0
+  due-room : {u : Pass} {n : Node} → Due g s v kinds u n → u .at .stopped ≡ 0
       → (append n u .at .stopped ≡ storeFull) ↔ (length (usable (u .units)) < u .at .used + length (unitsAt (u .at .used) n))
   due-room {u} {n} due on = append-lacks u n on (due-fit due)
 
-  due-lacks : {u : Pass} {n : Node} → Due g s v t u n → u .at .stopped ≡ 0 → append n u .at .stopped ≡ storeFull → Lacks g s v t
+  due-lacks : {u : Pass} {n : Node} → Due g s v kinds u n → u .at .stopped ≡ 0 → append n u .at .stopped ≡ storeFull → Lacks g s v kinds
   due-lacks {u} {n} due on stopped = record { pass = u; node = n; due = due; on = on; full = due-room due on .0 stopped }
 
-  -- A step that is refused with 14 met such a node: its own,
-  first-lacks : complete (g .rules) (v .starts) (v .rows) (s .set) t (s .used) begun .at .stopped ≡ storeFull → Lacks g s v t
-  first-lacks stopped = due-lacks Due.leaf refl (complete-full (g .rules) (v .starts) (v .rows) (s .set) t (s .used) begun stopped)
+  -- A step that is refused with 14 met such a node: that of a kind,
+  kinds-lack : (n : ℕ) → n ≤ length kinds → scanned g s v (take n kinds) .at .stopped ≡ storeFull → Lacks g s v kinds
+  unfolding scanAll append
+  kinds-lack zero le full = absurd (omega arith)
+  kinds-lack (suc n) le full =
+      let before : scanned g s v (take n kinds) .at .stopped ≡ storeFull → Lacks g s v kinds = kinds-lack n (omega arith) in
+      either-way (predicted (v .rows) (s .set) t)
+      (λ row.
+      let at-leaf : append (Evaluated t) here .at .stopped ≡ storeFull =
+      complete-full (g .rules) (v .starts) (v .rows) (s .set) t (here .at .used) (append (Evaluated t) here)
+      (subst (λ (u : Pass). u .at .stopped ≡ storeFull) (next ∙ scan-used (g .rules) (v .starts) (v .rows) (s .set) t here row) full) in
+      elim (ℕ-discrete (here .at .stopped) 0) [
+        | yes on ↦ due-lacks (Due.leaf n le (holds-true (rowOf rowWords (v .rows) (s .set)) t row)) on at-leaf
+        | no not ↦ before (subst (λ (u : Pass). u .at .stopped ≡ storeFull) (stays here _ not) at-leaf)
+      ])
+      (λ off.
+      before
+      (subst (λ (u : Pass). u .at .stopped ≡ storeFull) (next ∙ scan-passed (g .rules) (v .starts) (v .rows) (s .set) t here off) full))
+    where
+      t : ℕ
+      t = getD kinds n 0
+
+      here : Pass
+      here = scanned g s v (take n kinds)
+
+      next : scanned g s v (take (suc n) kinds) ≡ scan (g .rules) (v .starts) (v .rows) (s .set) (getD kinds n 0) (scanned g s v (take n kinds))
+      next = scan-next (g .rules) (v .starts) (v .rows) (s .set) kinds n (beginning s v) le
 
   -- or that of a Sum or of one of its summands.
-  sum-lacks : (u : Pass) → Reached g s v t u → rests u ≡ false → completeSum (g .rules) (v .starts) (v .rows) u .at .stopped ≡ storeFull → Lacks g s v t
+  sum-lacks : (u : Pass) → Reached g s v kinds u → rests u ≡ false → completeSum (g .rules) (v .starts) (v .rows) u .at .stopped ≡ storeFull → Lacks g s v kinds
   unfolding completeSum popSum nextSummand popGreatest
   sum-lacks u reached goes stopped =
       let k : ℕ = greatest u .origin in
@@ -163,16 +201,19 @@ module _ {g : Grammar} (accepted : Accepted g) {s : State} {v : Words} (well : W
 
   -- A pass that the step comes to, and why it was refused, if with 14.
   record Reason (u : Pass) : Type 0 where
-    pub reached : Reached g s v t u
-    pub lacks : u .at .stopped ≡ storeFull → Lacks g s v t
+    pub reached : Reached g s v kinds u
+    pub lacks : u .at .stopped ≡ storeFull → Lacks g s v kinds
 
-  step-lacks : completed g s v t .at .stopped ≡ storeFull → Lacks g s v t
+  step-lacks : completed g s v kinds .at .stopped ≡ storeFull → Lacks g s v kinds
   unfolding completeAllSums
   step-lacks =
       until-keeps rests (completeSum (g .rules) (v .starts) (v .rows)) Reason
       (λ u goes reason. record { reached = Reached.sum (reason .reached) goes; lacks = sum-lacks u (reason .reached) goes })
-      (length (v .starts) * length (g .rules)) (complete (g .rules) (v .starts) (v .rows) (s .set) t (s .used) begun)
-      (record { reached = Reached.first; lacks = first-lacks }) .lacks
+      (length (v .starts) * length (g .rules)) (scanned g s v kinds)
+      (record {
+        reached = Reached.kinds-scanned;
+        lacks = subst (λ l. scanned g s v l .at .stopped ≡ storeFull → Lacks g s v kinds) (take-length kinds) (kinds-lack (length kinds) (omega arith));
+      }) .lacks
 
-  pub room-alone : RoomAlone g s v t
+  pub room-alone : RoomAlone g s v kinds
   room-alone = record { fit = due-fit; room = due-room; lacks = step-lacks }

@@ -1,6 +1,6 @@
 -- The trees of one step: under the handle of each completed pair are exactly its derivations, each once, and the items of the sets keep theirs.
 use mathlib.Core.Path.{sym, subst}
-use mathlib.Core.List.{[], _∷_, _++_}
+use mathlib.Core.List.{List, [], _∷_, _++_}
 use Prim.Native.Nat.{ℕ, suc, _≤_}
 use lib.ListN.{length}
 use Rattle.item.specs.Item.{Item, originAt, ruleAt, handleAt}
@@ -13,14 +13,13 @@ use Rattle.demands.specs.Steps.{completed}
 use Rattle.demands.proofs.Chart.{chartOf}
 use Rattle.earley.specs.Positions.{Positions}
 use Rattle.earley.proofs.Charts.{Holds}
-use Rattle.earley.proofs.Plain.{one-kind}
 use Rattle.forest.proofs.Entries.{Items, Linked}
 use Rattle.forest.proofs.Units.{unitStore}
 use Rattle.forest.proofs.Whole.{Lasting, Handled, whole, held-stays}
 use Rattle.planting.specs.Unrefused.{Unrefused}
 use Rattle.planting.proofs.Falling.{beneath-order}
 use Rattle.planting.proofs.Places.{itemsOf, in-sets, same-item}
-use Rattle.planting.proofs.Rest.{passed, so-far, past, run, charted, kind-read}
+use Rattle.planting.proofs.Rest.{tokens, passed, so-far, past, run, charted, kinds-read}
 
 -- The items of a state.
 abbrev pub heldItems : Words → Items
@@ -37,10 +36,10 @@ heldItems v =
 abbrev pub HandledState : {g : Grammar} {a : Positions} (st : State) (v : Words) → Holds g a (chartOf st v) → Type 0
 HandledState st v h = Handled h (heldItems v) (unitStore (v .store)) (st .used)
 
-module _ {g : Grammar} {st : State} {v : Words} {kind : ℕ} (unrefused : Unrefused g st v kind) {a : Positions} (h : Holds g a (chartOf st v))
+module _ {g : Grammar} {st : State} {v : Words} {kinds : List ℕ} (unrefused : Unrefused g st v kinds) {a : Positions} (h : Holds g a (chartOf st v))
     (handled : HandledState st v h) where
   abbrev end : Pass
-  end = completed g st v kind
+  end = completed g st v kinds
 
   -- The items at the end of the pass have the handles that they had.
   handled-end : Handled h (itemsOf st v end) (unitStore (v .store)) (st .used)
@@ -55,17 +54,17 @@ module _ {g : Grammar} {st : State} {v : Words} {kind : ℕ} (unrefused : Unrefu
   abbrev inside : (k p : ℕ) → InSet v k p → k ≤ st .set
   inside = in-sets (unrefused .accepted) (unrefused .well) (unrefused .within .few-items) (unrefused .within .few-entries) (unrefused .within .rowed)
 
-  -- EACH COMPLETED PAIR has exactly the derivations of its symbol from its set's position to behind the token.
+  -- EACH COMPLETED PAIR has exactly the derivations of its symbol from its set's position to behind the position.
   pub pair-trees : (k x p : ℕ) → Linked (past unrefused) k x p
-      → Lasting g (a ++ (kind ∷ []) ∷ []) (unitStore (end .units)) (end .at .used) x (h .pos k) (suc (length a)) p
+      → Lasting g (a ++ kinds ∷ []) (unitStore (end .units)) (end .at .used) x (h .pos k) (suc (length a)) p
   pair-trees =
-      whole (unrefused .accepted) h (one-kind (unrefused .is-token)) (itemsOf st v end) (beneath-order (g .rules)) (charted unrefused) (so-far unrefused .looped)
-      (run unrefused) (so-far unrefused .writing) inside handled-end (so-far unrefused .begun) (kind-read unrefused)
+      whole (unrefused .accepted) h (tokens unrefused) (itemsOf st v end) (beneath-order (g .rules)) (charted unrefused) (so-far unrefused .looped)
+      (run unrefused) (so-far unrefused .writing) inside handled-end (so-far unrefused .begun) (kinds-read unrefused)
 
   -- The items of the sets keep theirs.
   pub item-trees : (k p : ℕ) → InSet v k p
-      → Lasting g (a ++ (kind ∷ []) ∷ []) (unitStore (end .units)) (end .at .used) (grammarRule g (ruleAt (end .items) p) .first)
+      → Lasting g (a ++ kinds ∷ []) (unitStore (end .units)) (end .at .used) (grammarRule g (ruleAt (end .items) p) .first)
       (h .pos (originAt (end .items) p)) (h .pos k) (handleAt (end .items) p)
   item-trees =
-      held-stays (unrefused .accepted) h (one-kind (unrefused .is-token)) (itemsOf st v end) (beneath-order (g .rules)) (charted unrefused)
+      held-stays (unrefused .accepted) h (tokens unrefused) (itemsOf st v end) (beneath-order (g .rules)) (charted unrefused)
       (so-far unrefused .looped) (run unrefused) (so-far unrefused .writing) inside handled-end

@@ -191,12 +191,6 @@ module _ (rs : List Rule) (k x : ℕ) where
   unfolding popSum
   sum-node-good s good = until-good (append (Sum (summands rs k x s) x) s .at .queued) (append (Sum (summands rs k x s) x) s) good
 
-  pub summed-good : (s : Pass) → Good (summed rs k x s) → Good s
-  unfolding popSum
-  summed-good s good =
-      let n : Node = Sum (summands rs k x s) x in
-      append-good n s (until-good (append n s .at .queued) (append n s) good)
-
 -- COUNTING BEFORE WRITING: the number in the Sum is the number of its Products.
 pub summands-length : {rs : List Rule} {starts rows : List ℕ} → Grounds rs starts rows → (s : Pass) → Pending rs starts s → 0 < s .at .queued
     → summands rs (greatest s .origin) (leftOf rs (greatest s)) s ≡ length (productsFor rs (greatest s .origin) (leftOf rs (greatest s)) s)

@@ -14,15 +14,14 @@ use Rattle.parse.specs.declared.State.{State}
 use Rattle.parse.specs.Words.{Words}
 use Rattle.parse.specs.WellFormed.{leftOf}
 use Rattle.completion.specs.Pass.{Pass}
-use Rattle.completion.specs.Complete.{complete}
 use Rattle.completion.specs.Sums.{greatest, sumEnds, popGreatest, completeSum, rests}
 use Rattle.demands.specs.Steps.{scanned}
 use Rattle.forest.specs.Forests.{Product, alone, paired}
 
--- A pass that a token's step comes to: behind the first completion, and behind each sum.
-pub data Reached (g : Grammar) (s : State) (v : Words) (t : ℕ) : Pass → Type 0 where
-  first : Reached g s v t (complete (g .rules) (v .starts) (v .rows) (s .set) t (s .used) (scanned s v t))
-  sum : {u : Pass} → Reached g s v t u → rests u ≡ false → Reached g s v t (completeSum (g .rules) (v .starts) (v .rows) u)
+-- A pass that a position's step comes to: behind its kinds, and behind each sum.
+pub data Reached (g : Grammar) (s : State) (v : Words) (kinds : List ℕ) : Pass → Type 0 where
+  kinds-scanned : Reached g s v kinds (scanned g s v kinds)
+  sum : {u : Pass} → Reached g s v kinds u → rests u ≡ false → Reached g s v kinds (completeSum (g .rules) (v .starts) (v .rows) u)
 
 -- The entries of one origin and left side that a queue gives, greatest first.
 unfoldable pub poppedOf : List Rule → ℕ → ℕ → ℕ → Pass → List Entry
@@ -40,9 +39,9 @@ productOf items e =
     (paired (ruleAt items (e .place)) (handleAt items (e .place)) (e .right))
 
 -- The Products of the Sum of (k, x) at `h` are those that the step popped, in the order of its pops, when it came to this pair.
-pub record Popped (g : Grammar) (s : State) (v : Words) (t k x h : ℕ) (products : List Product) : Type 0 where
+pub record Popped (g : Grammar) (s : State) (v : Words) (kinds : List ℕ) (k x h : ℕ) (products : List Product) : Type 0 where
   pub pass : Pass
-  pub reached : Reached g s v t pass
+  pub reached : Reached g s v kinds pass
   pub set : greatest pass .origin ≡ k
   pub symbol : leftOf (g .rules) (greatest pass) ≡ x
   pub handle : pass .at .used ≡ h

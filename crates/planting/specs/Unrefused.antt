@@ -1,6 +1,8 @@
 -- A step that was not refused up to the end of step 3.
 use mathlib.Core.Path.{_≡_}
-use Prim.Native.Nat.{ℕ, _*_, _≤_, _<_}
+use mathlib.Core.Bool.{true}
+use mathlib.Core.List.{List}
+use Prim.Native.Nat.{ℕ, _*_, _≤_}
 use lib.ListN.{length}
 use Rattle.laws.specs.Bits.{Holds, rowOf}
 use Rattle.bits.specs.Width.{rowWords}
@@ -12,6 +14,7 @@ use Rattle.parse.specs.declared.State.{State}
 use Rattle.parse.specs.Words.{Words, maxItems, maxQueued}
 use Rattle.parse.specs.WellFormed.{WellFormed}
 use Rattle.completion.specs.inner.Ready.{Rowed}
+use Rattle.demands.specs.Positions.{isPosition}
 use Rattle.demands.specs.Steps.{completed}
 
 -- Words within the capacities.
@@ -24,11 +27,10 @@ pub record Within (v : Words) : Type 0 where
 abbrev pub InRow : Words → ℕ → ℕ → Type 0
 InRow v k x = Holds (rowOf rowWords (v .rows) k) x
 
--- A token that the latest row has, on a well-formed state of an accepted grammar; and steps 2 and 3 met no refusal.
-pub record Unrefused (g : Grammar) (s : State) (v : Words) (t : ℕ) : Type 0 where
+-- A position on a well-formed state of an accepted grammar; and steps 2 and 3 met no refusal.
+pub record Unrefused (g : Grammar) (s : State) (v : Words) (kinds : List ℕ) : Type 0 where
   pub accepted : Accepted g
   pub well : WellFormed (g .symbols) (g .rules) s v
   pub within : Within v
-  pub is-token : t < g .tokens
-  pub row : InRow v (s .set) t
-  pub on : completed g s v t .at .stopped ≡ 0
+  pub is-position : isPosition (g .tokens) kinds ≡ true
+  pub on : completed g s v kinds .at .stopped ≡ 0

@@ -8,6 +8,7 @@ use Rattle.grammar.specs.Rules.{Grammar}
 use Rattle.grammar.specs.Prediction.{Predicts}
 use Rattle.parse.specs.declared.State.{State}
 use Rattle.parse.specs.Words.{Words, setRoom, within}
+use Rattle.earley.specs.Positions.{Positions}
 use Rattle.demands.specs.Steps.{Outcome, Ended, stepped, ran}
 use Rattle.demands.specs.Calls.{Formed, Ready, inPlace, inPlaceEnded, Takes, Runs}
 use Rattle.recognizer.specs.inner.Steppable.{Steppable}
@@ -35,10 +36,10 @@ module _ {file : List ℕ} {s : State} {w : Words} {g : Grammar} {table : List (
   ready : Ready file s w g table
   ready = record { sound = record { checked = formed .checked; predicts = predicts }; well-formed = formed .well-formed }
 
-  -- What a step comes to is what a token's contract tells, ..
-  pub takes : (t : ℕ) {o : Outcome} → o ≡ inPlace w (stepped g table s (within w) t) → Takes file s w t o
-  takes t came = subst (Takes file s w t) (sym came) (Takes.done ready)
+  -- What a step comes to is what the contract of one position tells, ..
+  pub takes : (kinds : List ℕ) {o : Outcome} → o ≡ inPlace w (stepped g table s (within w) kinds) → Takes file s w kinds o
+  takes kinds came = subst (Takes file s w kinds) (sym came) (Takes.done ready)
 
-  -- .. and what a step a token comes to what a run's tells.
-  pub runs : (ts : List ℕ) {e : Ended} → e ≡ inPlaceEnded w (ran g table s (within w) ts) → Runs file s w ts e
-  runs ts came = subst (Runs file s w ts) (sym came) (Runs.done ready)
+  -- .. and what a step a position comes to what a run's tells.
+  pub runs : (a : Positions) {e : Ended} → e ≡ inPlaceEnded w (ran g table s (within w) a) → Runs file s w a e
+  runs a came = subst (Runs file s w a) (sym came) (Runs.done ready)

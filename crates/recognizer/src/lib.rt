@@ -1,4 +1,4 @@
-// The calls on a parse: start, token, run, finished, latest set.
+// The calls on a parse: start; token and run; kinds and run_kinds, where a position may have several kinds; finished, latest set.
 
 mod file;
 pub mod ready;
@@ -6,10 +6,13 @@ mod step;
 mod within;
 
 ghost use mathlib.Core.Path.{_≡_};
+ghost use mathlib.Core.List.{[], _∷_};
 ghost use Rattle.recognizer.specs.Answers.{refusalNumber, numberOf, stateOf, outcomeOf, endedOf, finishedNumber, saysYes, saysHandle};
 ghost use Rattle.demands.specs.Calls.{Starts, Takes, Runs, Finishes, Reports};
 ghost use Rattle.parse.specs.Words.{wordsOf};
-ghost use Rattle.demands.specs.Sentences.{TokenTells, RunTells, FinishedTells};
+ghost use Rattle.demands.specs.Sentences.{PositionTells, RunTells, FinishedTells};
+ghost use Rattle.demands.specs.Positions.{positionsIn};
+ghost use Rattle.earley.specs.Positions.{plain};
 use crate::file::Opened;
 use crate::file::open;
 use crate::ready::Readied;
@@ -42,13 +45,13 @@ pub enum Refusal {
     StoreFull,
 }
 
-// What start and token answer: the state as it is now.
+// What start, token and kinds answer: the state as it is now.
 pub enum Answer {
     Done(State),
     Refused(Refusal, State),
 }
 
-// What a run answers: the first refusal or done, and the number of tokens taken.
+// What a run answers: the first refusal or done, and the number of positions taken.
 pub struct Ran {
     pub answer: Answer,
     pub taken: usize,
@@ -105,10 +108,10 @@ pub fn token(
     t: u16,
 ) -> Answer
     ensures calls { λ r. ⌜ Takes (now (file .entry)) state
-        (wordsOf (now (items .entry)) (now (starts .entry)) (now (rows .entry)) (now (queue .entry)) (now (store .entry))) t
+        (wordsOf (now (items .entry)) (now (starts .entry)) (now (rows .entry)) (now (queue .entry)) (now (store .entry))) (t ∷ [])
         (outcomeOf r (wordsOf (now (items .exit)) (now (starts .exit)) (now (rows .exit)) (now (queue .exit)) (now (store .exit)))) ⌝ }
-    ensures sentences { λ r. ⌜ TokenTells (now (file .entry)) state
-        (wordsOf (now (items .entry)) (now (starts .entry)) (now (rows .entry)) (now (queue .entry)) (now (store .entry))) t (numberOf r) ⌝ }
+    ensures sentences { λ r. ⌜ PositionTells (now (file .entry)) state
+        (wordsOf (now (items .entry)) (now (starts .entry)) (now (rows .entry)) (now (queue .entry)) (now (store .entry))) (t ∷ []) (numberOf r) ⌝ }
 {
     let mut rules = [0; WORDS];
     let sizes = match ready(file, state, items, starts, rows, queue, store, &mut rules) {
@@ -116,6 +119,7 @@ pub fn token(
         Readied::Formed(found) => found,
     };
     let table = prediction::table(&rules, sizes.symbols, sizes.rules);
+    let kinds = [t];
     step_within(
         &rules,
         sizes,
@@ -126,7 +130,7 @@ pub fn token(
         rows,
         queue,
         store,
-        t as usize,
+        &kinds[..1],
     )
 }
 
@@ -143,11 +147,11 @@ pub fn run(
 ) -> Ran
     ensures calls { λ r. ⌜ Runs (now (file .entry)) state
         (wordsOf (now (items .entry)) (now (starts .entry)) (now (rows .entry)) (now (queue .entry)) (now (store .entry)))
-        (now (tokens .entry))
+        (plain (now (tokens .entry)))
         (endedOf r (wordsOf (now (items .exit)) (now (starts .exit)) (now (rows .exit)) (now (queue .exit)) (now (store .exit)))) ⌝ }
     ensures sentences { λ r. ⌜ RunTells (now (file .entry)) state
         (wordsOf (now (items .entry)) (now (starts .entry)) (now (rows .entry)) (now (queue .entry)) (now (store .entry)))
-        (now (tokens .entry))
+        (plain (now (tokens .entry)))
         (endedOf r (wordsOf (now (items .exit)) (now (starts .exit)) (now (rows .exit)) (now (queue .exit)) (now (store .exit)))) ⌝ }
 {
     let mut rules = [0; WORDS];
@@ -173,7 +177,88 @@ pub fn run(
     )
 }
 
-// Whether the tokens so far are a sentence.
+// Reads one position, of one kind of token or of several, strictly rising. Kinds that are not predicted are passed over.
+pub fn kinds(
+    file: &[u8],
+    state: State,
+    items: &mut [u32],
+    starts: &mut [u32],
+    rows: &mut [u64],
+    queue: &mut [u32],
+    store: &mut [u16],
+    kinds: &[u16],
+) -> Answer
+    ensures calls { λ r. ⌜ Takes (now (file .entry)) state
+        (wordsOf (now (items .entry)) (now (starts .entry)) (now (rows .entry)) (now (queue .entry)) (now (store .entry))) (now (kinds .entry))
+        (outcomeOf r (wordsOf (now (items .exit)) (now (starts .exit)) (now (rows .exit)) (now (queue .exit)) (now (store .exit)))) ⌝ }
+    ensures sentences { λ r. ⌜ PositionTells (now (file .entry)) state
+        (wordsOf (now (items .entry)) (now (starts .entry)) (now (rows .entry)) (now (queue .entry)) (now (store .entry)))
+        (now (kinds .entry)) (numberOf r) ⌝ }
+{
+    let mut rules = [0; WORDS];
+    let sizes = match ready(file, state, items, starts, rows, queue, store, &mut rules) {
+        Readied::Refused(why) => return Answer::Refused(why, state),
+        Readied::Formed(found) => found,
+    };
+    let table = prediction::table(&rules, sizes.symbols, sizes.rules);
+    step_within(
+        &rules,
+        sizes,
+        &table,
+        state,
+        items,
+        starts,
+        rows,
+        queue,
+        store,
+        kinds,
+    )
+}
+
+// Reads positions up to the first that is refused: how many kinds, then the kinds, position by position. One that is cut off is refused as no token is.
+pub fn run_kinds(
+    file: &[u8],
+    state: State,
+    items: &mut [u32],
+    starts: &mut [u32],
+    rows: &mut [u64],
+    queue: &mut [u32],
+    store: &mut [u16],
+    positions: &[u16],
+) -> Ran
+    ensures calls { λ r. ⌜ Runs (now (file .entry)) state
+        (wordsOf (now (items .entry)) (now (starts .entry)) (now (rows .entry)) (now (queue .entry)) (now (store .entry)))
+        (positionsIn (now (positions .entry)))
+        (endedOf r (wordsOf (now (items .exit)) (now (starts .exit)) (now (rows .exit)) (now (queue .exit)) (now (store .exit)))) ⌝ }
+    ensures sentences { λ r. ⌜ RunTells (now (file .entry)) state
+        (wordsOf (now (items .entry)) (now (starts .entry)) (now (rows .entry)) (now (queue .entry)) (now (store .entry)))
+        (positionsIn (now (positions .entry)))
+        (endedOf r (wordsOf (now (items .exit)) (now (starts .exit)) (now (rows .exit)) (now (queue .exit)) (now (store .exit)))) ⌝ }
+{
+    let mut rules = [0; WORDS];
+    let sizes = match ready(file, state, items, starts, rows, queue, store, &mut rules) {
+        Readied::Refused(why) => return Ran {
+            answer: Answer::Refused(why, state),
+            taken: 0,
+        },
+        Readied::Formed(found) => found,
+    };
+    let table = prediction::table(&rules, sizes.symbols, sizes.rules);
+    within::run_kinds_within(
+        &rules,
+        sizes,
+        &table,
+        state,
+        items,
+        starts,
+        rows,
+        queue,
+        store,
+        positions,
+    )
+}
+
+// Whether the positions so far spell a sentence.
 pub fn finished(
     file: &[u8],
     state: State,

@@ -1,9 +1,11 @@
-// A token's steps on a well-formed state, in words within the capacities.
+// The steps of a position on a well-formed state, in words within the capacities.
 ghost use mathlib.Core.Path.{_≡_};
-ghost use Prim.Native.Nat.{_*_, _≤_, _<_};
-ghost use lib.ListN.{length, replicate, take};
+ghost use Prim.Native.Nat.{_*_, _≤_};
+ghost use lib.ListN.{length, take};
 ghost use Rattle.item.specs.Item.{itemWords};
 ghost use Rattle.completion.specs.Pass.{passOver};
+ghost use Rattle.completion.specs.inner.Ready.{HasRow, KindsFit};
+ghost use Rattle.demands.specs.Positions.{isPosition, anyPredicted};
 ghost use Rattle.demands.specs.Steps.{completed, stepped};
 ghost use Rattle.recognizer.specs.Answers.{refusalNumber, outcomeOf};
 ghost use Rattle.parse.specs.Words.{wordsOf, padded, filled};
@@ -15,16 +17,44 @@ use advance::Advanced;
 use completion::Progress;
 use completion::pass::ITEMS_FULL;
 use completion::pass::QUEUE_FULL;
-use completion::pass::append;
+use completion::scan::scan_all;
 use completion::sums::complete_all_sums_entirely;
 use grammar::rules::Rules;
 use item::ITEM_WORDS;
-use node::Node;
 use parse::State;
 use prediction::Table;
 
-// Steps 2 and 3: writes the token's node, completes the latest set and the token, and then sum after sum.
-fn complete_token(
+// Whether there is a kind, each is greater than the one before it, and the last is a token.
+fn is_position(kinds: &[u16], tokens: usize) -> bool
+    ensures { λ r. ⌜ r ≡ isPosition tokens (now (kinds .entry)) ⌝ }
+{
+    let many = kinds.len();
+    if many == 0 {
+        return false;
+    }
+    for i in 1..many {
+        if kinds[i] <= kinds[i - 1] {
+            return false;
+        }
+    }
+    (kinds[many - 1] as usize) < tokens
+}
+
+// Whether some kind is predicted at set `e`.
+fn any_predicted(rows: &[u64], e: usize, kinds: &[u16]) -> bool
+    requires { ⌜ HasRow (now rows) e × KindsFit (now kinds) ⌝ }
+    ensures { λ r. ⌜ r ≡ anyPredicted (now (rows .entry)) e (now (kinds .entry)) ⌝ }
+{
+    for i in 0..kinds.len() {
+        if bits::has_at(rows, e, kinds[i] as usize) {
+            return true;
+        }
+    }
+    false
+}
+
+// Steps 2 and 3: completes the latest set and each kind that is predicted, and then sum after sum.
+fn complete_position(
     rules: &Rules,
     sizes: Sizes,
     table: &Table,
@@ -34,13 +64,13 @@ fn complete_token(
     rows: &[u64],
     queue: &mut [u32],
     store: &mut [u16],
-    t: usize,
+    kinds: &[u16],
 ) -> Progress
     requires { ⌜ Steppable (grammarFrom (now rules) sizes) (now table) state
-        (wordsOf (now items) (now starts) (now rows) (now queue) (now store)) × (t < sizes .tokens) ⌝ }
+        (wordsOf (now items) (now starts) (now rows) (now queue) (now store)) × KindsFit (now kinds) ⌝ }
     ensures { λ r. ⌜ passOver r (now (items .exit)) (now (queue .exit)) (now (store .exit))
         ≡ completed (grammarFrom (now (rules .entry)) sizes) state
-        (wordsOf (now (items .entry)) (now (starts .entry)) (now (rows .entry)) (now (queue .entry)) (now (store .entry))) t ⌝ }
+        (wordsOf (now (items .entry)) (now (starts .entry)) (now (rows .entry)) (now (queue .entry)) (now (store .entry))) (now (kinds .entry)) ⌝ }
 {
     let count = sizes.rules;
     let begun = Progress {
@@ -49,25 +79,22 @@ fn complete_token(
         queued: 0,
         used: state.used,
     };
-    let symbol = t as u32;
-    let link = state.used as u32;
-    let written = append(store, Node::Evaluated { symbol }, begun);
-    let scanned = completion::complete(
+    let scanned = scan_all(
         rules,
         count,
         items,
         starts,
         rows,
         queue,
+        store,
         state.set,
-        t,
-        link,
-        written,
+        kinds,
+        begun,
     );
     complete_all_sums_entirely(rules, count, items, starts, rows, queue, store, scanned)
 }
 
-// Makes fillers of the units that a refused token wrote.
+// Makes fillers of the units that a refused position wrote.
 fn unwrite(store: &mut [u16], used: usize)
     requires { ⌜ used ≤ length (now store) ⌝ }
     ensures { λ _. ⌜ now (store .exit) ≡ filled (length (now (store .entry))) (take used (now (store .entry))) ⌝ }
@@ -105,7 +132,7 @@ fn full(stopped: u32) -> Refusal
     Refusal::StoreFull
 }
 
-// A token: steps 1 to 6, or the refusal that they meet, which leaves state and words as they were.
+// A position: steps 1 to 6, or the refusal that they meet, which leaves state and words as they were.
 pub fn step(
     rules: &Rules,
     sizes: Sizes,
@@ -116,23 +143,23 @@ pub fn step(
     rows: &mut [u64],
     queue: &mut [u32],
     store: &mut [u16],
-    t: usize,
+    kinds: &[u16],
 ) -> Answer
     requires { ⌜ Steppable (grammarFrom (now rules) sizes) (now table) state
         (wordsOf (now items) (now starts) (now rows) (now queue) (now store)) ⌝ }
     ensures { λ r. ⌜ outcomeOf r
         (wordsOf (now (items .exit)) (now (starts .exit)) (now (rows .exit)) (now (queue .exit)) (now (store .exit)))
         ≡ stepped (grammarFrom (now (rules .entry)) sizes) (now (table .entry)) state
-        (wordsOf (now (items .entry)) (now (starts .entry)) (now (rows .entry)) (now (queue .entry)) (now (store .entry))) t ⌝ }
+        (wordsOf (now (items .entry)) (now (starts .entry)) (now (rows .entry)) (now (queue .entry)) (now (store .entry))) (now (kinds .entry)) ⌝ }
 {
-    if t >= sizes.tokens {
+    if !is_position(kinds, sizes.tokens) {
         return Answer::Refused(Refusal::NoToken, state);
     }
     let e = state.set;
-    if !bits::has_at(rows, e, t) {
+    if !any_predicted(rows, e, kinds) {
         return Answer::Refused(Refusal::NotPredicted, state);
     }
-    let pass = complete_token(
+    let pass = complete_position(
         rules,
         sizes,
         table,
@@ -142,7 +169,7 @@ pub fn step(
         rows,
         queue,
         store,
-        t,
+        kinds,
     );
     let stopped = pass.stopped;
     if stopped != 0 {

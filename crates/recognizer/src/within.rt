@@ -9,6 +9,8 @@ ghost use lib.ListN.{length};
 ghost use Rattle.bits.specs.Width.{rowWords};
 ghost use Rattle.parse.specs.Words.{setRoomOf, within, wordsOf};
 ghost use Rattle.parse.specs.WellFormed.{WellFormed};
+ghost use Rattle.earley.specs.Positions.{plain};
+ghost use Rattle.demands.specs.Positions.{positionsIn};
 ghost use Rattle.demands.specs.Steps.{stepped, ran};
 ghost use Rattle.demands.specs.Calls.{inPlace, inPlaceEnded};
 ghost use Rattle.recognizer.specs.inner.Cuts.{clearedWords, begunWords, LatestThere, lastWrapsIn, latestPartIn};
@@ -16,6 +18,7 @@ ghost use Rattle.recognizer.specs.Answers.{outcomeOf, endedOf};
 ghost use Rattle.recognizer.specs.inner.Steppable.{grammarFrom, Steppable};
 use crate::Answer;
 use crate::Ran;
+use crate::Refusal;
 use crate::Sizes;
 use crate::step::step;
 use binary_heap::entry::ENTRY_WORDS;
@@ -72,7 +75,7 @@ pub fn well_formed(
     )
 }
 
-// A token's steps in the words within the capacities. The words past them stay.
+// The steps of a position in the words within the capacities. The words past them stay.
 pub fn step_within(
     rules: &Rules,
     sizes: Sizes,
@@ -83,7 +86,7 @@ pub fn step_within(
     rows: &mut [u64],
     queue: &mut [u32],
     store: &mut [u16],
-    t: usize,
+    kinds: &[u16],
 ) -> Answer
     requires { ⌜ Steppable (grammarFrom (now rules) sizes) (now table) state
         (within (wordsOf (now items) (now starts) (now rows) (now queue) (now store))) ⌝ }
@@ -91,7 +94,7 @@ pub fn step_within(
         (wordsOf (now (items .exit)) (now (starts .exit)) (now (rows .exit)) (now (queue .exit)) (now (store .exit)))
         ≡ inPlace (wordsOf (now (items .entry)) (now (starts .entry)) (now (rows .entry)) (now (queue .entry)) (now (store .entry)))
         (stepped (grammarFrom (now (rules .entry)) sizes) (now (table .entry)) state
-        (within (wordsOf (now (items .entry)) (now (starts .entry)) (now (rows .entry)) (now (queue .entry)) (now (store .entry)))) t) ⌝ }
+        (within (wordsOf (now (items .entry)) (now (starts .entry)) (now (rows .entry)) (now (queue .entry)) (now (store .entry)))) (now (kinds .entry))) ⌝ }
 {
     let item_end = ITEM_WORDS * item_room(items);
     let sets = set_room(starts, rows);
@@ -109,7 +112,7 @@ pub fn step_within(
         &mut rows[..row_end],
         &mut queue[..queue_end],
         &mut store[..store_end],
-        t,
+        kinds,
     )
 }
 
@@ -133,12 +136,11 @@ pub fn run_within(
         ≡ inPlaceEnded (wordsOf (now (items .entry)) (now (starts .entry)) (now (rows .entry)) (now (queue .entry)) (now (store .entry)))
         (ran (grammarFrom (now (rules .entry)) sizes) (now (table .entry)) state
         (within (wordsOf (now (items .entry)) (now (starts .entry)) (now (rows .entry)) (now (queue .entry)) (now (store .entry))))
-        (now (tokens .entry))) ⌝ }
+        (plain (now (tokens .entry)))) ⌝ }
 {
     let mut now = state;
     let mut taken = 0;
     while taken < tokens.len() {
-        let t = token_number(tokens[taken]);
         match step_within(
             rules,
             sizes,
@@ -149,7 +151,7 @@ pub fn run_within(
             rows,
             queue,
             store,
-            t,
+            &tokens[taken..taken + 1],
         ) {
             Answer::Done(next) => now = next,
             Answer::Refused(why, kept) => return Ran {
@@ -158,6 +160,68 @@ pub fn run_within(
             },
         }
         taken += 1;
+    }
+    Ran {
+        answer: Answer::Done(now),
+        taken: taken,
+    }
+}
+
+// Reads positions up to the first that is refused, in the words within the capacities: how many kinds, then the kinds, position by position.
+pub fn run_kinds_within(
+    rules: &Rules,
+    sizes: Sizes,
+    table: &Table,
+    state: State,
+    items: &mut [u32],
+    starts: &mut [u32],
+    rows: &mut [u64],
+    queue: &mut [u32],
+    store: &mut [u16],
+    positions: &[u16],
+) -> Ran
+    requires { ⌜ Steppable (grammarFrom (now rules) sizes) (now table) state
+        (within (wordsOf (now items) (now starts) (now rows) (now queue) (now store))) × Predicts (grammarFrom (now rules) sizes)
+        rowWords (now table) ⌝ }
+    ensures { λ r. ⌜ endedOf r (wordsOf (now (items .exit)) (now (starts .exit)) (now (rows .exit)) (now (queue .exit)) (now (store .exit)))
+        ≡ inPlaceEnded (wordsOf (now (items .entry)) (now (starts .entry)) (now (rows .entry)) (now (queue .entry)) (now (store .entry)))
+        (ran (grammarFrom (now (rules .entry)) sizes) (now (table .entry)) state
+        (within (wordsOf (now (items .entry)) (now (starts .entry)) (now (rows .entry)) (now (queue .entry)) (now (store .entry))))
+        (positionsIn (now (positions .entry)))) ⌝ }
+{
+    let mut now = state;
+    let mut taken = 0;
+    let mut at = 0;
+    while at < positions.len() {
+        let first = at + 1;
+        let many = positions[at] as usize;
+        if many > positions.len() - first {
+            return Ran {
+                answer: Answer::Refused(Refusal::NoToken, now),
+                taken: taken,
+            };
+        }
+        let behind = first + many;
+        match step_within(
+            rules,
+            sizes,
+            table,
+            now,
+            items,
+            starts,
+            rows,
+            queue,
+            store,
+            &positions[first..behind],
+        ) {
+            Answer::Done(next) => now = next,
+            Answer::Refused(why, kept) => return Ran {
+                answer: Answer::Refused(why, kept),
+                taken: taken,
+            },
+        }
+        taken += 1;
+        at = behind;
     }
     Ran {
         answer: Answer::Done(now),
@@ -244,10 +308,4 @@ pub fn latest_part<'a>(state: State, items: &'a [u32], starts: &[u32]) -> &'a [u
     let from = ITEM_WORDS * wide(starts[set]);
     let to = ITEM_WORDS * state.items;
     &items[from..to]
-}
-
-fn token_number(token: u16) -> usize
-    ensures { λ r. ⌜ r ≡ token ⌝ }
-{
-    token as usize
 }

@@ -2,7 +2,7 @@
 use mathlib.Core.Path.{_≡_, refl, sym, ap, subst, _∙_}
 use mathlib.Core.Bool.{true}
 use mathlib.Core.Logic.{_↔_, inl, inr}
-use mathlib.Core.List.{List, [], _∷_, _++_}
+use mathlib.Core.List.{List, [], _∷_, _++_, List·Memᴰ·head as here, List·Memᴰ·eq-of-singleton as only}
 use Prim.Native.Nat.{ℕ, _-_, _<_}
 use native.Mathlib.Omega.{arith}
 use lib.ListN.{length, getD, take, drop}
@@ -10,33 +10,32 @@ use lib.Seq.{take-at}
 use borrow.Author.Tests.{eqb-true, eq-eqb}
 use Rattle.laws.specs.Bits.{bitAt, Holds, holds, rowOf}
 use Rattle.laws.specs.Records.{flat}
-use Rattle.laws.specs.Fills.{tooShort, Fills}
+use Rattle.laws.specs.Fills.{Fills}
 use Rattle.laws.proofs.Fills.{SameFill, fills-agree}
 use Rattle.bits.specs.Width.{rowWords}
 use Rattle.item.specs.Item.{Item}
 use Rattle.grammar.specs.Rules.{Rule, Grammar}
-use Rattle.grammar.specs.File.{grammarOf}
-use Rattle.grammar.specs.Sentences.{Begins}
 use Rattle.parse.specs.declared.State.{State}
 use Rattle.parse.specs.Words.{Words, setRoom, within}
 use Rattle.advance.specs.NewItems.{itemsFrom}
+use Rattle.earley.specs.Positions.{Positions, SpellBeginning}
 use Rattle.demands.specs.Calls.{CallFault, Formed, Ready, Takes}
+use Rattle.demands.specs.Positions.{isPosition}
 use Rattle.demands.specs.Steps.{Outcome, notPredicted, stepped}
 use Rattle.demands.specs.Histories.{History}
 use Rattle.demands.proofs.Cut.{within-cut}
+use Rattle.demands.proofs.Positions.{Predicted, one-position}
 use Rattle.demands.proofs.Refusing.{answered-six, step-answered}
 use Rattle.recognizer.proofs.Carving.{some-set}
 use Rattle.laws.proofs.Tests.{either-way}
 use Rattle.laws.proofs.Decides.{true-false}
 use Rattle.demands.proofs.Agree.{checked-grammar, call-number, not-formed}
-use Rattle.demands.proofs.Lasting.{Lasts, lasts, lasts-holding, no-fault}
-use Rattle.earley.proofs.Plain.{plain-viable}
-use Rattle.recognizer.specs.Answers.{refusalNumber}
-use Rattle.recognizer.specs.declared.Refusal.{Refusal}
+use Rattle.demands.proofs.Lasting.{lasts, lasts-holding, no-fault}
+use Rattle.earley.proofs.Plain.{one-kind}
+use Rattle.earley.proofs.Answers.{row-any}
 use Rattle.reports.specs.declared.Filled.{Filled}
-use Rattle.reports.specs.declared.Filled.the-variants.{Wrote, TooShort}
 use Rattle.reports.specs.Answers.{filledNumber, filledCount}
-use Rattle.reports.specs.Lists.{heldBelow, expectedTokens, latestItems, Reported, Lists}
+use Rattle.reports.specs.Lists.{expectedTokens, latestItems, Reported, Lists}
 use Rattle.reports.specs.Sentences.{In, GoesOn, ExpectedTells}
 use Rattle.reports.specs.inner.Puts.{Puts}
 use Rattle.reports.proofs.Latest.{items-same}
@@ -78,13 +77,13 @@ fact-held row t h = eq-eqb (bitAt row t) 1 (h .is-set)
 module _ {file : List ℕ} {s : State} {w : Words} where
   -- On every well-formed state, forged ones too, a token is listed exactly when it would not be refused with 6: under the grammar of a call, ..
   listed-under : {g : Grammar} {table : List (List ℕ)} {t : ℕ} → Ready file s w g table → t < g .tokens
-      → In t (expectedTokens g s (within w)) ↔ (stepped g table s (within w) t .number ≡ notPredicted → ⊥)
+      → In t (expectedTokens g s (within w)) ↔ (stepped g table s (within w) (t ∷ []) .number ≡ notPredicted → ⊥)
   listed-under {g} {table} {t} ready small = (
-    (λ (i : In t (expectedTokens g s (within w))) six. answered .0 six .1 (held-fact row t (listed-held row (g .tokens) i .1))),
-    (λ (not-six : stepped g table s (within w) t .number ≡ notPredicted → ⊥).
+    (λ (i : In t (expectedTokens g s (within w))) six. answered .0 six .1 (record { kind = t; of = here refl; held = held-fact row t (listed-held row (g .tokens) i .1) })),
+    (λ (not-six : stepped g table s (within w) (t ∷ []) .number ≡ notPredicted → ⊥).
         either-way (holds row t)
         (λ e. held-listed row (g .tokens) small e)
-        (λ e. absurd (not-six (answered .1 (small, (λ h. true-false (sym (fact-held row t h) ∙ e))))))),
+        (λ e. absurd (not-six (answered .1 (one-position (g .tokens) t .1 small, (λ p. true-false (sym (fact-held row t (subst (Holds row) (only (p .of)) (p .held))) ∙ e))))))),
   )
     where
       row : List ℕ
@@ -93,43 +92,47 @@ module _ {file : List ℕ} {s : State} {w : Words} where
       some : 0 < setRoom w
       some = omega (arith, some-set w (ready .well-formed))
 
-      answered : (stepped g table s (within w) t .number ≡ notPredicted) ↔ ((t < g .tokens) × (Holds row t → ⊥))
-      answered = answered-six (step-answered (ready .sound .checked .accepted) (ready .well-formed) (within-cut w some) t (ready .sound .predicts))
+      answered : (stepped g table s (within w) (t ∷ []) .number ≡ notPredicted) ↔ ((isPosition (g .tokens) (t ∷ []) ≡ true) × (Predicted s (within w) (t ∷ []) → ⊥))
+      answered = answered-six (step-answered (ready .sound .checked .accepted) (ready .well-formed) (within-cut w some) (t ∷ []) (ready .sound .predicts))
 
   -- .. and so under any that the file gives.
-  pub listed-not-six : {g : Grammar} {t : ℕ} {o : Outcome} → Formed file s w g → Takes file s w t o → t < g .tokens
+  pub listed-not-six : {g : Grammar} {t : ℕ} {o : Outcome} → Formed file s w g → Takes file s w (t ∷ []) o → t < g .tokens
       → In t (expectedTokens g s (within w)) ↔ (o .number ≡ notPredicted → ⊥)
   listed-not-six formed (Takes.refused fault) small = absurd (not-formed formed fault)
   listed-not-six {t = t} formed (Takes.done {g = h} {table = table} ready) small =
       let same : h ≡ _ = checked-grammar (ready .sound .checked) (formed .checked) in
-      subst (λ (k : Grammar). In t (expectedTokens k s (within w)) ↔ (stepped h table s (within w) t .number ≡ notPredicted → ⊥)) same
+      subst (λ (k : Grammar). In t (expectedTokens k s (within w)) ↔ (stepped h table s (within w) (t ∷ []) .number ≡ notPredicted → ⊥)) same
       (listed-under ready (subst (λ (k : Grammar). t < k .tokens) (sym same) small))
 
   -- Of a history, what the latest row holds is what goes on.
-  goes-on : {g : Grammar} {ts : List ℕ} → Formed file s w g → History file s w ts → (t : ℕ) → In t (expectedTokens g s (within w)) ↔ GoesOn g ts t
-  goes-on {g} {ts} formed h t = (
+  goes-on : {g : Grammar} {a : Positions} → Formed file s w g → History file s w a → (t : ℕ) → In t (expectedTokens g s (within w)) ↔ GoesOn g a t
+  goes-on {g} {a} formed h t = (
     (λ (i : In t (expectedTokens g s (within w))).
         let held : (t < g .tokens) × (holds row t ≡ true) = listed-held row (g .tokens) i in
         record { ordinary = held .0; begins = viable (held .0) .0 (held-fact row t (held .1)) }),
-    (λ (goes : GoesOn g ts t). held-listed row (g .tokens) (goes .ordinary) (fact-held row t (viable (goes .ordinary) .1 (goes .begins)))),
+    (λ (goes : GoesOn g a t). held-listed row (g .tokens) (goes .ordinary) (fact-held row t (viable (goes .ordinary) .1 (goes .begins)))),
   )
     where
       row : List ℕ
       row = rowOf rowWords (within w .rows) (s .set)
 
-      viable : t < g .tokens → Holds row t ↔ Begins g (ts ++ (t ∷ []))
-      viable small = plain-viable ts (formed .checked .accepted) (lasts-holding (lasts h) (formed .checked) .holds) small
+      viable : t < g .tokens → Holds row t ↔ SpellBeginning g (a ++ ((t ∷ []) ∷ []))
+      viable small =
+          let any = row-any (formed .checked .accepted) (lasts-holding (lasts h) (formed .checked) .holds) (one-kind small) in (
+            (λ held. any .1 (record { kind = t; of = here refl; held = held })),
+            (λ b. let in-row = any .0 b in subst (Holds row) (only (in-row .of)) (in-row .held)),
+          )
 
   -- WHAT COULD STAND NEXT, EXACTLY.
   pub expected-tells : {place : List ℕ} {n c : ℕ} {out : List ℕ} → Lists file s w expectedTokens place n c out → ExpectedTells file s w n (take c out)
   expected-tells (Fills.refused fault) =
-      record { told = λ ts h. absurd (no-fault (lasts h) fault); sentences = λ ts h e t. absurd (no-fault (lasts h) fault) }
-  expected-tells (Fills.short gives long) = record { told = λ ts h. inr refl; sentences = λ ts h e t. absurd (omega arith) }
+      record { told = λ a h. absurd (no-fault (lasts h) fault); sentences = λ a h e t. absurd (no-fault (lasts h) fault) }
+  expected-tells (Fills.short gives long) = record { told = λ a h. inr refl; sentences = λ a h e t. absurd (omega arith) }
   expected-tells {place} (Fills.done {l} (Reported.formed {g} formed) fits) = record {
-    told = λ ts h. inl refl;
-    sentences = λ ts h e t.
-        subst (λ (k : Grammar). In t (take (length l) (l ++ drop (length l) place)) ↔ GoesOn k ts t) (sym (formed .checked .is))
-        (subst (λ (m : List ℕ). In t m ↔ GoesOn g ts t) (sym (take-at l (drop (length l) place) (length l) refl)) (goes-on formed h t));
+    told = λ a h. inl refl;
+    sentences = λ a h e t.
+        subst (λ (k : Grammar). In t (take (length l) (l ++ drop (length l) place)) ↔ GoesOn k a t) (sym (formed .checked .is))
+        (subst (λ (m : List ℕ). In t m ↔ GoesOn g a t) (sym (take-at l (drop (length l) place) (length l) refl)) (goes-on formed h t));
   }
 
   pub expected-means : {place : List ℕ} {n c : ℕ} {out : List ℕ} → Lists file s w expectedTokens place n c out

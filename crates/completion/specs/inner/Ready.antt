@@ -60,3 +60,7 @@ pub record RulesRead (rs : List Rule) (s : Pass) : Type 0 where
   pub sound : PassFits s
   pub few-rules : length rs ≤ maxRules
   pub rules : (p : ℕ) → p < s .at .items → ruleAt (s .items) p < length rs
+
+-- Kinds are symbols of a row.
+pub record KindsFit (kinds : List ℕ) : Type 0 where
+  pub each : (i : ℕ) → i < length kinds → getD kinds i 0 < wordBits * rowWords

@@ -1,6 +1,6 @@
 -- `brinesaddle_token` meets its contract: what the call beneath answers, in the host's words, for numbers past a u16 too.
-use Rattle.demands.proofs.Telling.{token-means}
-use Rattle.host.proofs.Telling.{takes-told}
+use Rattle.demands.proofs.Telling.{position-means}
+use Rattle.host.proofs.Telling.{token-told}
 use borrow.Author.Needs.{needs}
 use Rattle.host.proofs.brinesaddle_token.Statement.{statement}
 use Rattle.host.proofs.brinesaddle_token.Tie as tie
@@ -34,7 +34,7 @@ returns c =
     let narrowed = c .before .before .before .before .before .before .before .before .before .before .before .before .before .before .before .narrow in
     let token-taken = c .before .before .before .before .before .before .before .before .before .before .before .before .before .before .token in
     let t = c .tell .ensures in
-    token-means (takes-told _ _ (token-taken .result) (token-taken .ensures .0) (narrowed .ensures) (record { is-number = t .0; is-set = t .1 .0; is-held = t .1 .1 .0; is-used = t .1 .1 .1 }))
+    position-means (token-told _ _ (token-taken .result) (token-taken .ensures .0) (narrowed .ensures) (record { is-number = t .0; is-set = t .1 .0; is-held = t .1 .1 .0; is-used = t .1 .1 .1 }))
 
 pub brinesaddle-token-spec : {M : Type 1} → statement M
 brinesaddle-token-spec =

@@ -2,6 +2,7 @@
 use mathlib.Core.Path.{refl}
 use borrow.Author.Needs.{needs}
 use Rattle.prediction.proofs.Reaching.{accepted-within}
+use Rattle.earley.specs.Positions.{plain}
 use Rattle.demands.specs.Calls.{Runs}
 use Rattle.demands.proofs.Telling.{run-means}
 use Rattle.recognizer.proofs.Readying.{readied-fault, readied-few, readied-formed}
@@ -50,19 +51,19 @@ run-within-requires c κs =
     (can-step (readied-formed _ _ _ _ _ (readied .ensures) _ (found .given .1)) (tabled .ensures (found .given .0 .0 .tokens)), tabled .ensures (found .given .0 .0 .tokens))
 
 same-length-6 : tie.Need-same-length-6
-same-length-6 c = let stepped = c .before .before .before .before .before .before .before .before .before .before .run-within in stepped .kept .1 .1 .1 .1 .0
+same-length-6 c = let ran = c .before .before .before .before .before .before .before .before .before .before .run-within in ran .kept .1 .1 .1 .1 .0
 
 same-length-7 : tie.Need-same-length-7
-same-length-7 c = let stepped = c .before .before .before .before .before .before .before .before .before .before .run-within in stepped .kept .1 .1 .1 .1 .1 .0
+same-length-7 c = let ran = c .before .before .before .before .before .before .before .before .before .before .run-within in ran .kept .1 .1 .1 .1 .1 .0
 
 same-length-8 : tie.Need-same-length-8
-same-length-8 c = let stepped = c .before .before .before .before .before .before .before .before .before .before .run-within in stepped .kept .1 .1 .1 .1 .1 .1 .0
+same-length-8 c = let ran = c .before .before .before .before .before .before .before .before .before .before .run-within in ran .kept .1 .1 .1 .1 .1 .1 .0
 
 same-length-9 : tie.Need-same-length-9
-same-length-9 c = let stepped = c .before .before .before .before .before .before .before .before .before .before .run-within in stepped .kept .1 .1 .1 .1 .1 .1 .1 .0
+same-length-9 c = let ran = c .before .before .before .before .before .before .before .before .before .before .run-within in ran .kept .1 .1 .1 .1 .1 .1 .1 .0
 
 same-length-10 : tie.Need-same-length-10
-same-length-10 c = let stepped = c .before .before .before .before .before .before .before .before .before .before .run-within in stepped .kept .1 .1 .1 .1 .1 .1 .1 .1 .0
+same-length-10 c = let ran = c .before .before .before .before .before .before .before .before .before .before .run-within in ran .kept .1 .1 .1 .1 .1 .1 .1 .1 .0
 
 returns-2 : tie.Need-returns-2
 returns-2 c =
@@ -70,9 +71,9 @@ returns-2 c =
     let readied = c .before .before .before .before .before .before .before .before .before .before .before .before .before .before .before .before .before .before .before .before .before .before .before .ready in
     let found = c .before .before .before .before .before .before .before .before .before .before .before .before .before .before .before .before .before .before .before .before .before .found in
     let tabled = c .before .before .before .before .before .before .before .before .before .before .before .before .before .before .before .before .before .before .table in
-    let stepped = c .before .before .before .before .before .before .before .before .before .before .run-within in
+    let ran = c .before .before .before .before .before .before .before .before .before .before .run-within in
     let formed = readied-formed _ _ _ _ _ (readied .ensures) _ (found .given .1) in
-    run-means (runs formed (tabled .ensures (found .given .0 .0 .tokens)) (given .tokens .now) (stepped .ensures))
+    run-means (runs formed (tabled .ensures (found .given .0 .0 .tokens)) (plain (given .tokens .now)) (ran .ensures))
 
 pub run-spec : {M : Type 1} → statement M
 run-spec =

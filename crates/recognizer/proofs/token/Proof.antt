@@ -1,9 +1,10 @@
 -- `recognizer::token` meets its contract.
 use mathlib.Core.Path.{refl}
+use mathlib.Core.List.{[], _∷_}
 use borrow.Author.Needs.{needs}
 use Rattle.prediction.proofs.Reaching.{accepted-within}
 use Rattle.demands.specs.Calls.{Takes}
-use Rattle.demands.proofs.Telling.{token-means}
+use Rattle.demands.proofs.Telling.{position-means}
 use Rattle.recognizer.proofs.Readying.{readied-fault, readied-few, readied-formed}
 use Rattle.recognizer.proofs.Given.{can-step, takes}
 use Rattle.recognizer.proofs.token.Statement.{statement}
@@ -31,7 +32,7 @@ same-length-5 : tie.Need-same-length-5
 same-length-5 c = refl
 
 returns : tie.Need-returns
-returns c = token-means (Takes.refused (readied-fault _ _ _ _ _ (c .before .before .before .ready .ensures) _ (c .before .why .given .1)))
+returns c = position-means (Takes.refused (readied-fault _ _ _ _ _ (c .before .before .before .ready .ensures) _ (c .before .why .given .1)))
 
 enum-known-found : tie.Need-enum-known-found
 enum-known-found c = search needs
@@ -42,11 +43,14 @@ table-requires c κs =
     let found = c .before .before .found in
     (readied-few _ _ _ _ _ (readied .ensures) _ (found .given .1), accepted-within _ _ _ _ (readied-formed _ _ _ _ _ (readied .ensures) _ (found .given .1) .checked .accepted))
 
+slice-aggregate-step-within : tie.Need-slice-aggregate-step-within
+slice-aggregate-step-within c = search needs
+
 step-within-requires : tie.Need-step-within-requires
 step-within-requires c κs =
-    let readied = c .before .before .before .before .before .before .before .before .before .before .before .before .ready in
-    let found = c .before .before .before .before .before .before .before .before .before .before .found in
-    let tabled = c .before .before .before .before .before .before .before .table in
+    let readied = c .before .before .before .before .before .before .before .before .before .before .before .before .before .ready in
+    let found = c .before .before .before .before .before .before .before .before .before .before .before .found in
+    let tabled = c .before .before .before .before .before .before .before .before .table in
     can-step (readied-formed _ _ _ _ _ (readied .ensures) _ (found .given .1)) (tabled .ensures (found .given .0 .0 .tokens))
 
 same-length-6 : tie.Need-same-length-6
@@ -66,13 +70,13 @@ same-length-10 c = let stepped = c .before .before .before .before .before .befo
 
 returns-2 : tie.Need-returns-2
 returns-2 c =
-    let given = c .before .before .before .before .before .before .before .before .before .before .before .before .before .before .before .before .before .before .before .before .before .before .before .before .before .before .before .before .before .before .before .before .before .before .before .before .args in
-    let readied = c .before .before .before .before .before .before .before .before .before .before .before .before .before .before .before .before .before .before .before .before .before .before .before .ready in
-    let found = c .before .before .before .before .before .before .before .before .before .before .before .before .before .before .before .before .before .before .before .before .before .found in
-    let tabled = c .before .before .before .before .before .before .before .before .before .before .before .before .before .before .before .before .before .before .table in
+    let given = c .before .before .before .before .before .before .before .before .before .before .before .before .before .before .before .before .before .before .before .before .before .before .before .before .before .before .before .before .before .before .before .before .before .before .before .before .before .args in
+    let readied = c .before .before .before .before .before .before .before .before .before .before .before .before .before .before .before .before .before .before .before .before .before .before .before .before .ready in
+    let found = c .before .before .before .before .before .before .before .before .before .before .before .before .before .before .before .before .before .before .before .before .before .before .found in
+    let tabled = c .before .before .before .before .before .before .before .before .before .before .before .before .before .before .before .before .before .before .before .table in
     let stepped = c .before .before .before .before .before .before .before .before .before .before .step-within in
     let formed = readied-formed _ _ _ _ _ (readied .ensures) _ (found .given .1) in
-    token-means (takes formed (tabled .ensures (found .given .0 .0 .tokens)) (given .t) (stepped .ensures))
+    position-means (takes formed (tabled .ensures (found .given .0 .0 .tokens)) (given .t ∷ []) (stepped .ensures))
 
 pub token-spec : {M : Type 1} → statement M
 token-spec =
@@ -88,6 +92,7 @@ token-spec =
     returns
     enum-known-found
     table-requires
+    slice-aggregate-step-within
     step-within-requires
     same-length-6
     same-length-7

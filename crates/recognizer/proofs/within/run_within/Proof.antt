@@ -4,41 +4,48 @@ use Prim.Native.Nat.{_-_}
 use native.Mathlib.Nat.{lt-of-le-of-lt}
 use native.Mathlib.Numerals.{add-one-le}
 use native.Mathlib.Omega.{arith}
-use lib.ListN.{length}
-use borrow.Author.Needs.{scaled-fits}
+use lib.ListN.{length, drop}
+use borrow.Author.Needs.{needs, scaled-fits}
 use Rattle.parse.specs.Words.{wordsOf}
+use Rattle.earley.specs.Positions.{plain}
 use Rattle.recognizer.specs.inner.Steppable.{grammarFrom}
+use Rattle.recognizer.proofs.Remaining.{no-tokens, token-next}
 use Rattle.recognizer.proofs.Turning.{Going, going-first, going-on, going-off, going-end}
 use Rattle.recognizer.proofs.within.run_within.Statement.{statement}
 use Rattle.recognizer.proofs.within.run_within.Tie as tie
 
 abbrev Inv-loop : tie.InvT-loop
 Inv-loop rules sizes table items₀ starts₀ rows₀ queue₀ store₀ tokens now₀ taken₀ items starts rows queue store now taken =
-    Going (grammarFrom rules sizes) table now₀ (wordsOf items₀ starts₀ rows₀ queue₀ store₀) tokens now (wordsOf items starts rows queue store) taken
+    Going (grammarFrom rules sizes) table now₀ (wordsOf items₀ starts₀ rows₀ queue₀ store₀) (plain tokens) now (wordsOf items starts rows queue store) taken (plain (drop taken tokens))
 
 abbrev μ-loop : tie.MeasureT-loop
 μ-loop rules sizes table items₀ starts₀ rows₀ queue₀ store₀ tokens now₀ taken₀ items starts rows queue store now taken =
     length tokens - taken
 
 loop-holds : tie.Need-loop-holds Inv-loop μ-loop
-loop-holds c =
-    let given = c .before .before .before .before .before .before .args in going-first (given .tokens .now) (c .before .before .before .before .before .before .pre .0)
+loop-holds c = going-first (plain (c .before .before .before .before .before .before .args .tokens .now)) (c .before .before .before .before .before .before .pre .0)
 
-mul-token-number : tie.Need-mul-token-number Inv-loop μ-loop
-mul-token-number c =
-    let well-lent = c .before .before .before .before .before .before .before .before .good in
-    scaled-fits _ _ _ (c .loop-test .taken) (well-lent .1 .1 .1 .1 .1 .1 .1 .1 .1 .0 .1)
+add-step-within : tie.Need-add-step-within Inv-loop μ-loop
+add-step-within c =
+    let well-lent = c .before .before .before .before .before .before .before .before .before .before .before .before .before .good in
+    record { fits = lt-of-le-of-lt (add-one-le (c .before .before .before .before .before .loop-test .taken)) (well-lent .1 .1 .1 .1 .1 .1 .1 .1 .1 .0 .0) }
 
-shared-slice-read-token-number : tie.Need-shared-slice-read-token-number Inv-loop μ-loop
-shared-slice-read-token-number c = c .before .loop-test .taken
+mul-step-within : tie.Need-mul-step-within Inv-loop μ-loop
+mul-step-within c =
+    let well-lent = c .before .before .before .before .before .before .before .before .before .before .before .before .before .good in
+    scaled-fits _ _ _ (c .before .before .before .before .before .loop-test .taken) (well-lent .1 .1 .1 .1 .1 .1 .1 .1 .1 .0 .1)
 
-token-number-requires : tie.Need-token-number-requires Inv-loop μ-loop
-token-number-requires c κs = tt
+sub-step-within : tie.Need-sub-step-within Inv-loop μ-loop
+sub-step-within c = search needs
+
+part-step-within-start : tie.Need-part-step-within-start Inv-loop μ-loop
+part-step-within-start c = search needs
+
+part-step-within-end : tie.Need-part-step-within-end Inv-loop μ-loop
+part-step-within-end c = search needs
 
 step-within-requires : tie.Need-step-within-requires Inv-loop μ-loop
-step-within-requires c κs =
-    let looped = c .before .before .before .before .before .before .before .before .loop in
-    looped .inv .steppable
+step-within-requires c κs = c .before .before .before .before .before .before .before .loop .inv .steppable
 
 enum-known-next : tie.Need-enum-known-next Inv-loop μ-loop
 enum-known-next c = c .match .keys1
@@ -48,61 +55,59 @@ enum-known-why c = c .match .keys2
 
 same-length : tie.Need-same-length Inv-loop μ-loop
 same-length c =
-    let looped = c .before .before .before .before .before .before .before .before .before .before .before .before .before .before .before .before .before .before .before .before .before .before .loop in
+    let looped = c .before .before .before .before .before .before .before .before .before .before .before .before .before .before .before .before .before .before .before .before .before .loop in
     let stepped = c .before .before .before .before .before .before .before .before .before .before .before .before .before .step-within in
     stepped .kept .1 .1 .1 .1 .0 ∙ looped .inv .sizes .items
 
 same-length-2 : tie.Need-same-length-2 Inv-loop μ-loop
 same-length-2 c =
-    let looped = c .before .before .before .before .before .before .before .before .before .before .before .before .before .before .before .before .before .before .before .before .before .before .loop in
+    let looped = c .before .before .before .before .before .before .before .before .before .before .before .before .before .before .before .before .before .before .before .before .before .loop in
     let stepped = c .before .before .before .before .before .before .before .before .before .before .before .before .before .step-within in
     stepped .kept .1 .1 .1 .1 .1 .0 ∙ looped .inv .sizes .starts
 
 same-length-3 : tie.Need-same-length-3 Inv-loop μ-loop
 same-length-3 c =
-    let looped = c .before .before .before .before .before .before .before .before .before .before .before .before .before .before .before .before .before .before .before .before .before .before .loop in
+    let looped = c .before .before .before .before .before .before .before .before .before .before .before .before .before .before .before .before .before .before .before .before .before .loop in
     let stepped = c .before .before .before .before .before .before .before .before .before .before .before .before .before .step-within in
     stepped .kept .1 .1 .1 .1 .1 .1 .0 ∙ looped .inv .sizes .rows
 
 same-length-4 : tie.Need-same-length-4 Inv-loop μ-loop
 same-length-4 c =
-    let looped = c .before .before .before .before .before .before .before .before .before .before .before .before .before .before .before .before .before .before .before .before .before .before .loop in
+    let looped = c .before .before .before .before .before .before .before .before .before .before .before .before .before .before .before .before .before .before .before .before .before .loop in
     let stepped = c .before .before .before .before .before .before .before .before .before .before .before .before .before .step-within in
     stepped .kept .1 .1 .1 .1 .1 .1 .1 .0 ∙ looped .inv .sizes .queue
 
 same-length-5 : tie.Need-same-length-5 Inv-loop μ-loop
 same-length-5 c =
-    let looped = c .before .before .before .before .before .before .before .before .before .before .before .before .before .before .before .before .before .before .before .before .before .before .loop in
+    let looped = c .before .before .before .before .before .before .before .before .before .before .before .before .before .before .before .before .before .before .before .before .before .loop in
     let stepped = c .before .before .before .before .before .before .before .before .before .before .before .before .before .step-within in
     stepped .kept .1 .1 .1 .1 .1 .1 .1 .1 .0 ∙ looped .inv .sizes .store
 
 returns : tie.Need-returns Inv-loop μ-loop
 returns c =
-    let looped = c .before .before .before .before .before .before .before .before .before .before .before .before .before .before .before .before .before .before .before .before .before .before .loop in
-    let entered = c .before .before .before .before .before .before .before .before .before .before .before .before .before .before .before .before .before .before .before .before .before .loop-test in
-    let numbered = c .before .before .before .before .before .before .before .before .before .before .before .before .before .before .before .before .before .before .before .token-number in
+    let looped = c .before .before .before .before .before .before .before .before .before .before .before .before .before .before .before .before .before .before .before .before .before .loop in
+    let entered = c .before .before .before .before .before .before .before .before .before .before .before .before .before .before .before .before .before .before .before .before .loop-test in
     let stepped = c .before .before .before .before .before .before .before .before .before .before .before .before .before .step-within in
-    going-off (looped .inv) (entered .taken) (stepped .ensures) (numbered .ensures) (c .before .why .given .1)
+    going-off (looped .inv) (token-next _ _ (entered .taken)) (stepped .ensures) (c .before .why .given .1)
 
 add-taken : tie.Need-add-taken Inv-loop μ-loop
 add-taken c =
-    let well-lent = c .before .before .before .before .before .before .before .before .before .before .before .before .before .before .before .before .before .before .before .before .before .before .before .before .before .before .before .before .before .good in
-    let entered = c .before .before .before .before .before .before .before .before .before .before .before .before .before .before .before .before .before .before .before .before .before .loop-test in
+    let well-lent = c .before .before .before .before .before .before .before .before .before .before .before .before .before .before .before .before .before .before .before .before .before .before .before .before .before .before .before .before .good in
+    let entered = c .before .before .before .before .before .before .before .before .before .before .before .before .before .before .before .before .before .before .before .before .loop-test in
     record { fits = lt-of-le-of-lt (add-one-le (entered .taken)) (well-lent .1 .1 .1 .1 .1 .1 .1 .1 .1 .0 .0) }
 
 loop-less : tie.Need-loop-less Inv-loop μ-loop
 loop-less c =
-    let entered = c .before .before .before .before .before .before .before .before .before .before .before .before .before .before .before .before .before .before .before .before .before .loop-test in
+    let entered = c .before .before .before .before .before .before .before .before .before .before .before .before .before .before .before .before .before .before .before .before .loop-test in
     omega (arith, entered .taken)
 
 loop-again : tie.Need-loop-again Inv-loop μ-loop
 loop-again c =
-    let required = c .before .before .before .before .before .before .before .before .before .before .before .before .before .before .before .before .before .before .before .before .before .before .before .before .before .before .before .before .before .pre in
-    let looped = c .before .before .before .before .before .before .before .before .before .before .before .before .before .before .before .before .before .before .before .before .before .before .loop in
-    let entered = c .before .before .before .before .before .before .before .before .before .before .before .before .before .before .before .before .before .before .before .before .before .loop-test in
-    let numbered = c .before .before .before .before .before .before .before .before .before .before .before .before .before .before .before .before .before .before .before .token-number in
+    let required = c .before .before .before .before .before .before .before .before .before .before .before .before .before .before .before .before .before .before .before .before .before .before .before .before .before .before .before .before .pre in
+    let looped = c .before .before .before .before .before .before .before .before .before .before .before .before .before .before .before .before .before .before .before .before .before .loop in
+    let entered = c .before .before .before .before .before .before .before .before .before .before .before .before .before .before .before .before .before .before .before .before .loop-test in
     let stepped = c .before .before .before .before .before .before .before .before .before .before .before .before .before .step-within in
-    going-on (looped .inv) (entered .taken) (stepped .ensures) (numbered .ensures) (required .1) (c .before .next .given .1)
+    going-on (looped .inv) (token-next _ _ (entered .taken)) (stepped .ensures) (required .1) (c .before .next .given .1)
 
 same-length-6 : tie.Need-same-length-6 Inv-loop μ-loop
 same-length-6 c = c .before .loop .inv .sizes .items
@@ -120,7 +125,7 @@ same-length-10 : tie.Need-same-length-10 Inv-loop μ-loop
 same-length-10 c = c .before .loop .inv .sizes .store
 
 returns-2 : tie.Need-returns-2 Inv-loop μ-loop
-returns-2 c = going-end (c .before .loop .inv) (c .loop-test .left)
+returns-2 c = going-end (c .before .loop .inv) (no-tokens _ _ (c .loop-test .left))
 
 pub run-within-spec : {M : Type 1} → statement M
 run-within-spec =
@@ -129,9 +134,11 @@ run-within-spec =
     Inv-loop
     μ-loop
     loop-holds
-    mul-token-number
-    shared-slice-read-token-number
-    token-number-requires
+    add-step-within
+    mul-step-within
+    sub-step-within
+    part-step-within-start
+    part-step-within-end
     step-within-requires
     enum-known-next
     enum-known-why

@@ -40,21 +40,21 @@ slice-relend-prefix-step c = search needs
 
 slice-aggregate-step : tie.Need-slice-aggregate-step
 slice-aggregate-step c =
-    let given = c .before .before .before .before .before .before .before .before .before .before .before .before .before .before .before .args in
+    let given = c .before .before .before .before .before .before .before .before .before .before .before .before .before .before .before .before .args in
     let items-measured = c .before .before .before .before .before .before .before .before .item-room in
     sym (length-take-le _ (given .items .now) (omega (arith, items-measured .ensures)))
 
 slice-relend-prefix-step-2 : tie.Need-slice-relend-prefix-step-2
 slice-relend-prefix-step-2 c =
-    let given = c .before .before .before .before .before .before .before .before .before .before .before .before .before .before .before .args in
-    let required = c .before .before .before .before .before .before .before .before .before .before .before .before .before .before .before .pre in
+    let given = c .before .before .before .before .before .before .before .before .before .before .before .before .before .before .before .before .args in
+    let required = c .before .before .before .before .before .before .before .before .before .before .before .before .before .before .before .before .pre in
     let w = wordsOf (given .items .now) (given .starts .now) (given .rows .now) (given .queue .now) (given .store .now) in
     omega (arith, starts-there w (required .well-formed), c .before .before .before .before .before .set-room .ensures)
 
 slice-aggregate-step-2 : tie.Need-slice-aggregate-step-2
 slice-aggregate-step-2 c =
-    let given = c .before .before .before .before .before .before .before .before .before .before .before .before .before .before .before .before .args in
-    let required = c .before .before .before .before .before .before .before .before .before .before .before .before .before .before .before .before .pre in
+    let given = c .before .before .before .before .before .before .before .before .before .before .before .before .before .before .before .before .before .args in
+    let required = c .before .before .before .before .before .before .before .before .before .before .before .before .before .before .before .before .before .pre in
     let w = wordsOf (given .items .now) (given .starts .now) (given .rows .now) (given .queue .now) (given .store .now) in
     sym (length-take-le _ (given .starts .now) (omega (arith, starts-there w (required .well-formed), c .before .before .before .before .before .before .set-room .ensures)))
 
@@ -63,7 +63,7 @@ slice-relend-prefix-step-3 c = search needs
 
 slice-aggregate-step-3 : tie.Need-slice-aggregate-step-3
 slice-aggregate-step-3 c =
-    let given = c .before .before .before .before .before .before .before .before .before .before .before .before .before .before .before .before .before .args in
+    let given = c .before .before .before .before .before .before .before .before .before .before .before .before .before .before .before .before .before .before .args in
     sym (length-take-le _ (given .rows .now) (omega (arith, c .before .before .before .before .before .before .before .set-room .ensures)))
 
 slice-relend-prefix-step-4 : tie.Need-slice-relend-prefix-step-4
@@ -71,7 +71,7 @@ slice-relend-prefix-step-4 c = search needs
 
 slice-aggregate-step-4 : tie.Need-slice-aggregate-step-4
 slice-aggregate-step-4 c =
-    let given = c .before .before .before .before .before .before .before .before .before .before .before .before .before .before .before .before .before .before .args in
+    let given = c .before .before .before .before .before .before .before .before .before .before .before .before .before .before .before .before .before .before .before .args in
     sym (length-take-le _ (given .queue .now) (omega (arith, c .before .before .before .before .before .before .queue-room .ensures)))
 
 slice-relend-prefix-step-5 : tie.Need-slice-relend-prefix-step-5
@@ -79,13 +79,13 @@ slice-relend-prefix-step-5 c = search needs
 
 slice-aggregate-step-5 : tie.Need-slice-aggregate-step-5
 slice-aggregate-step-5 c =
-    let given = c .before .before .before .before .before .before .before .before .before .before .before .before .before .before .before .before .before .before .before .args in
+    let given = c .before .before .before .before .before .before .before .before .before .before .before .before .before .before .before .before .before .before .before .before .args in
     sym (length-take-le _ (given .store .now) (omega (arith, c .before .before .before .before .before .store-room .ensures)))
 
 step-requires : tie.Need-step-requires
 step-requires c κs =
-    let given = c .before .before .before .before .before .before .before .before .before .before .before .before .before .before .before .before .before .before .before .args in
-    let required = c .before .before .before .before .before .before .before .before .before .before .before .before .before .before .before .before .before .before .before .pre in
+    let given = c .before .before .before .before .before .before .before .before .before .before .before .before .before .before .before .before .before .before .before .before .args in
+    let required = c .before .before .before .before .before .before .before .before .before .before .before .before .before .before .before .before .before .before .before .before .pre in
     let items-measured = c .before .before .before .before .before .before .before .before .before .before .before .before .item-room in
     let sets-measured = c .before .before .before .before .before .before .before .before .before .set-room in
     let w = wordsOf (given .items .now) (given .starts .now) (given .rows .now) (given .queue .now) (given .store .now) in
@@ -110,7 +110,7 @@ same-length-5 c = search needs
 
 returns : tie.Need-returns
 returns c =
-    let given = c .before .before .before .before .before .before .before .before .before .before .before .before .before .before .before .before .before .before .before .before .before .before .before .before .before .before .before .before .before .before .args in
+    let given = c .before .before .before .before .before .before .before .before .before .before .before .before .before .before .before .before .before .before .before .before .before .before .before .before .before .before .before .before .before .before .before .args in
     let items-measured = c .before .before .before .before .before .before .before .before .before .before .before .before .before .before .before .before .before .before .before .before .before .before .before .item-room in
     let sets-measured = c .before .before .before .before .before .before .before .before .before .before .before .before .before .before .before .before .before .before .before .before .set-room in
     let queue-measured = c .before .before .before .before .before .before .before .before .before .before .before .before .before .before .before .before .before .before .queue-room in
@@ -119,7 +119,7 @@ returns c =
     let w = wordsOf (given .items .now) (given .starts .now) (given .rows .now) (given .queue .now) (given .store .now) in
     let last = step-taken .last .1 .1 .1 .1 in
     replaced-place w (items-measured .ensures) (sets-measured .ensures) (queue-measured .ensures) (store-measured .ensures)
-    (λ (v : Words). stepped (grammarFrom (given .rules .now) (given .sizes)) (given .table .now) (given .state) v (given .t))
+    (λ (v : Words). stepped (grammarFrom (given .rules .now) (given .sizes)) (given .table .now) (given .state) v (given .kinds .now))
     (outcomeOf (step-taken .result) (wordsOf (last .0) (last .1 .0) (last .1 .1 .0) (last .1 .1 .1 .0) (last .1 .1 .1 .1 .0)))
     (step-taken .ensures)
 

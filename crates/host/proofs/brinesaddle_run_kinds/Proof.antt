@@ -1,0 +1,46 @@
+-- `brinesaddle_run_kinds` meets its contract: what the call beneath answers, in the host's words.
+use Rattle.demands.proofs.Telling.{run-means}
+use Rattle.host.proofs.Telling.{runs-told}
+use borrow.Author.Needs.{needs}
+use Rattle.host.proofs.brinesaddle_run_kinds.Statement.{statement}
+use Rattle.host.proofs.brinesaddle_run_kinds.Tie as tie
+
+run-kinds-requires : tie.Need-run-kinds-requires
+run-kinds-requires c κs = search needs
+
+tell-requires : tie.Need-tell-requires
+tell-requires c κs = search needs
+
+same-length : tie.Need-same-length
+same-length c = search needs
+
+same-length-2 : tie.Need-same-length-2
+same-length-2 c = search needs
+
+same-length-3 : tie.Need-same-length-3
+same-length-3 c = search needs
+
+same-length-4 : tie.Need-same-length-4
+same-length-4 c = search needs
+
+same-length-5 : tie.Need-same-length-5
+same-length-5 c = search needs
+
+returns : tie.Need-returns
+returns c =
+    let ran = c .before .before .before .before .before .before .before .before .before .before .before .before .before .before .run-kinds in
+    let t = c .tell .ensures in
+    run-means (runs-told (ran .result) (ran .ensures .0) (record { is-number = t .0; is-set = t .1 .0; is-held = t .1 .1 .0; is-used = t .1 .1 .1 }))
+
+pub brinesaddle-run-kinds-spec : {M : Type 1} → statement M
+brinesaddle-run-kinds-spec =
+    tie.close
+    (tie.spec
+    run-kinds-requires
+    tell-requires
+    same-length
+    same-length-2
+    same-length-3
+    same-length-4
+    same-length-5
+    returns)
