@@ -1,14 +1,15 @@
 /* How many bytes of stack each call of the static library uses, its arguments and return address among them, and how many the header
  * says. `bench/stack` builds and runs it. The stack below the caller is painted, and after the call the lowest word without its paint is
  * looked for. The figure is the most of many calls: on a parse with files cut off, broken, small and the largest there can be, from the
- * start to the first full buffer; on nodes of every kind and length. Fails where the header says less. x86-64. */
+ * start to the first full buffer; on nodes of every kind and length; on the deepest trees. Fails where the header says less. x86-64; it needs the
+ * 8 MB of stack that a main thread has. */
 #include <stdio.h>
 #include <stdlib.h>
 #include <string.h>
 
-#include "brinesaddle.h"
+#include "../oracle/grammar_file.h"
 
-enum { PAINTED_WORDS = 1 << 16, SYMBOLS = BRINESADDLE_MAX_TOKENS + 3, RULES = 2048, TOKENS = 4096, UNITS = BRINESADDLE_MAX_UNITS,
+enum { PAINTED_WORDS = 7 << 17, SYMBOLS = BRINESADDLE_MAX_TOKENS + 3, RULES = 2048, TOKENS = 4096, UNITS = BRINESADDLE_MAX_UNITS,
        ITEMS = BRINESADDLE_MAX_ITEM_WORDS / BRINESADDLE_ITEM_WORDS };
 
 static const uint64_t PAINT = 0xA5C3965A3C69F00F;
@@ -27,14 +28,14 @@ __attribute__((noinline)) static size_t stack_of(void (*call)(void))
 }
 
 /* What the calls are made with. */
-static uint8_t file[11 + 6 * RULES];
-static size_t file_len, set, held, used, taken, first, count, position, behind, place;
+static size_t set, held, used, taken, first, count, position, behind, place;
 static uint32_t items[BRINESADDLE_MAX_ITEM_WORDS], starts[BRINESADDLE_MAX_START_WORDS], queue[BRINESADDLE_MAX_QUEUE_WORDS];
 static uint64_t rows[BRINESADDLE_MAX_ROW_WORDS];
 static uint16_t tokens[TOKENS], positions[2 * TOKENS], forest[UNITS], store[UNITS];
 static const uint16_t both_kinds[] = {0, 1};
 static size_t tokens_len;
-static uint32_t yes, handle, node[5], answer;
+static uint32_t yes, handle, node[5], answer, tree_words[2 * TOKENS * 2];
+static uint64_t trees;
 
 /* A written grammar, and the place of its file. */
 static uint8_t written[9 + 36 * 65535], made[BRINESADDLE_MAX_FILE];
@@ -70,10 +71,13 @@ static void latest_records(void) { answer = brinesaddle_latest_records(FILE_LENT
 static void node_write(void) { answer = brinesaddle_node_write(store, UNITS, position, node, &behind, &place); }
 static void node_read(void) { answer = brinesaddle_node_read(store, UNITS, position, node, &behind, &place); }
 static void node_walk(void) { answer = brinesaddle_node_walk(store, UNITS, 0, &count, &behind, &place); }
+static void count_trees(void) { answer = brinesaddle_count(forest, UNITS, handle, &trees, &place); }
+static void tree(void) { answer = brinesaddle_tree(forest, UNITS, handle, 0, LENT(tree_words), &count, &place); }
 static void translate(void) { answer = brinesaddle_translate(written, written_len, made, sizeof made, &length, &empty); }
 
 enum {
-    CHECK, START, TOKEN, RUN, KINDS, RUN_KINDS, FINISHED, LATEST_SET, EXPECTED, LISTING, LATEST_WORDS, LATEST_RECORDS, NODE_WRITE, NODE_READ, NODE_WALK, TRANSLATE, CALLS
+    CHECK, START, TOKEN, RUN, KINDS, RUN_KINDS, FINISHED, LATEST_SET, EXPECTED, LISTING, LATEST_WORDS, LATEST_RECORDS, NODE_WRITE, NODE_READ, NODE_WALK, TRANSLATE,
+    COUNT, PARSE_TREE, TREE, CALLS
 };
 
 static const struct {
@@ -97,6 +101,9 @@ static const struct {
     [NODE_READ] = {"node_read", node_read, BRINESADDLE_NODE_STACK},
     [NODE_WALK] = {"node_walk", node_walk, BRINESADDLE_NODE_STACK},
     [TRANSLATE] = {"translate", translate, BRINESADDLE_TRANSLATE_STACK},
+    [COUNT] = {"count", count_trees, BRINESADDLE_COUNT_STACK},
+    [PARSE_TREE] = {"tree of a list", tree, BRINESADDLE_PARSE_TREE_STACK},
+    [TREE] = {"tree", tree, BRINESADDLE_TREE_STACK},
 };
 
 static size_t most[CALLS];
@@ -114,32 +121,6 @@ static void measure(int which, uint32_t wanted)
 }
 
 /* ------------------------------------------------------------------------------------------------------------------------- Grammars */
-
-static void put(unsigned number)
-{
-    file[file_len++] = (uint8_t)(number >> 8);
-    file[file_len++] = (uint8_t)number;
-}
-
-static void rule(unsigned left, unsigned one, unsigned two)
-{
-    put(left);
-    put(one);
-    put(two);
-}
-
-/* The head of a file. */
-static void head(unsigned symbols, unsigned token_count, unsigned rules)
-{
-    file_len = 0;
-    put(0x0100);
-    put(0);
-    file[file_len - 1] = (uint8_t)((11 + 6 * rules) >> 8);
-    file[file_len++] = (uint8_t)(11 + 6 * rules);
-    put(symbols);
-    put(token_count);
-    put(rules);
-}
 
 /* S ::= S P | num, P ::= plus S. */
 static void small_grammar(void)
@@ -299,6 +280,31 @@ static void translations(void)
     measure(TRANSLATE, BRINESADDLE_DONE);
 }
 
+/* The longest list, S ::= S 0 | 0; and the deepest store, Sums that are the actions of Products, each of the Sum before it with itself. */
+static void deepest_trees(void)
+{
+    head(4, 1, 3);
+    rule(2, 1, 3);
+    rule(1, 1, 0);
+    rule(1, 0, 0xFFFF);
+    memset(tokens, 0, sizeof tokens);
+    measure(START, BRINESADDLE_DONE);
+    for (int half = 0; half < 2; half++)
+        measure(RUN, BRINESADDLE_DONE);
+    measure(FINISHED, BRINESADDLE_DONE);
+    measure(COUNT, BRINESADDLE_DONE);
+    measure(PARSE_TREE, BRINESADDLE_DONE);
+    forest[0] = 0x8005;
+    for (size_t at = 1; at < UNITS; at++)
+        forest[at] = at % 2 ? 0x0107 : at > 2 ? 0x6303 : 0x6202;
+    handle = UNITS - 3;
+    measure(COUNT, BRINESADDLE_DONE);
+    measure(TREE, BRINESADDLE_TOO_SHORT);
+    handle = UNITS - 2;
+    measure(COUNT, BRINESADDLE_NO_NODE);
+    measure(TREE, BRINESADDLE_NO_NODE);
+}
+
 int main(void)
 {
     for (tokens_len = 0; tokens_len < TOKENS; tokens_len++)
@@ -310,6 +316,7 @@ int main(void)
     parses(BRINESADDLE_QUEUE_FULL);
     nodes();
     translations();
+    deepest_trees();
     int less = 0;
     for (int which = 0; which < CALLS; which++) {
         printf("%-14s %6zu, header %6zu\n", calls[which].name, most[which], calls[which].said);

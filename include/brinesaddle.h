@@ -249,6 +249,47 @@ enum {
 
 uint32_t brinesaddle_translate(const uint8_t *written, size_t written_len, uint8_t *file, size_t file_len, size_t *length, uint32_t *empty);
 
+/* ---- Every tree, each once
+ *
+ * The trees under a handle, the position of a Sum in a store: for each of its Products in the order of the store, and for each tree of the left
+ * factor in its order, each of the right. Where the handle is one that brinesaddle_finished told, these are exactly the derivations from the
+ * start symbol of the tokens read by then, some kind chosen at each position, each once; what is read later changes none of it, until the next start.
+ *
+ * Any store and any handle is taken. Handles and factors name the head of a node itself: no filler is skipped in front of it. Below a handle are the
+ * handle and, of every Sum below it, each factor that lies before that Sum and has a Sum. A Sum is faulty where fewer Products are read behind it
+ * than it counts, or where a factor of one lies not before the Sum, or is at neither Sum nor Evaluated. The lowest faulty Sum below the handle, or
+ * the handle where no Sum is there, is 12, whatever else is asked. Nothing of it grows with the number of trees: a call costs a look at each unit
+ * before the handle, and tree a walk over the words that it tells. */
+enum {
+    BRINESADDLE_TOO_MANY_TREES = 23, /* count: more than a uint64_t tells */
+    BRINESADDLE_NO_SUCH_TREE = 24    /* tree: k is at or past the number of trees */
+};
+
+/* The bytes of stack, as above. A call has a table of its own, 352 KiB; and tree takes 176 bytes more for each level of left factors of left factors
+ * of Products with two. A parse has four units and more to such a level, so at most 8,192 of them; another store two, but for a pair in some 500, so
+ * at most 16,448. That is more than the 2 MB that a thread may have: where a store may be no parse's, tell trees on a larger stack. */
+enum {
+    BRINESADDLE_COUNT_STACK = 364544,
+    BRINESADDLE_PARSE_TREE_STACK = 1843200, /* tree: the store is that of a parse */
+    BRINESADDLE_TREE_STACK = 3276800        /* tree: any store */
+};
+
+/* How many trees there are under a handle.
+ * Answers 0, 12 or 23. Done: `trees` is the number, 0 for a Sum of no Products. 12: `place` is the position of the fault. Whatever is not
+ * written is as it was. */
+uint32_t brinesaddle_count(const uint16_t *store, size_t store_len, size_t handle, uint64_t *trees, size_t *place);
+
+/* The k-th tree under a handle, k from 0, in preorder: the action of each Product chosen, which is the number of its rule, then its left factor's
+ * tree, then its right's; of an Evaluated its symbol, which is the token. A parse's tree needs no more words than the units used.
+ * Answers 0, 12, 24 or 13, the first that applies, and `count` is written always. Where there are more trees than count tells, every k is below
+ * them.
+ *   0       the words stand at the front of `out`; `count` is how many; the words behind them are as they were
+ *   13      `out` is too short and as it was; `count` is the number of words needed, or SIZE_MAX where that is above 32,768 (a foreign store
+ *           can share a tree with itself; no parse does); the tree is still told to one who lends enough
+ *   12, 24  `out` is as it was; `count` is 0. 12: `place` is the position of the fault; with every other answer it is as it was */
+uint32_t brinesaddle_tree(const uint16_t *store, size_t store_len, size_t handle, uint64_t k, uint32_t *out, size_t out_len, size_t *count,
+                          size_t *place);
+
 #ifdef __cplusplus
 }
 #endif

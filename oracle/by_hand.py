@@ -21,6 +21,9 @@ class Parse:
     def token(self, token):
         return library.token(self.file, self.lent.state(), self.lent, token)[0]
 
+    def kinds(self, kinds):
+        return library.kinds(self.file, self.lent.state(), self.lent, kinds)[0]
+
     def tokens(self, tokens):
         """One call a token; the answers."""
         return [self.token(token) for token in tokens]

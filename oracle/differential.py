@@ -12,7 +12,6 @@ damage a state less than a twentieth of that, or a large grammar not at all.
 
 import random
 import sys
-from collections import Counter
 from functools import lru_cache
 from itertools import product
 
@@ -22,22 +21,13 @@ import library
 import model
 import node_model
 import streams
+from rounds import Differs, met, same
 
 U16, U32, U64 = 2**16, 2**32, 2**64
 ROOM_REFUSALS = (7, 8, 9, forest.FOREST_ROOM)
 ENOUGH_UNITS = 6000  # for all that is read beside the Rust
 DOUBLE = model.make_file(4, 1, [(2, 1, 3), (1, 1, 1), (1, 0, None)])  # S ::= S S | 0
-met = Counter()
 model.check = lru_cache(maxsize=64)(model.check)  # every call checks its file; the answer is the same
-
-
-class Differs(Exception):
-    pass
-
-
-def same(what, ours, wanted):
-    if ours != wanted:
-        raise Differs(f"{what}\n  library {ours}\n  wanted  {wanted}")
 
 
 # -------------------------------------------------------------------------------------------- A parse kept by both

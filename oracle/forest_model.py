@@ -14,7 +14,7 @@ import node_model
 from node_model import ALL_ONES, FILLER, USABLE
 
 # The new refusals.
-FOREST_ROOM, TOO_MANY_TREES = 14, 23
+FOREST_ROOM, TOO_SHORT, TOO_MANY_TREES, NO_SUCH_TREE = 14, 13, 23, 24
 
 # ----------------------------------------------------------------------------------------------------------- Parse
 
@@ -244,6 +244,15 @@ def trees_of(store, position):
                 yield (action, *front, *back)
 
 
+def chosen(store, counts, position, k):
+    """The action of the k-th tree of a Sum, and its factors, each with the number of its tree."""
+    for action, factors in summands(store, position)[1]:
+        ways = [counts.get(factor, 1) for factor in factors]
+        if k < prod(ways):
+            return action, list(zip(factors, [k] if len(ways) == 1 else divmod(k, ways[1])))
+        k -= prod(ways)
+
+
 def tree(store, handle, k):
     """The k-th tree of a handle without a fault, by the numbers of trees alone, k from 0 and below the count."""
     _, counts = counts_below(store, handle)
@@ -251,14 +260,34 @@ def tree(store, handle, k):
     def words(position, k):
         if position not in counts:
             return node_at(store, position)[0][1:]
-        for action, factors in summands(store, position)[1]:
-            ways = [counts.get(factor, 1) for factor in factors]
-            if k < prod(ways):
-                numbers = [k] if len(ways) == 1 else divmod(k, ways[1])
-                return (action, *(word for factor, number in zip(factors, numbers) for word in words(factor, number)))
-            k -= prod(ways)
+        action, parts = chosen(store, counts, position, k)
+        return (action, *(word for part in parts for word in words(*part)))
 
     return words(handle, k)
+
+
+def length(store, handle, k):
+    """How many words it has; none are made, as a store may have one tree of more words than there is room for anywhere."""
+    _, counts = counts_below(store, handle)
+
+    @lru_cache(None)
+    def words(position, k):
+        return 1 if position not in counts else 1 + sum(words(*part) for part in chosen(store, counts, position, k)[1])
+
+    return words(handle, k)
+
+
+def tell(store, handle, k, place):
+    """The k-th tree as the library's call tells it: the number, the count of words, the position of a 12 or None, and the place."""
+    answer, counts = counts_below(store, handle)
+    if answer:
+        return answer, 0, counts, place
+    if k >= counts[handle]:
+        return NO_SUCH_TREE, 0, None, place
+    words = length(store, handle, k)
+    if words > len(place):
+        return TOO_SHORT, words if words <= USABLE else (1 << 64) - 1, None, place
+    return 0, words, None, [*tree(store, handle, k), *place[words:]]
 
 
 # ------------------------------------------------------------------------------------------------ From the rules alone

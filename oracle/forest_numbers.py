@@ -1,12 +1,10 @@
 #!/usr/bin/env python3
-"""The inputs of the readings of C-17, row by row, on the built library and on forest_model.py; and of what C-20 says of a store, on the latter. What is
-wanted is written out by hand.
+"""The inputs of the readings of C-17, row by row, on the built library and on forest_model.py. What is wanted is written out by hand.
 
 Each row is named by its reading. A and B are 01's grammars; units are hexadecimal.
 """
 
 import sys
-from math import comb
 
 import expecting
 import forest_model as forest
@@ -23,8 +21,6 @@ K = model.make_file(5, 2, [(3, 2, 4), (2, 0, None), (2, 1, None)])  # S ::= 0 | 
 PAIR = model.make_file(5, 2, [(3, 2, 4), (2, 0, 1)])  # S ::= 0 1
 # S ::= X | Y | .., forty of them, and each of these ::= 0
 FORTY = model.make_file(44, 1, [(42, 1, 43)] + [(1, x, None) for x in range(2, 42)] + [(x, 0, None) for x in range(2, 42)])
-# L ::= L X | X, X ::= Y | Z, Y ::= 0, Z ::= 0
-DOUBLING = model.make_file(7, 1, [(5, 1, 6), (1, 1, 2), (1, 2, None), (2, 3, None), (2, 4, None), (3, 0, None), (4, 0, None)])
 
 
 # Whose calls the rows are of, by name.
@@ -240,49 +236,11 @@ def forged_rows():
     expect("17.17 a token that nothing uses", (unused.token(0), unused.state, unused.used()), (0, (1, 0, 1), units("8000")))
 
 
-def trees():
-    expect("20.1 A 0", Parse(A).after(0).trees(), [(2, 0)])
-    expect("20.2 A 0 1 0", Parse(A).after(0, 1, 0).trees(), [(1, 2, 0, 3, 1, 2, 0)])
-    for numbers, ways in [(3, 2), (4, 5), (5, 14), (6, 42)]:
-        parse = Parse(A, 100, 20, 50, 400).after(*[0, 1] * (numbers - 1), 0)
-        expect(f"02 A, {numbers} numbers", (forest.count(parse.buffers.store, parse.finished()[2]), len(set(parse.trees()))), ((0, ways), ways))
-    for name, store, handle, wanted, listed in [
-            ("20.2 K, both kinds at once", "8000 8001 0202 2202 2401", 2, (0, 2), [(2, 1), (1, 0)]),
-            ("20.3 a filler behind the Sum", "8000 0102 FFFF 2302", 1, (0, 1), [(2, 0)]),
-            ("20.4 a handle at a filler", "8000 FFFF 0102 2302", 1, (12, 1), None),
-            ("20.4 a factor at a filler", "FFFF 8000 0102 2302", 2, (12, 2), None),
-            ("20.4 a handle inside a Product", "8000 4001 0105 2301", 2, (0, 1), [(1, 0)]),
-            ("20.5 Sum 0", "8000 0002", 1, (0, 0), []),
-            ("20.5 a factor between the Sum and its Product", "8000 0202 2202 2102", 1, (12, 1), None),
-            ("20.5 a factor at a NullingLeaf", "9000 0102 2202", 1, (12, 1), None),
-            ("20.5 a Sum without its Product", "8000 0102", 1, (12, 1), None),
-            ("20.5 a Sum behind a Sum", "8000 0102 0002", 1, (12, 1), None),
-            ("20.6 two faulty Sums", "9000 0102 2202 0202 2302 2505", 3, (12, 1), None),
-            ("20.6 a faulty Sum that is not below", "8000 0502 0102 2302", 2, (0, 1), [(2, 0)]),
-            ("20.6 past the store", "8000", 7, (12, 7), None)]:
-        expect(name, forest.count(units(store), handle), wanted)
-        if listed is not None:
-            expect(f"{name}: trees", list(forest.trees(units(store), handle, 9)), listed)
-            expect(f"{name}: tree by tree", [forest.tree(units(store), handle, k) for k in range(len(listed))], listed)
-    for tokens, wanted in [(63, (0, 1 << 63)), (64, (23, None))]:
-        parse = Parse(DOUBLING, 400, 100, 50, 4000).after(*[0] * tokens)
-        expect(f"20.9 doubling, {tokens} tokens", forest.count(parse.buffers.store, parse.finished()[2]), wanted)
-    parse = Parse(A, 2000, 64, 1000, forest.USABLE)
-    forest_run = engine.run(A, parse.state, parse.buffers, [0, 1] * 29 + [0])
-    handle = engine.finished(A, forest_run[1], parse.buffers)[2]
-    expect("02 A, 30 numbers", (forest_run[::2], forest.count(parse.buffers.store, handle)), ((0, 59), (0, comb(58, 29) // 30)))
-    parse = Parse(A, 100, 20, 50, 400).after(0, 1, 0)
-    older, listed = parse.finished()[2], parse.trees()
-    parse.after(1, 0, 1, 0)
-    expect("20.13 an older handle", list(forest.trees(parse.buffers.store, older, 9)), listed)
-
-
 def main():
     global engine, engine_name
     for engine_name, engine in ENGINES.items():
         for part in (words_and_capacities, starts, order_of_refusals, what_is_written, well_formed, finished, figures, how_many_summands, forged_rows):
             part()
-    trees()
     return 0 if passed() else 1
 
 

@@ -7,17 +7,17 @@ ROUNDS times some random grammars with their tokens, from SEED. Prints what was 
 compared less often than LEAST says for a round.
 """
 
-import random
 import sys
-from collections import Counter
 
 import forest_model as forest
 import forest_numbers
 import generate
 import model
 import node_model
+import rounds
 import streams
 from forest_model import Buffers
+from rounds import in_hand, met, same
 from streams import Case, NO_NODE
 
 # Room for all that is read here.
@@ -25,19 +25,6 @@ ITEMS, SETS, QUEUE, UNITS = 600, 20, 400, 6000
 
 # Trees are listed up to so many; of more only the number is compared.
 MOST_TREES = 200
-
-met = Counter()
-in_hand = []  # the case that is being looked at
-
-
-class Differs(Exception):
-    pass
-
-
-def same(what, got, wanted):
-    met["compared"] += 1
-    if got != wanted:
-        raise Differs(f"{what}\n  got    {got}\n  wanted {wanted}\n  in {in_hand}")
 
 
 # ------------------------------------------------------------------------------------------------------------ Parses
@@ -357,26 +344,5 @@ LEAST = {
 }
 
 
-def main():
-    seed, rounds = int(sys.argv[1]), int(sys.argv[2])
-    rng = random.Random(seed)
-    try:
-        units_of_the_rust()
-        for _ in range(rounds):
-            for part in (new_words_never_decide, beside_the_recognizer, beside_the_bocage, beside_the_rules):
-                part(rng)
-    except Differs as differs:
-        print(f"seed {seed}: {differs}")
-        return 1
-    for name in sorted(met):
-        print(f"{name}: {met[name]}")
-    rare = [name for name, least in LEAST.items() if met[name] < least * rounds]
-    if rounds < 1 or rare:
-        print("met too rarely: " + ", ".join(rare))
-        return 1
-    print(f"seed {seed}, {rounds} rounds: no difference")
-    return 0
-
-
 if __name__ == "__main__":
-    sys.exit(main())
+    sys.exit(rounds.run((new_words_never_decide, beside_the_recognizer, beside_the_bocage, beside_the_rules), LEAST, (units_of_the_rust,)))

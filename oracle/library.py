@@ -235,3 +235,30 @@ def translate(written, lent):
         return number, None, None
     assert after[length.value:] == before[length.value:] and length.value <= lent and empty.value in (0, 1)
     return 0, after[:length.value], empty.value == 1
+
+
+# ------------------------------------------------------------------------------------------------------------- Trees
+
+library.brinesaddle_count.argtypes = slice_of(u16) + [size, ctypes.POINTER(u64), ctypes.POINTER(size)]
+library.brinesaddle_tree.argtypes = slice_of(u16) + [size, u64] + slice_of(u32) + OUT + OUT
+
+
+def count(store, handle):
+    """As its namesake in forest_model.py: what is told beside the number, the other word being as it was."""
+    units, length = array(u16, store)
+    trees, place = u64(0xBAD), size(0xBAD)
+    answer = library.brinesaddle_count(units, length, handle, ctypes.byref(trees), ctypes.byref(place))
+    assert units[:length] == store
+    assert (trees.value == 0xBAD or answer == 0) and (place.value == 0xBAD or answer == 12), f"{answer} writes another word"
+    return answer, {0: trees.value, 12: place.value}.get(answer)
+
+
+def tell(store, handle, k, place):
+    """As its namesake in forest_model.py."""
+    units, length = array(u16, store)
+    out = (u32 * (len(place) + BEHIND))(*place, *[0xABAB] * BEHIND)
+    count, fault = size(0xBAD), size(0xBAD)
+    answer = library.brinesaddle_tree(units, length, handle, k, out, len(place), ctypes.byref(count), ctypes.byref(fault))
+    assert units[:length] == store and out[len(place):] == [0xABAB] * BEHIND, "written behind the place"
+    assert fault.value == 0xBAD or answer == 12, f"{answer} writes the place of a fault"
+    return answer, count.value, fault.value if answer == 12 else None, out[:len(place)]

@@ -11,24 +11,22 @@ kinds beside the model are in differential.py. Prints what was compared. Fails a
 LEAST says for a round.
 """
 
-import random
 import sys
 from itertools import combinations, product
 
 import differential
 import forest_model as forest
-import forests
 import generate
 import library
 import model
 import position_numbers
+import rounds
 import sentences
 import streams
-from differential import Both, Differs, met, same
+import trees
+from differential import Both
+from rounds import in_hand, met, same
 from streams import Case
-
-# Trees are listed up to so many; of more only the number is compared.
-MOST_TREES = 60
 
 
 # -------------------------------------------------------------------------------------------------- One kind is a token
@@ -126,46 +124,11 @@ def where_the_rust_parts():
 
 # ---------------------------------------------------------------------------------------------------- The rules alone
 
-class Parse(sentences.Library):
-    """A parse in the library's words that reads positions."""
-
-    def kinds(self, position):
-        answer, self.state = library.kinds(self.file, self.state, self.lent, position)
-        return answer
-
-    def finished(self):
-        """The handle, or None."""
-        answer, yes, handle = library.finished(self.file, self.state, self.lent)
-        same("finished", (answer, handle == streams.NO_NODE), (0, not yes))
-        return handle if yes else None
-
-    def store(self):
-        return self.lent.parts[4][0][:self.state.used]
-
-
-def same_as_derived(grammar, words, parse, handle):
-    """The trees of a finished parse beside the derivations of each word that spells its positions."""
-    derived = [forest.Derivations(grammar, word) for word in words]
-    wanted, store = sum(one.count() for one in derived), parse.store()
-    same("count", forest.count(store, handle), (0, wanted))
-    met["finished"] += 1
-    met["finished by several words"] += sum(1 for one in derived if one.count()) > 1
-    if wanted > MOST_TREES:
-        met["finished of which only the number is compared"] += 1
-        return
-    listed = list(forest.trees(store, handle, wanted + 1))
-    same("each once", (len(listed), len(set(listed))), (wanted, wanted))
-    same("exactly the derivations", sorted(listed), sorted(tree for one in derived for tree in one.listed()))
-    for one, other in zip(listed, listed[1:]):
-        forests.in_summand_order(grammar, one, other)
-    met["trees"] += wanted
-
-
 def beside_the_rules(rng):
     """Every choice of positions up to a length, prefix by prefix."""
     for _ in range(25):
         file, grammar = generate.small_grammar(rng)
-        rules, parse = sentences.Rules(grammar), Parse(file)
+        rules, parse = sentences.Rules(grammar), trees.Parse(file)
         tokens, longest = range(grammar.tokens), {1: 6, 2: 4, 3: 3}[grammar.tokens]
         every = [list(kinds) for many in range(1, grammar.tokens + 1) for kinds in combinations(tokens, many)]
 
@@ -173,6 +136,7 @@ def beside_the_rules(rng):
             here = parse.mark()
             for kinds in every:
                 longer = positions + [kinds]
+                in_hand[:] = [file.hex(), longer]
                 words = list(product(*longer))
                 begun = any(rules.is_begun(word) for word in words)
                 same(f"{longer} on {file.hex()}", parse.kinds(kinds), 0 if begun else 6)
@@ -181,12 +145,8 @@ def beside_the_rules(rng):
                 met["refused 6, of several kinds"] += not begun and len(kinds) > 1
                 if not begun:
                     continue
-                handle = parse.finished()
-                same(f"finished, {longer} on {file.hex()}", handle is not None, any(rules.is_sentence(word) for word in words))
-                if handle is None:
-                    met["not finished"] += 1
-                else:
-                    same_as_derived(grammar, words, parse, handle)
+                same(f"finished, {longer} on {file.hex()}", parse.finished(), any(rules.is_sentence(word) for word in words))
+                trees.same_as_derived(grammar, longer, parse)
                 if len(longer) < longest:
                     visit(longer)
                 parse.back_to(here)
@@ -203,31 +163,9 @@ LEAST = {
     **{f"run as run_kinds, {n}": least for n, least in [(0, 20), (4, 10), (5, 2), (6, 4), (7, 2)]},
     "Rust: position 0": 40, "Rust: position 6": 5, "Rust: one less 7": 10, "Rust: one less 8": 10, "Rust: one less 9": 10, "Rust: one less 14": 10,
     "accepted, of several kinds": 200, "refused 6, of several kinds": 20, "refused 6": 50, "not finished": 50, "finished": 100, "finished by several words": 50,
-    "trees": 500,
+    "trees beside the rules": 500,
 }
 
 
-def main():
-    seed, rounds = int(sys.argv[1]), int(sys.argv[2])
-    rng = random.Random(seed)
-    try:
-        where_the_rust_parts()
-        every_room()
-        for _ in range(rounds):
-            for part in (one_kind_is_a_token, beside_the_rust, beside_the_rules):
-                part(rng)
-    except (Differs, forests.Differs) as differs:
-        print(f"seed {seed}: {differs}")
-        return 1
-    for name in sorted(met):
-        print(f"{name}: {met[name]}")
-    rare = [name for name, least in LEAST.items() if met[name] < least * rounds]
-    if rounds < 1 or rare:
-        print("met too rarely: " + ", ".join(rare))
-        return 1
-    print(f"seed {seed}, {rounds} rounds: no difference")
-    return 0
-
-
 if __name__ == "__main__":
-    sys.exit(main())
+    sys.exit(rounds.run((one_kind_is_a_token, beside_the_rust, beside_the_rules), LEAST, (where_the_rust_parts, every_room)))

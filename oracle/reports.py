@@ -20,7 +20,8 @@ import differential
 import generate
 import library
 import model
-from differential import Both, Differs, met, same
+from differential import Both
+from rounds import Differs, met, same
 from streams import Chart
 
 OFFERED = 40

@@ -1,5 +1,6 @@
 //! The rule reader of the load balancer, over its proved static library. Safe: no call here can be made in a way that the library does
-//! not take. Nothing is allocated but by the caller. A call needs up to 80 KiB of stack, the one for records 120 KiB, a translation 208 KiB, one on nodes 512 bytes (include/brinesaddle.h).
+//! not take. Nothing is allocated but by the caller. A call needs up to 80 KiB of stack, the one for records 120 KiB, a translation 208 KiB, one on nodes 512 bytes, one on trees
+//! up to 3,200 KiB ([`trees`], include/brinesaddle.h).
 //!
 //! ```
 //! use brinesaddle::{read_node, Node, Parse, Refusal, Words, MAX_TOKENS};
@@ -20,6 +21,9 @@
 //! repository's target/staticlib, where `rt staticlib host` writes it.
 
 mod raw;
+mod trees;
+
+pub use trees::{count_trees, trees, NoTree, Tree, Trees};
 
 use std::error::Error;
 use std::{fmt, str};

@@ -7,3 +7,4 @@ pub mod Settled
 pub mod FromWords
 pub mod LocalWords
 pub mod Translated
+pub mod EveryTree

@@ -3,4 +3,5 @@ pub mod Answers
 pub mod Reports
 pub mod Nodes
 pub mod Translating
+pub mod Trees
 pub mod inner

@@ -20,6 +20,7 @@ ghost use Rattle.host.specs.Reports.{FinishesIn, ReportsIn, saysIn};
 ghost use Rattle.host.specs.Translating.{TranslatesIn};
 ghost use Rattle.host.specs.Nodes.{writeIn, numberIn, placeOr, positionOr, numbersOr, countOr};
 
+mod every_tree;
 mod nodes;
 mod parse_words;
 mod records;

@@ -2,7 +2,7 @@
 use mathlib.Core.Path.{_≡_, refl, subst}
 use mathlib.Core.Bool.{true}
 use mathlib.Core.List.{[], _∷_, flatMap}
-use Prim.Native.Nat.{_*_}
+use Prim.Native.Nat.{ℕ, _*_}
 use native.Mathlib.Omega.{arith}
 use lib.ListN.{replicate}
 use Rattle.laws.specs.Bits.{union}
@@ -81,12 +81,16 @@ two-trees-a =
     (finished-trees
     (Finishes.done (record { checked = sound-a .checked; well-formed = lasts-holding (lasts history) (sound-a .checked) .well })) .trees (plain word) history says))
 
--- Where the word is 0 or 1, K has a tree for each: `2 1`, then `1 0`.
-are-k : treesAt (words-k1 .store) (finishedHandle (state 1 1 5) (within words-k1)) ≡ one 2 (leaf 1) ∷ one 1 (leaf 0) ∷ []
+-- Where the word is 0 or 1, finished says yes too, and K has a tree for each: `2 1`, then `1 0`.
+abbrev pub handle-k : ℕ
+handle-k = finishedHandle (state 1 1 5) (within words-k1)
+
+pub finished-k : Finishes file-k (state 1 1 5) words-k1 0 true handle-k
+finished-k = Finishes.done (record { checked = sound-k .checked; well-formed = both-k .ready .well-formed })
+
+pub are-k : treesAt (words-k1 .store) handle-k ≡ one 2 (leaf 1) ∷ one 1 (leaf 0) ∷ []
 unfolding unitsOf rowOf sumRow longProduct aloneRow pairRow productRow leafRow unfit unfitProduct unfitRight bothBelow longRight nodeAt productsAt fillers holds standAll stand factorAt alone paired nearSpelt leafSpelt flatMap rowsOf
 are-k = refl
 
 pub two-trees-k : TreesOf (grammarOf file-k) ((0 ∷ 1 ∷ []) ∷ []) (one 2 (leaf 1) ∷ one 1 (leaf 0) ∷ [])
-two-trees-k =
-    subst (TreesOf (grammarOf file-k) ((0 ∷ 1 ∷ []) ∷ [])) are-k
-    (finished-trees (Finishes.done (record { checked = sound-k .checked; well-formed = both-k .ready .well-formed })) .trees ((0 ∷ 1 ∷ []) ∷ []) (both-k .history) refl)
+two-trees-k = subst (TreesOf (grammarOf file-k) ((0 ∷ 1 ∷ []) ∷ [])) are-k (finished-trees finished-k .trees ((0 ∷ 1 ∷ []) ∷ []) (both-k .history) refl)

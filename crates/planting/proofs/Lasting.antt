@@ -41,6 +41,8 @@ use Rattle.forest.specs.Forests.{Node, other, listed}
 use Rattle.forest.specs.Every.{Derived}
 use Rattle.forest.specs.Stores.{standing, productsAt, asNode, nodeAt, treesAt}
 use Rattle.forest.proofs.Onwards.{finished-every}
+use Rattle.forest.proofs.Rooted.{Rooted}
+use Rattle.forest.proofs.Units.{unitStore}
 use Rattle.planting.specs.Finished.{TreesOf, FinishedTrees, TokenTrees}
 use Rattle.planting.proofs.Growing.{Grown, start-grown, step-grown}
 
@@ -112,12 +114,12 @@ module _ {g : Grammar} {table : List (List ℕ)} (accepted : Accepted g) (predic
           })
 
 -- The same along a history, under the grammar that the file gives.
-record Stands (file : List ℕ) (s : State) (w : Words) (a : Positions) : Type 0 where
+pub record Stands (file : List ℕ) (s : State) (w : Words) (a : Positions) : Type 0 where
   pub grammar : Grammar
   pub checked : Checked file grammar
   pub wooded : Wooded grammar a s (within w)
 
-stands-wooded : {file : List ℕ} {s : State} {w : Words} {a : Positions} {g : Grammar} → Stands file s w a → Checked file g → Wooded g a s (within w)
+pub stands-wooded : {file : List ℕ} {s : State} {w : Words} {a : Positions} {g : Grammar} → Stands file s w a → Checked file g → Wooded g a s (within w)
 stands-wooded {s = s} {w = w} {a = a} l checked = subst (λ (k : Grammar). Wooded k a s (within w)) (checked-grammar (l .checked) checked) (l .wooded)
 
 -- Words of the same sizes, put in the place of those within the capacities, are those within them.
@@ -170,7 +172,7 @@ module _ {file : List ℕ} {s : State} {w : Words} {a : Positions} (h : History 
   not-started-on (Starts.done sound some) n = absurd (n refl)
 
 -- EVERY HISTORY'S FOREST STANDS.
-stands : {file : List ℕ} {s : State} {w : Words} {a : Positions} → History file s w a → Stands file s w a
+pub stands : {file : List ℕ} {s : State} {w : Words} {a : Positions} → History file s w a → Stands file s w a
 stands (History.fresh starts zero) = stands-start starts zero
 stands (History.accepted h takes zero) = accepted-on h (stands h) takes zero
 stands (History.not-accepted h takes some) = not-accepted-on h (stands h) takes some
@@ -183,9 +185,12 @@ unfolding nodeAt
 nodes-usable s t same =
     λ i h. standing (same i) h (spelt (same i) h) (λ w. asNode w (λ n. productsAt n (same i) (h + length (unitsAt h w)))) other
 
+-- The units within the capacities are the usable ones.
+pub within-usable : (w : Words) → usable (within w .store) ≡ usable (w .store)
+within-usable w = take-all usableUnits (within w .store) (store-usable w) ∙ usable-part _ (w .store) refl
+
 within-nodes : (w : Words) → nodeAt (within w .store) ≡ nodeAt (w .store)
-within-nodes w =
-    nodes-usable (within w .store) (w .store) (take-all usableUnits (within w .store) (store-usable w) ∙ usable-part _ (w .store) refl)
+within-nodes w = nodes-usable (within w .store) (w .store) (within-usable w)
 
 module _ {g : Grammar} {a : Positions} {s : State} {v : Words} (accepted : Accepted g) (wooded : Wooded g a s v) (says : lastWraps s v ≡ true) where
   both : (ltb (startOf v (s .set)) (s .items) ≡ true) × (eqb (ruleAt (v .items) (s .items - 1)) 0 ≡ true)
@@ -208,6 +213,10 @@ module _ {g : Grammar} {a : Positions} {s : State} {v : Words} (accepted : Accep
       subst (λ h. TreesOf g a (treesAt (v .store) h)) told
       (finished-every accepted (wooded .grown .holds) (wooded .grown .handled) last-in
       (record { place = s .items - 1; in-set = last-in; origin = refl; rule = zero-rule }) zero-rule (suc (handleAt (v .items) (s .items - 1))) (omega arith))
+
+  -- And that handle is rooted.
+  pub last-rooted : Rooted (unitStore (v .store)) (s .used) (finishedHandle s v)
+  last-rooted = subst (Rooted (unitStore (v .store)) (s .used)) told (wooded .grown .handled .held (s .set) (s .items - 1) last-in .rooted)
 
 -- EVERY TREE, EACH ONCE, under the handle that finished tells.
 pub finished-trees : {file : List ℕ} {s : State} {w : Words} {number : ℕ} {yes : Bool} {handle : ℕ} → Finishes file s w number yes handle

@@ -16,4 +16,7 @@ pub mod Rooms
 pub mod Growing
 pub mod Calls
 pub mod Lasting
+pub mod Keeping
+pub mod Numbers
 pub mod Examples
+pub mod Telling

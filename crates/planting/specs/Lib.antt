@@ -5,3 +5,4 @@ pub mod Pops
 pub mod Planted
 pub mod Room
 pub mod Finished
+pub mod Told

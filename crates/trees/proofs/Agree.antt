@@ -16,7 +16,7 @@ use Rattle.trees.specs.Answers.{Answer, answer, position, words, needed,
 one-lowest : {store : List ℕ} {h s q : ℕ} → LowestFault store h s → LowestFault store h q → s ≡ q
 one-lowest {s = s} {q = q} a b = omega (arith, a .lowest q (b .below) (b .faulty), b .lowest s (a .below) (a .faulty))
 
-no-fault : {store : List ℕ} {h s : ℕ} → LowestFault store h s → Sound store h → ⊥
+pub no-fault : {store : List ℕ} {h s : ℕ} → LowestFault store h s → Sound store h → ⊥
 no-fault {s = s} f sound = sound .sound s (f .below) (f .faulty)
 
 pub counts-agree : {store : List ℕ} {h : ℕ} {a b : Answer} → Counts store h a → Counts store h b → a ≡ b

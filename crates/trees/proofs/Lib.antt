@@ -15,3 +15,5 @@ pub mod Tabled
 pub mod Choices
 pub mod Laying
 pub mod Answering
+-- Nothing is faulty where a forest was planted.
+pub mod Planted
