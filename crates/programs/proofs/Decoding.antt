@@ -6,7 +6,7 @@ use native.Mathlib.Omega.{arith}
 use lib.ListN.{length, take, drop, set, getD, length-set, drop-of-length-le}
 use lib.Seq.{take-suc-set, drop-cons, length-take-le}
 use Rattle.io.specs.Counts.{Counts}
-use Rattle.driver.specs.Parts.{foreign, tokensOf}
+use Rattle.programs.specs.Tokens.{foreign, tokensOf}
 
 -- Tokens are half as many as bytes, a lone one counted whole.
 pub record Halves (bytes : List ℕ) : Type 0 where

@@ -1,9 +1,9 @@
--- `driver::text::put_line` meets its contract. Three copies, one behind the other, are a line; a word has at most twenty digits.
+-- `programs::text::put_line` meets its contract. Three copies, one behind the other, are a line; a word has at most twenty digits.
 use native.Mathlib.Omega.{arith}
-use Rattle.driver.proofs.Texts.{a-line, twenty}
+use Rattle.programs.proofs.Texts.{a-line, twenty}
 use borrow.Author.Needs.{needs}
-use Rattle.driver.proofs.text.put_line.Statement.{statement}
-use Rattle.driver.proofs.text.put_line.Tie as tie
+use Rattle.programs.proofs.text.put_line.Statement.{statement}
+use Rattle.programs.proofs.text.put_line.Tie as tie
 
 wide-requires : tie.Need-wide-requires
 wide-requires c κs = search needs

@@ -9,11 +9,11 @@ use lib.Seq.{length-take-le, getD-take, take-take, take-at}
 use Rattle.io.specs.Counts.{Counts}
 use Rattle.grammar.specs.Accepted.{maxRules}
 use Rattle.grammar.specs.File.{headerBytes, ruleBytes, u16At, versionOf, lengthOf, ruleCountOf}
-use Rattle.driver.specs.declared.header.Header.{Header}
-use Rattle.driver.specs.declared.header.Header.the-variants.{Length}
-use Rattle.driver.specs.Header.{longestFile, Wrong, Says, Judged, ReadTo}
-use Rattle.driver.specs.Header.Wrong.{short, version, told-length}
-use Rattle.driver.specs.Header.Says.{malformed, broken, whole}
+use Rattle.programs.specs.declared.header.Header.{Header}
+use Rattle.programs.specs.declared.header.Header.the-variants.{Length}
+use Rattle.programs.specs.Header.{longestFile, Wrong, Says, Judged, ReadTo}
+use Rattle.programs.specs.Header.Wrong.{short, version, told-length}
+use Rattle.programs.specs.Header.Says.{malformed, broken, whole}
 
 -- Eleven bytes, version 1 and L = 11 + 6R are not wrong.
 pub not-wrong :

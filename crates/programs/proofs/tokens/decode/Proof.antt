@@ -1,10 +1,10 @@
--- `driver::tokens::decode` meets its contract. The invariant: the tokens of the first `i` pairs stand in the words.
+-- `programs::tokens::decode` meets its contract. The invariant: the tokens of the first `i` pairs stand in the words.
 use Prim.Native.Nat.{_-_}
 use native.Mathlib.Omega.{arith}
 use borrow.Author.Needs.{needs}
-use Rattle.driver.proofs.Decoding.{Decoded, decoded-start, decoded-next, decoded-at, decoded-even, decoded-odd}
-use Rattle.driver.proofs.tokens.decode.Statement.{statement}
-use Rattle.driver.proofs.tokens.decode.Tie as tie
+use Rattle.programs.proofs.Decoding.{Decoded, decoded-start, decoded-next, decoded-at, decoded-even, decoded-odd}
+use Rattle.programs.proofs.tokens.decode.Statement.{statement}
+use Rattle.programs.proofs.tokens.decode.Tie as tie
 
 abbrev Inv-loop : tie.InvT-loop
 Inv-loop bytes words₀ whole i₀ words i = Decoded bytes words₀ i words

@@ -1,10 +1,10 @@
--- `driver::judged` meets its contract: what the header says, and then whether its length came.
+-- `programs::header::judged` meets its contract: what the header says, and then whether its length came.
 use native.Mathlib.Omega.{arith}
-use Rattle.driver.specs.Header.{Judged}
-use Rattle.driver.proofs.Headers.{says-same}
+use Rattle.programs.specs.Header.{Judged}
+use Rattle.programs.proofs.Headers.{says-same}
 use borrow.Author.Needs.{needs}
-use Rattle.driver.proofs.judged.Statement.{statement}
-use Rattle.driver.proofs.judged.Tie as tie
+use Rattle.programs.proofs.header.judged.Statement.{statement}
+use Rattle.programs.proofs.header.judged.Tie as tie
 
 told-requires : tie.Need-told-requires
 told-requires c κs = search needs

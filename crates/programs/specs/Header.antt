@@ -5,8 +5,8 @@ use Prim.Native.Nat.{ℕ, _+_, _*_, _≤_, _<_}
 use lib.ListN.{length}
 use Rattle.grammar.specs.Accepted.{maxRules}
 use Rattle.grammar.specs.File.{headerBytes, ruleBytes, versionOf, lengthOf, ruleCountOf}
-use Rattle.driver.specs.declared.header.Header.{Header}
-use Rattle.driver.specs.declared.header.Header.the-variants.{Malformed, Broken, Length}
+use Rattle.programs.specs.declared.header.Header.{Header}
+use Rattle.programs.specs.declared.header.Header.the-variants.{Malformed, Broken, Length}
 
 -- The longest file that its header lets through.
 abbrev pub longestFile : ℕ

@@ -1,11 +1,11 @@
--- `driver::header::told` meets its contract. One way to be wrong a return; a header that passes the tests is not wrong.
+-- `programs::header::told` meets its contract. One way to be wrong a return; a header that passes the tests is not wrong.
 use native.Mathlib.Omega.{arith}
-use Rattle.driver.specs.Header.Wrong.{short, version, told-length}
-use Rattle.driver.specs.Header.Says.{malformed, broken}
-use Rattle.driver.proofs.Headers.{not-wrong, gives-length}
+use Rattle.programs.specs.Header.Wrong.{short, version, told-length}
+use Rattle.programs.specs.Header.Says.{malformed, broken}
+use Rattle.programs.proofs.Headers.{not-wrong, gives-length}
 use borrow.Author.Needs.{needs}
-use Rattle.driver.proofs.header.told.Statement.{statement}
-use Rattle.driver.proofs.header.told.Tie as tie
+use Rattle.programs.proofs.header.told.Statement.{statement}
+use Rattle.programs.proofs.header.told.Tie as tie
 
 returns : tie.Need-returns
 returns c = malformed (short (search needs))

@@ -1,9 +1,9 @@
--- `driver::text::put` meets its contract. What a copy to `at` leaves.
+-- `programs::text::put` meets its contract. What a copy to `at` leaves.
 use native.Mathlib.Omega.{arith}
-use Rattle.driver.proofs.Texts.{put-text}
+use Rattle.programs.proofs.Texts.{put-text}
 use borrow.Author.Needs.{needs}
-use Rattle.driver.proofs.text.put.Statement.{statement}
-use Rattle.driver.proofs.text.put.Tie as tie
+use Rattle.programs.proofs.text.put.Statement.{statement}
+use Rattle.programs.proofs.text.put.Tie as tie
 
 sub-copy : tie.Need-sub-copy
 sub-copy c = search needs

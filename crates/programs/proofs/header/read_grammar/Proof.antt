@@ -1,13 +1,13 @@
--- `driver::read_grammar` meets its contract: the bytes behind the header leave it as it was read.
+-- `programs::header::read_grammar` meets its contract: the bytes behind the header leave it as it was read.
 use mathlib.Core.Path.{sym, _∙_}
 use mathlib.Core.List.{_++_}
 use native.Mathlib.Omega.{arith}
 use lib.ListN.{drop}
 use lib.Seq.{length-take-le, length-front}
-use Rattle.driver.proofs.Headers.{told-bounds, says-same, front-counts, read-header, read-rest}
+use Rattle.programs.proofs.Headers.{told-bounds, says-same, front-counts, read-header, read-rest}
 use borrow.Author.Needs.{needs}
-use Rattle.driver.proofs.read_grammar.Statement.{statement}
-use Rattle.driver.proofs.read_grammar.Tie as tie
+use Rattle.programs.proofs.header.read_grammar.Statement.{statement}
+use Rattle.programs.proofs.header.read_grammar.Tie as tie
 
 slice-relend-prefix-read-full : tie.Need-slice-relend-prefix-read-full
 slice-relend-prefix-read-full c = search needs

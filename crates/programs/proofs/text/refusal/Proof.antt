@@ -1,9 +1,9 @@
--- `driver::text::refusal` meets its contract. One line from the start.
+-- `programs::text::refusal` meets its contract. One line from the start.
 use native.Mathlib.Omega.{arith}
-use Rattle.driver.proofs.Texts.{counts}
+use Rattle.programs.proofs.Texts.{counts}
 use borrow.Author.Needs.{needs}
-use Rattle.driver.proofs.text.refusal.Statement.{statement}
-use Rattle.driver.proofs.text.refusal.Tie as tie
+use Rattle.programs.proofs.text.refusal.Statement.{statement}
+use Rattle.programs.proofs.text.refusal.Tie as tie
 
 slice-aggregate-put-line : tie.Need-slice-aggregate-put-line
 slice-aggregate-put-line c = search needs
