@@ -42,6 +42,10 @@ static uint8_t written[9 + 36 * 65535], made[BRINESADDLE_MAX_FILE];
 static size_t written_len, length;
 static uint32_t empty;
 
+/* The plain engine's table, and how many tokens it is asked of. */
+static uint64_t table[BRINESADDLE_MAX_TABLE_WORDS];
+static size_t few;
+
 /* The places of the reports, each at its longest, and whether they are lent or nothing is. */
 static uint16_t expected_tokens[BRINESADDLE_MAX_TOKENS];
 static uint8_t text[BRINESADDLE_MAX_LINE * ITEMS];
@@ -73,11 +77,12 @@ static void node_read(void) { answer = brinesaddle_node_read(store, UNITS, posit
 static void node_walk(void) { answer = brinesaddle_node_walk(store, UNITS, 0, &count, &behind, &place); }
 static void count_trees(void) { answer = brinesaddle_count(forest, UNITS, handle, &trees, &place); }
 static void tree(void) { answer = brinesaddle_tree(forest, UNITS, handle, 0, LENT(tree_words), &count, &place); }
+static void plain(void) { answer = brinesaddle_plain(FILE_LENT, tokens, few, table, lent ? BRINESADDLE_MAX_TABLE_WORDS : 0, &yes, &count); }
 static void translate(void) { answer = brinesaddle_translate(written, written_len, made, sizeof made, &length, &empty); }
 
 enum {
     CHECK, START, TOKEN, RUN, KINDS, RUN_KINDS, FINISHED, LATEST_SET, EXPECTED, LISTING, LATEST_WORDS, LATEST_RECORDS, NODE_WRITE, NODE_READ, NODE_WALK, TRANSLATE,
-    COUNT, PARSE_TREE, TREE, CALLS
+    COUNT, PARSE_TREE, TREE, PLAIN, CALLS
 };
 
 static const struct {
@@ -104,6 +109,7 @@ static const struct {
     [COUNT] = {"count", count_trees, BRINESADDLE_COUNT_STACK},
     [PARSE_TREE] = {"tree of a list", tree, BRINESADDLE_PARSE_TREE_STACK},
     [TREE] = {"tree", tree, BRINESADDLE_TREE_STACK},
+    [PLAIN] = {"plain", plain, BRINESADDLE_PLAIN_STACK},
 };
 
 static size_t most[CALLS];
@@ -170,12 +176,25 @@ static void refused_alike(uint32_t wanted)
     places(wanted);
 }
 
+/* The plain engine with the file at hand, accepted. */
+static void settles(void)
+{
+    few = BRINESADDLE_MAX_PLAIN_TOKENS;
+    measure(PLAIN, BRINESADDLE_DONE);
+    lent = 0;
+    measure(PLAIN, BRINESADDLE_TOO_SHORT);
+    lent = 1;
+    few++;
+    measure(PLAIN, BRINESADDLE_TOO_MANY_TOKENS);
+}
+
 /* Every call with the file at hand, accepted, and tokens of which the long run is refused with `full`. */
 static void parses(uint32_t full)
 {
     for (size_t k = 0; k < tokens_len; k++)
         positions[2 * k] = 1, positions[2 * k + 1] = tokens[k];
     measure(CHECK, BRINESADDLE_DONE);
+    settles();
     measure(START, BRINESADDLE_DONE);
     measure(KINDS, BRINESADDLE_DONE);
     measure(START, BRINESADDLE_DONE);
@@ -196,11 +215,13 @@ static void parses(uint32_t full)
     starts[0] = 0;
     file_len--;
     measure(CHECK, BRINESADDLE_MALFORMED);
+    measure(PLAIN, BRINESADDLE_MALFORMED);
     measure(START, BRINESADDLE_MALFORMED);
     refused_alike(BRINESADDLE_MALFORMED);
     file_len++;
     memcpy(file + file_len - 6, file + file_len - 12, 6);
     measure(CHECK, BRINESADDLE_BROKEN);
+    measure(PLAIN, BRINESADDLE_BROKEN);
     measure(START, BRINESADDLE_BROKEN);
     refused_alike(BRINESADDLE_BROKEN);
 }

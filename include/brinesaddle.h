@@ -290,6 +290,30 @@ uint32_t brinesaddle_count(const uint16_t *store, size_t store_len, size_t handl
 uint32_t brinesaddle_tree(const uint16_t *store, size_t store_len, size_t handle, uint64_t k, uint32_t *out, size_t out_len, size_t *count,
                           size_t *place);
 
+/* ---- The plain engine, for auditors
+ *
+ * A second way to the same answer, with no sets, no queue and no prediction: a table of which symbol derives which stretch of the tokens, filled by
+ * length. Its yes is proved to equal "all tokens taken and finished" of a parse, wherever that parse met no refusal for want of room.
+ *
+ * The table has a row of eight words for each stretch, symbol s as bit s % 64 of word s / 64: first the stretches of one token, by where they
+ * begin, then those of two, and so on. Of n tokens the stretch of l tokens behind the first i has row (l - 1) n - (l - 1)(l - 2) / 2 + i. */
+enum {
+    BRINESADDLE_TOO_MANY_TOKENS = 22, /* plain: more than BRINESADDLE_MAX_PLAIN_TOKENS */
+    BRINESADDLE_MAX_PLAIN_TOKENS = 64,
+    BRINESADDLE_MAX_TABLE_WORDS = 16640, /* always suffice; n tokens need 4 n (n + 1) */
+    BRINESADDLE_PLAIN_STACK = 40960      /* the bytes of stack, as above */
+};
+
+/* Whether tokens are a sentence.
+ * Answers 0, 1, 2, 5 (some token, wherever it stands), 22 or 13, the first that applies; `count` is written always. An empty string is no sentence,
+ * and needs no table.
+ *   0            `yes` is 1 or 0; the table stands at the front of `table`, a bit set exactly where the symbol derives the stretch; `count` is
+ *                how many words it has; the words behind it are as they were
+ *   13           `table` is too short and as it was, and `yes` too; `count` is the number of words needed
+ *   1, 2, 5, 22  `table` and `yes` as they were; `count` is 0 */
+uint32_t brinesaddle_plain(const uint8_t *file, size_t file_len, const uint16_t *tokens, size_t tokens_len, uint64_t *table, size_t table_len,
+                           uint32_t *yes, size_t *count);
+
 #ifdef __cplusplus
 }
 #endif

@@ -20,10 +20,13 @@
 //! The build script looks for `libhost.a` in the folder that the environment variable BRINESADDLE_LIB_DIR names, and without one in the
 //! repository's target/staticlib, where `rt staticlib host` writes it.
 
+mod plain;
 mod raw;
 mod trees;
 
 pub use trees::{count_trees, trees, NoTree, Tree, Trees};
+
+pub use plain::{plain, table_words, Table, Unsettled, MAX_PLAIN_TOKENS};
 
 use std::error::Error;
 use std::{fmt, str};

@@ -1,7 +1,5 @@
--- Laws on headers, on texts, on runs of parts, and on what is written.
-pub mod Headers
+-- Laws on texts, on runs of parts, and on what is written.
 pub mod Texts
-pub mod Decoding
 pub mod Running
 pub mod Reading
 pub mod Writing

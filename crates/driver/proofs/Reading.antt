@@ -17,9 +17,10 @@ use Rattle.demands.specs.Steps.{Ended}
 use Rattle.demands.specs.Calls.{asItWas, Runs}
 use Rattle.demands.proofs.Singles.{further, runs-join}
 use Rattle.recognizer.proofs.Turning.{number-some}
-use Rattle.driver.specs.Parts.{tokensOf, partBytes, partTokens, mostParts, InParts}
+use Rattle.programs.specs.Tokens.{tokensOf}
+use Rattle.driver.specs.Parts.{partBytes, partTokens, mostParts, InParts}
 use Rattle.driver.specs.Writes.{RunsPart, RunsOver}
-use Rattle.driver.proofs.Decoding.{Even, halves, tokens-join}
+use Rattle.programs.proofs.Decoding.{Even, halves, tokens-join}
 use Rattle.driver.proofs.Running.{runs-all, runs-whole}
 
 abbrev pub mostTokens : ℕ

@@ -19,9 +19,10 @@ use Rattle.demands.specs.Calls.Runs.{refused, done}
 use Rattle.demands.proofs.Running.{ran-on, ran-off}
 use Rattle.demands.proofs.Singles.{call-some}
 use Rattle.demands.proofs.Ways.{is-no-token}
-use Rattle.driver.specs.Parts.{foreign, tokensOf, partBytes, partTokens}
+use Rattle.programs.specs.Tokens.{foreign, tokensOf}
+use Rattle.driver.specs.Parts.{partBytes, partTokens}
 use Rattle.driver.specs.Writes.{RunsPart}
-use Rattle.driver.proofs.Decoding.{halves}
+use Rattle.programs.proofs.Decoding.{halves}
 
 -- One position more, or a refusal, is at most one more taken.
 more-by :

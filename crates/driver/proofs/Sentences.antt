@@ -19,7 +19,7 @@ use Rattle.demands.specs.Tokens.{TokensJudged}
 use Rattle.demands.proofs.Telling.{run-tells, finished-tells}
 use Rattle.demands.proofs.Tokens.{judged-run, judged-finished}
 use Rattle.demands.proofs.Lasting.{lasts, no-fault}
-use Rattle.driver.specs.Parts.{tokensOf}
+use Rattle.programs.specs.Tokens.{tokensOf}
 use Rattle.driver.specs.Writes.{Followed}
 use Rattle.driver.proofs.Running.{runs-lone}
 

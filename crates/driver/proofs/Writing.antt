@@ -13,7 +13,8 @@ use Rattle.recognizer.specs.declared.Whether.{Whether}
 use Rattle.recognizer.specs.Answers.{refusalNumber, numberOf, stateOf, outcomeOf, endedOf, finishedNumber, saysYes, saysHandle}
 use Rattle.demands.specs.Calls.{Starts, Finishes}
 use Rattle.recognizer.proofs.Turning.{number-some}
-use Rattle.driver.specs.Text.{grammarHead, Line, Report}
+use Rattle.programs.specs.Text.{grammarHead, Line}
+use Rattle.driver.specs.Text.{Report}
 use Rattle.driver.specs.Writes.{RunsOver, SaysFinished, Followed, Recognized}
 
 -- What finished says, once its case is known.

@@ -1,18 +1,8 @@
--- The bytes behind the grammar: what tokens they say, and the parts in which they are read.
+-- The parts in which the bytes behind the grammar are read.
 use mathlib.Core.Path.{_≡_}
-use mathlib.Core.List.{List, [], _∷_, _++_}
-use Prim.Native.Nat.{ℕ, suc, _+_, _*_, _≤_, _<_}
+use mathlib.Core.List.{List, [], _++_}
+use Prim.Native.Nat.{ℕ, suc, _≤_, _<_}
 use lib.ListN.{length}
-
--- A token that no grammar has.
-abbrev pub foreign : ℕ
-foreign = 65535
-
--- The tokens that bytes say: two bytes each, big-endian. A lone last byte is a token that no grammar has.
-unfoldable pub tokensOf : List ℕ → List ℕ
-tokensOf [] = []
-tokensOf (lone ∷ []) = foreign ∷ []
-tokensOf (high ∷ (low ∷ rest)) = (high * 256 + low) ∷ tokensOf rest
 
 -- The bytes of a part, and its tokens.
 abbrev pub partBytes : ℕ

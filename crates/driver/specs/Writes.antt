@@ -10,10 +10,12 @@ use Rattle.parse.specs.Words.{Words, maxItems, maxQueued, itemRoom, setRoom, qu
 use Rattle.demands.specs.Steps.{Outcome, Ended}
 use Rattle.earley.specs.Positions.{plain}
 use Rattle.demands.specs.Calls.{Starts, Runs, Finishes}
-use Rattle.driver.specs.declared.header.Header.the-variants.{Malformed, Broken, Length}
-use Rattle.driver.specs.Header.{Judged}
-use Rattle.driver.specs.Parts.{tokensOf, partBytes, mostParts, InParts}
-use Rattle.driver.specs.Text.{grammarHead, Line, Report}
+use Rattle.programs.specs.declared.header.Header.the-variants.{Malformed, Broken, Length}
+use Rattle.programs.specs.Header.{Judged}
+use Rattle.programs.specs.Tokens.{tokensOf}
+use Rattle.programs.specs.Text.{grammarHead, Line}
+use Rattle.driver.specs.Parts.{partBytes, mostParts, InParts}
+use Rattle.driver.specs.Text.{Report}
 
 -- The sets that the driver lends.
 abbrev pub lentSets : ℕ

@@ -1,35 +1,29 @@
 // Standard input is a grammar file, then two bytes a token. The answer is four lines, or one on a grammar that is refused.
-mod header;
 mod text;
 mod tokens;
 
-ghost use mathlib.Core.Path.{_≡_};
 ghost use Prim.Native.Nat.{_≤_};
 ghost use lib.ListN.{length as lengthOf, take};
 ghost use Rattle.io.specs.Counts.{Counts};
 ghost use Rattle.parse.specs.Words.{wordsOf};
-ghost use Rattle.driver.specs.Header.{longestFile, Judged, ReadTo};
-ghost use Rattle.driver.specs.Text.{textRoom};
+ghost use Rattle.programs.specs.Text.{textRoom};
 ghost use Rattle.driver.specs.Writes.{SaysFinished, Followed, Recognized, Answered, Written};
-use grammar::file::HEADER;
-use grammar::file::RULE;
-use grammar::limits::RULES;
-use header::Header;
-use header::told;
 use libc::STDERR_FILENO;
-use libc::STDIN_FILENO;
 use libc::STDOUT_FILENO;
 use parse::State;
+use programs::header::Header;
+use programs::header::LONGEST;
+use programs::header::judged;
+use programs::header::read_grammar;
+use programs::text::ROOM;
+use programs::text::refusal;
+use programs::wide;
 use recognizer::Answer;
 use recognizer::Whether;
 use recognizer::number_of;
 use recognizer::refusal_number;
 use recognizer::state_of;
-use text::ROOM;
 use tokens::read_tokens;
-
-// The longest file that its header lets through.
-const LONGEST: usize = HEADER + RULE * RULES;
 
 // The sets that are lent.
 const SETS: usize = 256;
@@ -44,41 +38,6 @@ const ROWS: usize = bits::WIDTH * SETS;
 const QUEUE: usize = binary_heap::entry::ENTRY_WORDS * parse::room::QUEUED;
 
 const STORE: usize = parse::room::UNITS;
-
-fn wide(number: u32) -> usize
-    ensures { λ r. ⌜ r ≡ number ⌝ }
-{
-    number as usize
-}
-
-// Reads the grammar: its header, and then as many bytes as that tells. Answers how many came.
-fn read_grammar(file: &mut [u8]) -> usize
-    requires { ⌜ longestFile ≤ lengthOf (now file) ⌝ }
-    ensures place { λ r. ⌜ Counts r (now (file .exit)) ⌝ }
-    ensures far { λ r. ⌜ ReadTo (take r (now (file .exit))) ⌝ }
-{
-    let first = io::read_full(STDIN_FILENO, &mut file[..HEADER]);
-    match told(&file[..first]) {
-        Header::Malformed => first,
-        Header::Broken => first,
-        Header::Length(length) => HEADER + io::read_full(STDIN_FILENO, &mut file[HEADER..length]),
-    }
-}
-
-// What the bytes that came say of the grammar: a refusal, or its length.
-fn judged(bytes: &[u8]) -> Header
-    ensures { λ r. ⌜ Judged (now (bytes .entry)) r ⌝ }
-{
-    let length = match told(bytes) {
-        Header::Malformed => return Header::Malformed,
-        Header::Broken => return Header::Broken,
-        Header::Length(all) => all,
-    };
-    if bytes.len() < length {
-        return Header::Malformed;
-    }
-    Header::Length(length)
-}
 
 // Whether a parse is finished. A refused report says no.
 fn is_finished(
@@ -147,7 +106,7 @@ fn recognize(
     };
     match recognizer::start(file, fresh, items, starts, rows, queue, store) {
         Answer::Done(state) => follow(file, state, items, starts, rows, queue, store, out),
-        Answer::Refused(why, _) => text::refusal(out, wide(refusal_number(why))),
+        Answer::Refused(why, _) => refusal(out, wide(refusal_number(why))),
     }
 }
 
@@ -180,8 +139,8 @@ fn answer(bytes: &[u8], out: &mut [u8]) -> usize
     ensures text { λ r. ⌜ Written (now (bytes .entry)) (take r (now (out .exit))) ⌝ }
 {
     match judged(bytes) {
-        Header::Malformed => text::refusal(out, 1),
-        Header::Broken => text::refusal(out, 2),
+        Header::Malformed => refusal(out, 1),
+        Header::Broken => refusal(out, 2),
         Header::Length(length) => recognize_whole(&bytes[..length], out),
     }
 }

@@ -1,18 +1,18 @@
 // Tokens, two bytes each, given to a run part by part.
 ghost use mathlib.Core.Path.{_≡_};
-ghost use Prim.Native.Nat.{_+_, _*_, _≤_};
-ghost use lib.ListN.{length, take};
+ghost use Prim.Native.Nat.{_≤_};
+ghost use lib.ListN.{length};
 ghost use lib.Dec.{ltb};
-ghost use Rattle.io.specs.Counts.{Counts};
-ghost use Rattle.driver.specs.Parts.{tokensOf, partBytes, partTokens};
+ghost use Rattle.programs.specs.Tokens.{tokensOf};
+ghost use Rattle.driver.specs.Parts.{partBytes, partTokens};
 ghost use Rattle.driver.specs.Writes.{RunsPart, RunsOver};
 ghost use Rattle.earley.specs.Positions.{plain};
 ghost use Rattle.demands.specs.Calls.{Runs};
 ghost use Rattle.recognizer.specs.Answers.{endedOf};
 ghost use Rattle.parse.specs.Words.{wordsOf};
-use grammar::file::wide;
 use libc::STDIN_FILENO;
 use parse::State;
+use programs::tokens::decode;
 use recognizer::Answer;
 use recognizer::Ran;
 
@@ -20,33 +20,6 @@ use recognizer::Ran;
 const PART: usize = 32768;
 
 const BYTES: usize = 2 * PART;
-
-// A token that no grammar has.
-const FOREIGN: u16 = 65535;
-
-// The token that two bytes say.
-fn token(high: u8, low: u8) -> u16
-    ensures { λ r. ⌜ r ≡ high * 256 + low ⌝ }
-{
-    (wide(high) * 256 + wide(low)) as u16
-}
-
-// The tokens that bytes say, a lone last byte one that no grammar has; answers how many.
-fn decode(bytes: &[u8], words: &mut [u16]) -> usize
-    requires { ⌜ length (now bytes) ≤ 2 * length (now words) ⌝ }
-    ensures place { λ r. ⌜ Counts r (now (words .exit)) ⌝ }
-    ensures said { λ r. ⌜ take r (now (words .exit)) ≡ tokensOf (now (bytes .entry)) ⌝ }
-{
-    let whole = bytes.len() / 2;
-    for i in 0..whole {
-        words[i] = token(bytes[2 * i], bytes[2 * i + 1]);
-    }
-    if bytes.len() == 2 * whole {
-        return whole;
-    }
-    words[whole] = FOREIGN;
-    whole + 1
-}
 
 // Runs one part.
 fn run_part(

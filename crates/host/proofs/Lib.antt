@@ -3,6 +3,7 @@ pub mod Telling
 pub mod Wide
 pub mod Placed
 pub mod Numbers
+pub mod PlainEngine
 pub mod Settled
 pub mod FromWords
 pub mod LocalWords

@@ -23,6 +23,7 @@ ghost use Rattle.host.specs.Nodes.{writeIn, numberIn, placeOr, positionO
 mod every_tree;
 mod nodes;
 mod parse_words;
+mod plain_engine;
 mod records;
 mod translating;
 

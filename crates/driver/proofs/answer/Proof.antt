@@ -2,7 +2,7 @@
 use mathlib.Core.Path.{sym}
 use lib.Seq.{length-take-le}
 use Rattle.driver.specs.Writes.{Written}
-use Rattle.driver.proofs.Headers.{judged-same, whole-fits}
+use Rattle.programs.proofs.Headers.{judged-same, whole-fits}
 use borrow.Author.Needs.{needs}
 use Rattle.driver.proofs.answer.Statement.{statement}
 use Rattle.driver.proofs.answer.Tie as tie

@@ -1,6 +1,7 @@
 -- `driver::text::report` meets its contract. Four lines, one behind the other.
 use native.Mathlib.Omega.{arith}
-use Rattle.driver.proofs.Texts.{counts, a-report}
+use Rattle.programs.proofs.Texts.{counts}
+use Rattle.driver.proofs.Texts.{a-report}
 use borrow.Author.Needs.{needs}
 use Rattle.driver.proofs.text.report.Statement.{statement}
 use Rattle.driver.proofs.text.report.Tie as tie
