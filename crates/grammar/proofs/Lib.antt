@@ -9,3 +9,5 @@ pub mod Judging
 pub mod Verdicts
 pub mod Facts
 pub mod Reached
+pub mod Following
+pub mod Examples

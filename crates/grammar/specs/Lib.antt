@@ -4,5 +4,7 @@ pub mod Sentences
 pub mod Accepted
 pub mod File
 pub mod Prediction
+pub mod Following
+pub mod Forms
 pub mod Answers
 pub mod inner

@@ -3,27 +3,14 @@ ghost use mathlib.Core.Bool.{true, false};
 ghost use Prim.Native.Nat.{_+_, _≤_, _<_};
 ghost use Rattle.laws.specs.Decides.{Decides};
 ghost use Rattle.grammar.specs.Accepted.{maxRules, maxSymbols};
-ghost use Rattle.grammar.specs.inner.Checking.{LowSymbols, Last, RightMarked, AllMarked};
+ghost use Rattle.grammar.specs.inner.Checking.{LowSymbols, RightMarked, AllMarked};
 use crate::limits::SYMBOLS;
-use crate::rules::NONE;
 use crate::rules::Rules;
 use crate::rules::first;
-use crate::rules::second;
+use crate::rules::last;
 
 // A mark for each symbol.
 pub type Marks = [bool; SYMBOLS];
-
-// The last symbol on the right of rule `r`: the second, or the first where there is no second.
-pub fn last(rules: &Rules, r: usize) -> usize
-    requires { ⌜ r < maxRules ⌝ }
-    ensures { λ s. ⌜ Last (now (rules .entry)) r s ⌝ }
-{
-    let c = second(rules, r);
-    if c == NONE {
-        return first(rules, r);
-    }
-    c
-}
 
 // Whether every symbol on the right of rule `r` is marked.
 pub fn right_marked(rules: &Rules, marks: &Marks, r: usize) -> bool

@@ -8,10 +8,10 @@ ghost use Rattle.grammar.specs.inner.Checking.{LowSymbols, Spreads, AllR
 use crate::limits::SYMBOLS;
 use crate::marked::Marks;
 use crate::marked::all_marked;
-use crate::marked::last;
 use crate::marked::right_marked;
 use crate::rules::Rules;
 use crate::rules::first;
+use crate::rules::last;
 use crate::rules::left;
 
 // Whether rule `r` marks its right side: the left side is marked, and the right side is not yet.

@@ -4,6 +4,7 @@ ghost use Prim.Native.Nat.{_+_, _*_, _≤_, _<_};
 ghost use lib.ListN.{length};
 ghost use Rattle.grammar.specs.Accepted.{maxRules};
 ghost use Rattle.grammar.specs.File.{headerBytes, ruleBytes, ruleCountOf};
+ghost use Rattle.grammar.specs.inner.Checking.{Last};
 ghost use Rattle.grammar.specs.inner.Decoded.{leftIn, firstIn, secondIn, HoldsRules};
 use crate::file::HEADER;
 use crate::file::RULE;
@@ -47,6 +48,18 @@ pub fn second(rules: &Rules, r: usize) -> usize
     ensures { λ s. ⌜ (s ≡ secondIn (now (rules .entry)) r) × (s < 65536) ⌝ }
 {
     wide(rules[EACH * r + 2])
+}
+
+// The last symbol on the right of rule `r`: the second, or the first where there is no second.
+pub fn last(rules: &Rules, r: usize) -> usize
+    requires { ⌜ r < maxRules ⌝ }
+    ensures { λ s. ⌜ Last (now (rules .entry)) r s ⌝ }
+{
+    let c = second(rules, r);
+    if c == NONE {
+        return first(rules, r);
+    }
+    c
 }
 
 // The rules of a file that is whole and has few enough.

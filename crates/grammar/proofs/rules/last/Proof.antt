@@ -1,8 +1,8 @@
--- `grammar::marked::last` meets its contract.
+-- `grammar::rules::last` meets its contract.
 use mathlib.Core.Path.{sym, _∙_}
 use borrow.Author.Needs.{needs}
-use Rattle.grammar.proofs.marked.last.Statement.{statement}
-use Rattle.grammar.proofs.marked.last.Tie as tie
+use Rattle.grammar.proofs.rules.last.Statement.{statement}
+use Rattle.grammar.proofs.rules.last.Tie as tie
 
 second-requires : tie.Need-second-requires
 second-requires c κs = search needs
