@@ -1,4 +1,4 @@
--- A table with one row changed, and the table of the steps as it is filled. Over any width that has a bit for each symbol.
+-- A table with one row changed: what it tells then. And the table of the steps as it is filled. Over any width that has a bit for each symbol.
 use mathlib.Core.Path.{_≡_, refl, sym, ap, subst, _∙_}
 use mathlib.Core.Logic.{_⊎_, inl, inr, ⊎-elim}
 use mathlib.Core.List.{List, []}
@@ -9,13 +9,12 @@ use lib.ListN.{length, set, replicate, length-set, length-replicate, getD-replic
 use lib.Seq.{getD-set-same, getD-set-other}
 use lib.Pow.{pow-pos}
 use Rattle.laws.proofs.Lists.{zeros-word}
-use Rattle.laws.specs.Bits.{wordBits, Holds, Row, adding}
-use Rattle.laws.proofs.Bits.{adding-new, adding-kept, adding-one, adding-row, zeros-hold}
+use Rattle.laws.specs.Bits.{wordBits, Holds, Row, adding, union}
+use Rattle.laws.proofs.Bits.{adding-new, adding-kept, adding-one, adding-row, union-left, union-right, union-one, union-row, zeros-hold}
 use Rattle.grammar.specs.Accepted.{maxSymbols}
-use Rattle.grammar.specs.inner.Decoded.{leftIn, firstIn}
 use Rattle.grammar.specs.Prediction.{rowAt}
-use Rattle.prediction.specs.inner.Tables.{Bit, Shape, Step, Seeded}
-use Rattle.prediction.specs.inner.Tables.Step.{own, first}
+use Rattle.prediction.specs.inner.Tables.{Bit, Shape, Tells, Step, Seeded, LowRows}
+use Rattle.prediction.specs.inner.Tables.Step.{own, rule}
 
 module _ (table : List (List ℕ)) (i : ℕ) (row : List ℕ) where
   -- Another row `i`: that row is there, and every other row is kept.
@@ -35,44 +34,60 @@ module _ (table : List (List ℕ)) (i : ℕ) (row : List ℕ) where
     ];
   }
 
--- The place of a symbol's word.
-word-in : (width s : ℕ) (row : List ℕ) → Row width row → s < wordBits * width → s / wordBits < length row
-word-in width s row r l = omega (arith, r .width-is)
+-- A table of one relation is a table of each that holds of the same pairs.
+pub tells-as : {width : ℕ} {R S : ℕ → ℕ → Type 0} {table : List (List ℕ)} → ((x y : ℕ) → R x y → S x y) → ((x y : ℕ) → S x y → R x y) → Tells width R table
+    → Tells width S table
+tells-as to from h = record { shape = h .shape; no-more = λ x y b. to x y (h .no-more x y b); all = λ x y s. h .all x y (from x y s) }
 
--- A table with the bit `y` of row `x` added has this bit, those that it had, and no other.
-module _ (width : ℕ) (table : List (List ℕ)) (x y : ℕ) (h : Shape width table) (lx : x < maxSymbols) (ly : y < wordBits * width) where
-  abbrev added : List (List ℕ)
-  added = set table x (adding (rowAt table x) y)
+-- Row `i` becomes `row`, which holds what it held and `N`: the table tells `S`, which holds where `R` did and of `i` and `N`.
+module _ {width : ℕ} {R S : ℕ → ℕ → Type 0} {table : List (List ℕ)} (h : Tells width R table) {i : ℕ} (low : i < maxSymbols) where
+  grown : (N : ℕ → Type 0) (row : List ℕ) → Row width row → ((y : ℕ) → Holds row y → N y ⊎ Bit table i y) → ((y : ℕ) → Bit table i y → Holds row y)
+      → ((y : ℕ) → N y → Holds row y) → ((x y : ℕ) → R x y → S x y) → ((y : ℕ) → N y → S i y) → ((x y : ℕ) → S x y → ((x ≡ i) × N y) ⊎ R x y)
+      → Tells width S (set table i row)
+  grown N row wide either old new kept more split = record {
+    shape = shape-kept table i row width (h .shape) wide;
+    no-more = λ x y b. elim (ℕ-discrete x i) [
+      | yes e ↦ subst (λ (k : ℕ). S k y) (sym e)
+          (⊎-elim (more y) (λ (o : Bit table i y). kept i y (h .no-more i y o)) (either y (subst (λ (r : List ℕ). Holds r y) (ap (rowAt (set table i row)) e ∙ there) b)))
+      | no n ↦ kept x y (h .no-more x y (subst (λ (r : List ℕ). Holds r y) (row-kept table i row x n) b))
+    ];
+    all = λ x y s. ⊎-elim (λ (p : (x ≡ i) × N y). at x y (p .0) (new y (p .1))) (λ (p : R x y). stays x y (h .all x y p)) (split x y s);
+  }
+    where
+      there : rowAt (set table i row) i ≡ row
+      there = row-new table i row (omega (arith, h .shape .rows))
 
-  inside : x < length table
-  inside = omega (arith, h .rows)
+      at : (x y : ℕ) → x ≡ i → Holds row y → Bit (set table i row) x y
+      at x y e b = subst (λ (r : List ℕ). Holds r y) (sym (ap (rowAt (set table i row)) e ∙ there)) b
 
-  word : y / wordBits < length (rowAt table x)
-  word = word-in width y (rowAt table x) (h .row x lx) ly
+      stays : (x y : ℕ) → Bit table x y → Bit (set table i row) x y
+      stays x y b = elim (ℕ-discrete x i) [
+        | yes e ↦ at x y e (old y (subst (λ (k : ℕ). Bit table k y) e b))
+        | no n ↦ subst (λ (r : List ℕ). Holds r y) (sym (row-kept table i row x n)) b
+      ]
 
-  pub added-shape : Shape width added
-  added-shape = shape-kept table x (adding (rowAt table x) y) width h (adding-row width (rowAt table x) y (h .row x lx))
+  -- One bit more.
+  pub tells-added : (s : ℕ) (row : List ℕ) → s < wordBits * width → row ≡ adding (rowAt table i) s → ((x y : ℕ) → R x y → S x y) → S i s
+      → ((x y : ℕ) → S x y → ((x ≡ i) × (y ≡ s)) ⊎ R x y) → Tells width S (set table i row)
+  tells-added s row l is kept more split = subst (λ (r : List ℕ). Tells width S (set table i r)) (sym is)
+      (grown (λ y. y ≡ s) (adding (rowAt table i) s) (adding-row width (rowAt table i) s (h .shape .row i low)) (λ y. adding-one (rowAt table i) s y word)
+      (λ y. adding-kept (rowAt table i) s y word) (λ y e. subst (Holds (adding (rowAt table i) s)) (sym e) (adding-new (rowAt table i) s word)) kept
+      (λ y e. subst (S i) (sym e) more) split)
+    where
+      word : s / wordBits < length (rowAt table i)
+      word = omega (arith, h .shape .row i low .width-is)
 
-  pub added-new : Bit added x y
-  added-new = subst (λ (r : List ℕ). Holds r y) (sym (row-new table x (adding (rowAt table x) y) inside)) (adding-new (rowAt table x) y word)
-
-  pub added-kept : (u v : ℕ) → Bit table u v → Bit added u v
-  added-kept u v b = elim (ℕ-discrete u x) [
-    | yes e ↦ subst (λ (r : List ℕ). Holds r v) (sym (ap (rowAt added) e ∙ row-new table x (adding (rowAt table x) y) inside))
-        (adding-kept (rowAt table x) y v word (subst (λ (k : ℕ). Bit table k v) e b))
-    | no n ↦ subst (λ (r : List ℕ). Holds r v) (sym (row-kept table x (adding (rowAt table x) y) u n)) b
-  ]
-
-  pub added-old : (u v : ℕ) → Bit added u v → ((u ≡ x) × (v ≡ y)) ⊎ Bit table u v
-  added-old u v b = elim (ℕ-discrete u x) [
-    | yes e ↦ ⊎-elim (λ (f : v ≡ y). inl (e, f)) (λ (o : Holds (rowAt table x) v). inr (subst (λ (k : ℕ). Bit table k v) (sym e) o))
-        (adding-one (rowAt table x) y v word (subst (λ (r : List ℕ). Holds r v) (ap (rowAt added) e ∙ row-new table x (adding (rowAt table x) y) inside) b))
-    | no n ↦ inr (subst (λ (r : List ℕ). Holds r v) (row-kept table x (adding (rowAt table x) y) u n) b)
-  ]
+  -- Another row joined.
+  pub tells-joined : (other row : List ℕ) → Row width other → row ≡ union (rowAt table i) other → ((x y : ℕ) → R x y → S x y) → ((y : ℕ) → Holds other y → S i y)
+      → ((x y : ℕ) → S x y → ((x ≡ i) × Holds other y) ⊎ R x y) → Tells width S (set table i row)
+  tells-joined other row wide is kept more split = subst (λ (r : List ℕ). Tells width S (set table i r)) (sym is)
+      (grown (Holds other) (union (rowAt table i) other) (union-row width (rowAt table i) other (h .shape .row i low) wide)
+      (λ y b. ⊎-elim (λ (o : Bit table i y). inr o) (λ (n : Holds other y). inl n) (union-one (rowAt table i) other y b))
+      (union-left (rowAt table i) other) (union-right (rowAt table i) other) kept more split)
 
 -- The empty table.
 module _ (width : ℕ) where
-  abbrev empty : List (List ℕ)
+  abbrev pub empty : List (List ℕ)
   empty = replicate maxSymbols (replicate width 0)
 
   empty-row : (x : ℕ) → x < maxSymbols → rowAt empty x ≡ replicate width 0
@@ -96,81 +111,58 @@ module _ (width : ℕ) where
       past : (x < maxSymbols → ⊥) → length empty ≤ x
       past g = omega (arith, length-replicate {A = List ℕ} maxSymbols (replicate width 0))
 
-  -- The steps one after the other.
-  pub seeded-none : (words : List ℕ) → Seeded words width 0 0 empty
-  seeded-none words = record {
-    shape = empty-shape;
-    no-more = λ x y b. absurd (empty-holds x y b);
-    all = λ x y s. absurd (none s);
-  }
+  -- It tells what holds of nothing.
+  pub tells-none : (R : ℕ → ℕ → Type 0) → ((x y : ℕ) → R x y → ⊥) → Tells width R empty
+  tells-none R none = record { shape = empty-shape; no-more = λ x y b. absurd (empty-holds x y b); all = λ x y p. absurd (none x y p) }
+
+-- The steps one after the other.
+module _ (from to : ℕ → ℕ) (width : ℕ) where
+  pub seeded-none : Seeded from to width 0 0 (empty width)
+  seeded-none = tells-none width (Step from to 0 0) (λ x y s. none s)
     where
-      none : {x y : ℕ} → Step words 0 0 x y → ⊥
+      none : {x y : ℕ} → Step from to 0 0 x y → ⊥
       none (own l) = omega arith
-      none (first l) = omega arith
+      none (rule l) = omega arith
 
-module _ (words : List ℕ) (width : ℕ) (table : List (List ℕ)) (room : maxSymbols ≤ wordBits * width) where
-  own-seeded : (n : ℕ) → Seeded words width n 0 table → n < maxSymbols → Seeded words width (n + 1) 0 (set table n (adding (rowAt table n) n))
-  own-seeded n h l = record {
-    shape = added-shape width table n n (h .shape) l low;
-    no-more = λ x y b. ⊎-elim (λ (e : (x ≡ n) × (y ≡ n)). here x y (e .0) (e .1)) (λ (o : Bit table x y). more (h .no-more x y o)) (added-old width table n n (h .shape) l low x y b);
-    all = λ x y s. back s;
-  }
+  -- One symbol more in its own row,
+  pub seeded-own : (n : ℕ) (table : List (List ℕ)) (row : List ℕ) → maxSymbols ≤ wordBits * width → row ≡ adding (rowAt table n) n → Seeded from to width n 0 table
+      → n < maxSymbols → Seeded from to width (n + 1) 0 (set table n row)
+  seeded-own n table row room is h l = tells-added h l n row (omega arith) is (λ x y s. more s) (own {x = n} (omega arith)) (λ x y s. split s)
     where
-      low : n < wordBits * width
-      low = omega arith
-
-      here : (x y : ℕ) → x ≡ n → y ≡ n → Step words (n + 1) 0 x y
-      here x y e f = subst (λ (k : ℕ). Step words (n + 1) 0 x k) (e ∙ sym f) (own {x = x} (omega arith))
-
-      more : {x y : ℕ} → Step words n 0 x y → Step words (n + 1) 0 x y
+      more : {x y : ℕ} → Step from to n 0 x y → Step from to (n + 1) 0 x y
       more (own {x = x} m) = own {x = x} (omega arith)
-      more (first m) = absurd (omega arith)
+      more (rule m) = absurd (omega arith)
 
-      back : {x y : ℕ} → Step words (n + 1) 0 x y → Bit (added width table n n (h .shape) l low) x y
-      back (own {x = x} m) = elim (ℕ-discrete x n) [
-        | yes e ↦ subst (λ (k : ℕ). Bit (added width table n n (h .shape) l low) k k) (sym e) (added-new width table n n (h .shape) l low)
-        | no k ↦ added-kept width table n n (h .shape) l low x x (h .all x x (own {x = x} (omega arith)))
-      ]
-      back (first m) = absurd (omega arith)
+      split : {x y : ℕ} → Step from to (n + 1) 0 x y → ((x ≡ n) × (y ≡ n)) ⊎ Step from to n 0 x y
+      split (own {x = x} m) = elim (ℕ-discrete x n) [ yes e ↦ inl (e, e) | no k ↦ inr (own {x = x} (omega arith)) ]
+      split (rule m) = absurd (omega arith)
 
-  first-seeded : (n r a b : ℕ) → Seeded words width n r table → a ≡ leftIn words r → b ≡ firstIn words r → a < maxSymbols → b < maxSymbols
-      → Seeded words width n (r + 1) (set table a (adding (rowAt table a) b))
-  first-seeded n r a b h ea eb la lb = record {
-    shape = added-shape width table a b (h .shape) la low;
-    no-more = λ x y o. ⊎-elim (λ (e : (x ≡ a) × (y ≡ b)). here x y (e .0) (e .1)) (λ (p : Bit table x y). more (h .no-more x y p)) (added-old width table a b (h .shape) la low x y o);
-    all = λ x y s. back s;
-  }
+  -- and one rule more.
+  pub seeded-rule : (n r a b : ℕ) (table : List (List ℕ)) (row : List ℕ) → maxSymbols ≤ wordBits * width → row ≡ adding (rowAt table a) b → Seeded from to width n r table
+      → a ≡ from r → b ≡ to r → a < maxSymbols → b < maxSymbols → Seeded from to width n (r + 1) (set table a row)
+  seeded-rule n r a b table row room is h ea eb la lb =
+      tells-added h la b row (omega arith) is (λ x y s. more s) here (λ x y s. split s)
     where
-      low : b < wordBits * width
-      low = omega arith
+      here : Step from to n (r + 1) a b
+      here = subst (λ (k : ℕ). Step from to n (r + 1) a k) (sym eb) (subst (λ (k : ℕ). Step from to n (r + 1) k (to r)) (sym ea) (rule {r = r} (omega arith)))
 
-      here : (x y : ℕ) → x ≡ a → y ≡ b → Step words n (r + 1) x y
-      here x y e f =
-          subst (λ (k : ℕ). Step words n (r + 1) x k) (sym (f ∙ eb))
-          (subst (λ (k : ℕ). Step words n (r + 1) k (firstIn words r)) (sym (e ∙ ea)) (first {r = r} (omega arith)))
-
-      more : {x y : ℕ} → Step words n r x y → Step words n (r + 1) x y
+      more : {x y : ℕ} → Step from to n r x y → Step from to n (r + 1) x y
       more (own m) = own m
-      more (first {r = q} m) = first {r = q} (omega arith)
+      more (rule {r = q} m) = rule {r = q} (omega arith)
 
-      back : {x y : ℕ} → Step words n (r + 1) x y → Bit (added width table a b (h .shape) la low) x y
-      back (own {x = x} m) = added-kept width table a b (h .shape) la low x x (h .all x x (own m))
-      back (first {r = q} m) = elim (ℕ-discrete q r) [
-        | yes e ↦ subst (λ (k : ℕ). Bit (added width table a b (h .shape) la low) (leftIn words k) (firstIn words k)) (sym e)
-            (subst (λ (k : ℕ). Bit (added width table a b (h .shape) la low) (leftIn words r) k) eb
-            (subst (λ (k : ℕ). Bit (added width table a b (h .shape) la low) k b) ea (added-new width table a b (h .shape) la low)))
-        | no k ↦ added-kept width table a b (h .shape) la low (leftIn words q) (firstIn words q) (h .all (leftIn words q) (firstIn words q) (first {r = q} (omega arith)))
-      ]
+      split : {x y : ℕ} → Step from to n (r + 1) x y → ((x ≡ a) × (y ≡ b)) ⊎ Step from to n r x y
+      split (own m) = inr (own m)
+      split (rule {r = q} m) = elim (ℕ-discrete q r) [ yes e ↦ inl (ap from e ∙ sym ea, ap to e ∙ sym eb) | no k ↦ inr (rule {r = q} (omega arith)) ]
 
-  -- One symbol more in its own row, and one rule's first symbol more in its left side's row.
-  pub seeded-own : (n : ℕ) (row : List ℕ) → row ≡ adding (rowAt table n) n → Seeded words width n 0 table → n < maxSymbols → Seeded words width (n + 1) 0 (set table n row)
-  seeded-own n row e h l = subst (λ (r : List ℕ). Seeded words width (n + 1) 0 (set table n r)) (sym e) (own-seeded n h l)
+  -- The same at an equal number of symbols and of rules.
+  pub seeded-at : (n m r s : ℕ) (table : List (List ℕ)) → Seeded from to width n r table → n ≡ m → r ≡ s → Seeded from to width m s table
+  seeded-at n m r s table h en er =
+      subst (λ (k : ℕ). Seeded from to width k s table) en (subst (λ (k : ℕ). Seeded from to width n k table) er h)
 
-  pub seeded-first : (n r a b : ℕ) (row : List ℕ) → row ≡ adding (rowAt table a) b → Seeded words width n r table → a ≡ leftIn words r → b ≡ firstIn words r
-      → a < maxSymbols → b < maxSymbols → Seeded words width n (r + 1) (set table a row)
-  seeded-first n r a b row e h ea eb la lb = subst (λ (x : List ℕ). Seeded words width n (r + 1) (set table a x)) (sym e) (first-seeded n r a b h ea eb la lb)
-
--- The same at an equal number of symbols and of rules.
-pub seeded-at : (words : List ℕ) (width n m r s : ℕ) (table : List (List ℕ)) → Seeded words width n r table → n ≡ m → r ≡ s → Seeded words width m s table
-seeded-at words width n m r s table h en er =
-    subst (λ (k : ℕ). Seeded words width k s table) en (subst (λ (k : ℕ). Seeded words width n k table) er h)
+  -- Steps start at symbols where the rules' do.
+  pub steps-low : (n count : ℕ) (table : List (List ℕ)) → ((r : ℕ) → r < count → from r < n) → Seeded from to width n count table → LowRows n table
+  steps-low n count table low h = record { low = λ x y b. start (h .no-more x y b) }
+    where
+      start : {x y : ℕ} → Step from to n count x y → x < n
+      start (own l) = l
+      start (rule {r = r} l) = low r l

@@ -13,17 +13,14 @@ use Rattle.grammar.specs.Prediction.Reaches.{here, by-first}
 use Rattle.grammar.proofs.Reached.{reaches-trans}
 use Rattle.grammar.proofs.Decoding.{in-count, in-left, in-first, in-says}
 use Rattle.prediction.specs.inner.Tables.{Bit, Within, Step, Seeded, Chain, Closed, LowRows}
-use Rattle.prediction.specs.inner.Tables.Step.{own, first}
+use Rattle.prediction.specs.inner.Tables.Step.{own, rule}
 use Rattle.prediction.specs.inner.Tables.Chain.{link, join}
+use Rattle.prediction.proofs.Cells.{steps-low}
 
-module _ (words : List ℕ) (width n count : ℕ) (within : Within words n count) (seed : List (List ℕ)) (h : Seeded words width n count seed) where
+module _ (words : List ℕ) (width n count : ℕ) (within : Within words n count) (seed : List (List ℕ)) (h : Seeded (leftIn words) (firstIn words) width n count seed) where
   -- Steps start at symbols.
   pub seed-low : LowRows n seed
-  seed-low = record { low = λ x y b. start (h .no-more x y b) }
-    where
-      start : {x y : ℕ} → Step words n count x y → x < n
-      start (own l) = l
-      start (first {r = r} l) = within .left r l
+  seed-low = steps-low (leftIn words) (firstIn words) width n count seed (within .left) h
 
   module _ (t : ℕ) where
     abbrev g : Grammar
@@ -33,16 +30,16 @@ module _ (words : List ℕ) (width n count : ℕ) (within : Within words n count
     chain-reaches : {x y : ℕ} → Chain seed x y → Reaches g x y
     chain-reaches (link {x = x} {y = y} b) = step (h .no-more x y b)
       where
-        step : {x y : ℕ} → Step words n count x y → Reaches g x y
+        step : {x y : ℕ} → Step (leftIn words) (firstIn words) n count x y → Reaches g x y
         step (own l) = here
-        step (first {r = r} l) = by-first {r = r} (in-says words n t count r l) here
+        step (rule {r = r} l) = by-first {r = r} (in-says words n t count r l) here
     chain-reaches (join p q) = reaches-trans (chain-reaches p) (chain-reaches q)
 
     -- What is reached is reached by a chain.
     reaches-chain : {x y : ℕ} → Reaches g x y → x < n → Chain seed x y
     reaches-chain (here {x = x}) l = link (h .all x x (own l))
     reaches-chain (by-first {r = r} {a = a} {b = b} s p) l =
-        join (link (subst (λ (z : ℕ). Bit seed z b) ea (subst (λ (z : ℕ). Bit seed (leftIn words r) z) eb (h .all (leftIn words r) (firstIn words r) (first there)))))
+        join (link (subst (λ (z : ℕ). Bit seed z b) ea (subst (λ (z : ℕ). Bit seed (leftIn words r) z) eb (h .all (leftIn words r) (firstIn words r) (rule there)))))
         (reaches-chain p (subst (λ (z : ℕ). z < n) eb (within .first r there)))
       where
         there : r < count

@@ -1,11 +1,14 @@
-// The prediction table: row X below N holds X and every symbol reached from X by first symbols.
+// The prediction table: row X below N holds X and every symbol reached from X by first symbols. And the follow table.
 ghost use mathlib.Core.Path.{_≡_};
 ghost use Prim.Native.Nat.{ℕ, _≤_, _<_};
 ghost use Rattle.bits.specs.Width.{rowWords};
 ghost use Rattle.grammar.specs.Accepted.{maxSymbols, maxRules};
-ghost use Rattle.grammar.specs.inner.Decoded.{grammarIn};
+ghost use Rattle.grammar.specs.inner.Decoded.{leftIn, firstIn, grammarIn};
 ghost use Rattle.grammar.specs.Prediction.{Predicts};
 ghost use Rattle.prediction.specs.inner.Tables.{Within, Shape, Seeded, Closed, LowRows};
+
+pub mod follow;
+
 use bits::Row;
 use bits::add;
 use bits::has;
@@ -18,16 +21,25 @@ use grammar::rules::left;
 // A row for each symbol.
 pub type Table = [Row; SYMBOLS];
 
-// The table with each symbol below `n` in its own row, and the first symbol of each rule in its left side's row.
-fn seed(rules: &Rules, n: usize, count: usize) -> Table
-    requires { ⌜ (count ≤ maxRules) × Within (now rules) n count ⌝ }
-    ensures { λ r. ⌜ Seeded (now (rules .entry)) rowWords n count r ⌝ }
+// Each symbol below `n` in its own row.
+fn own(n: usize) -> Table
+    requires { ⌜ n ≤ maxSymbols ⌝ }
+    ensures { λ r. ⌜ ((from to : ℕ → ℕ) → Seeded from to rowWords n 0 r) ⌝ }
 {
     let mut table = [[0; 8]; 512];
     for x in 0..n {
         let row = table[x];
         table[x] = add(row, x);
     }
+    table
+}
+
+// And the first symbol of each rule in its left side's row.
+fn seed(rules: &Rules, n: usize, count: usize) -> Table
+    requires { ⌜ (count ≤ maxRules) × Within (now rules) n count ⌝ }
+    ensures { λ r. ⌜ Seeded (leftIn (now (rules .entry))) (firstIn (now (rules .entry))) rowWords n count r ⌝ }
+{
+    let mut table = own(n);
     for r in 0..count {
         let a = left(rules, r);
         let row = table[a];
