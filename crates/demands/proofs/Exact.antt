@@ -34,6 +34,7 @@ use Rattle.completion.specs.inner.Pending.{Pending}
 use Rattle.completion.proofs.Pending.{all-sums-rest}
 use Rattle.completion.proofs.Scanning.{pending-scan-all}
 use Rattle.completion.proofs.Beginning.{beginning, accepted-grounds, begins-pending, is-set}
+use Rattle.earley.proofs.Sieves.{any}
 use Rattle.earley.proofs.Steps as steps
 use Rattle.earley.proofs.Next.{Stored}
 use Rattle.demands.specs.Positions.{isPosition}
@@ -64,12 +65,12 @@ module _ (g : Grammar) (st : State) (v : Words) (kinds : List ℕ) (charted : Ch
             record { there = charted .rules p old; left = refl; first = refl; second = second } in
             let has : Has v k (originAt (v .items) p) (ruleAt (v .items) p) =
             record { place = p; in-set = record { from = inside .from; up-to = inside .up-to }; origin = refl; rule = refl } in
-            steps.Done.closed says d (holds-true (rowOf rowWords (v .rows) k) x there) has;
+            steps.DoneFor.closed says d (holds-true (rowOf rowWords (v .rows) k) x there) has any;
         unary = λ k x r d there begins one.
             let says : Says g r (ruleAtG g r .left) x none =
             record { there = begins .is-rule; left = refl; first = begins .begins; second = one } in
-            steps.Done.unary says d (holds-true (rowOf rowWords (v .rows) k) x there)
-            (holds-true (rowOf rowWords (v .rows) k) (ruleAtG g r .left) (begins .left-predicted));
+            steps.DoneFor.unary says d (holds-true (rowOf rowWords (v .rows) k) x there)
+            (holds-true (rowOf rowWords (v .rows) k) (ruleAtG g r .left) (begins .left-predicted)) any;
       }
 
   -- Of the kinds of the position that the latest row has, each was completed with the latest set, or is left to scan.
@@ -153,7 +154,7 @@ module _ (g : Grammar) (st : State) (v : Words) (kinds : List ℕ) (charted : Ch
         follows-on (g .rules) st v kind-met (λ o r. new-grows (grows-append (Evaluated t) s)) (so-far .follows (before-append (Evaluated t) s on) l y d row))
       where
         right : (l y : ℕ) → with-kind l y → Gives l y
-        right l y this = steps.Done.scanned of (holds-true (rowOf rowWords (v .rows) (st .set)) t there)
+        right l y this = steps.DoneFor.scanned of (holds-true (rowOf rowWords (v .rows) (st .set)) t there)
         right l y (before d) = so-far .right l y d
 
     passed-over : predicted (v .rows) (st .set) t ≡ false → SoFar left s
@@ -266,11 +267,11 @@ module _ (g : Grammar) (st : State) (v : Words) (kinds : List ℕ) (charted : Ch
         record {
           sound = λ {k} {x} d. so-far .right k x d;
           scanned = λ {t} of there. ⊎-elim (λ none. absurd (no-member none)) (λ d. d) (so-far .scanned t of there);
-          unary = λ {r} {x} {y} {k} says d row-y row-x.
+          unary = λ {r} {x} {y} {k} says d row-y row-x _.
               subst (so-far .done k) (says .left)
               (met-empty (kept-sound (g .rules) st v (so-far .kept)) none-left
               (following d row-y .unary r (begins says row-x) (says .second)));
-          closed = λ {r} {x} {y} {z} {k} {o} says d row has.
+          closed = λ {r} {x} {y} {z} {k} {o} says d row has _.
               let rule : ruleAtG g (ruleAt (v .items) (has .place)) ≡ ruleAtG g r = ap (ruleAtG g) (has .rule) in
               subst (λ (a : ℕ). so-far .done a x) (has .origin)
               (subst (so-far .done (originAt (v .items) (has .place))) (ap (λ (a : Rule). a .left) rule ∙ says .left)
@@ -295,6 +296,7 @@ module _ (g : Grammar) (st : State) (v : Words) (kinds : List ℕ) (charted : Ch
           completed = calls .completed;
           first = holds-true (rowOf rowWords (v .rows) o) (ruleAtG g r .first) (calls .first);
           left = holds-true (rowOf rowWords (v .rows) o) (ruleAtG g r .left) (calls .left);
+          waited = any;
         }
 
 -- The pass of a position on a well-formed state of an accepted grammar, unless it is refused.

@@ -6,11 +6,12 @@ use Prim.Native.Nat.{ℕ, _≤_, _<_}
 use native.Mathlib.Decide.{decLe}
 use native.Mathlib.Omega.{arith}
 use lib.ListN.{length}
-use Rattle.grammar.specs.Rules.{Grammar, wrapper}
+use Rattle.grammar.specs.Rules.{Grammar, wrapper, ruleAt}
 use Rattle.grammar.specs.Prediction.{Reaches, here as itself}
 use Rattle.earley.specs.Positions.{Positions}
 use Rattle.earley.proofs.Spans.{span-forward, span-inside}
 use Rattle.earley.proofs.Predictions.{Pred, Item, reaches-pred, reaches-first}
+use Rattle.earley.proofs.Sieves.{Wanted, Any}
 
 -- Sets 0..last, each with items (origin and rule) and a row of symbols.
 pub record Chart : Type 1 where
@@ -32,16 +33,21 @@ pub record Found (c : Chart) (pos : ℕ → ℕ) (s r q : ℕ) : Type 0 where
   pub stands : pos origin ≡ q
 
 -- The invariant of a parse that has accepted the positions `a`. Sets stand at rising places, the latest at the end.
--- Nothing in a set is wrong, and nothing is missing in a set that is live.
-pub record Holds (g : Grammar) (a : Positions) (c : Chart) : Type 0 where
+-- Nothing in a set is wrong, and nothing that is wanted there is missing in a set that is live. `waits` is what the latest set was made to
+-- wait for.
+pub record HoldsFor (g : Grammar) (a : Positions) (waits : ℕ → Type 0) (c : Chart) : Type 0 where
   pub pos : ℕ → ℕ
   pub rising : (s u : ℕ) → s < u → u ≤ c .last → pos s < pos u
   pub ends : pos (c .last) ≡ length a
   pub older : {s o r : ℕ} → s ≤ c .last → c .item s o r → o < s
   pub item-true : {s o r : ℕ} → s ≤ c .last → c .item s o r → Item g a r (pos o) (pos s)
   pub row-true : {s x : ℕ} → s ≤ c .last → c .row s x → Pred g a x (pos s)
-  pub item-there : {s r q : ℕ} → Live c s → Item g a r q (pos s) → Found c pos s r q
-  pub row-there : {s x : ℕ} → Live c s → Pred g a x (pos s) → c .row s x
+  pub item-there : {s r q : ℕ} → Live c s → Item g a r q (pos s) → Wanted g a waits (ruleAt g r .second) (pos s) → Found c pos s r q
+  pub row-there : {s x : ℕ} → Live c s → Pred g a x (pos s) → Wanted g a waits x (pos s) → c .row s x
+
+-- With no hint the latest set waits for every symbol.
+abbrev pub Holds : Grammar → Positions → Chart → Type 0
+Holds g a c = HoldsFor g a Any c
 
 -- A live set is one of the sets, where items lie behind their origins.
 pub live-below : {c : Chart} {s : ℕ} → ((s o r : ℕ) → s ≤ c .last → c .item s o r → o < s) → Live c s → s ≤ c .last
@@ -51,12 +57,12 @@ live-below older (Live.origin l i) =
     let m = older _ _ _ k i in
     omega arith
 
-pub live-set : {g : Grammar} {a : Positions} {c : Chart} {s : ℕ} → Holds g a c → Live c s → s ≤ c .last
+pub live-set : {g : Grammar} {a : Positions} {waits : ℕ → Type 0} {c : Chart} {s : ℕ} → HoldsFor g a waits c → Live c s → s ≤ c .last
 live-set h l = live-below (λ s o r m i. h .older m i) l
 
 -- No set stands behind the last position.
-pub set-inside : {g : Grammar} {a : Positions} {c : Chart} {s : ℕ} (h : Holds g a c) → s ≤ c .last → h .pos s ≤ length a
-set-inside {c} {s} h l = elim (decLe (c .last) s) [
+pub set-inside : {g : Grammar} {a : Positions} {waits : ℕ → Type 0} {c : Chart} {s : ℕ} (h : HoldsFor g a waits c) → s ≤ c .last → h .pos s ≤ length a
+set-inside {c = c} {s = s} h l = elim (decLe (c .last) s) [
   | yes k ↦ (let e : s ≡ c .last = omega arith in let p = h .ends in rw e (omega arith))
   | no k ↦ (let p = h .ends in let q = h .rising s (c .last) (omega arith) (omega arith) in omega arith)
 ]
@@ -85,8 +91,8 @@ begin {g} {c} f = record {
   older = λ l i. absurd (none l i);
   item-true = λ l i. absurd (none l i);
   row-true = λ {s} {x} l i. reaches-pred (f .row .0 (subst (λ n. c .row n x) (first l) i)) Pred.wrapped;
-  item-there = λ l i. let k = span-forward (i .spans) in absurd (omega arith);
-  row-there = λ {s} {x} l d.
+  item-there = λ l i w. let k = span-forward (i .spans) in absurd (omega arith);
+  row-there = λ {s} {x} l d w.
       subst (λ n. c .row n x) (sym (first (live-below (λ n o r m i. absurd (none m i)) l))) (f .row .1 (pred-nil d));
 }
   where

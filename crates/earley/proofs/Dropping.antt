@@ -6,7 +6,7 @@ use native.Mathlib.Decide.{decLe}
 use native.Mathlib.Omega.{arith}
 use Rattle.grammar.specs.Rules.{Grammar}
 use Rattle.earley.specs.Positions.{Positions}
-use Rattle.earley.proofs.Charts.{Chart, Live, Holds, live-below}
+use Rattle.earley.proofs.Charts.{Chart, Live, HoldsFor, live-below}
 
 -- The item of set `s` whose origin had the number `o`.
 pub record Renamed (c′ : Chart) (was : ℕ → ℕ) (s o r : ℕ) : Type 0 where
@@ -38,7 +38,7 @@ module _ {c c′ : Chart} {was : ℕ → ℕ} (d : Dropped c c′ was) where
   was-live (Live.origin l i) = Live.origin (was-live l) (d .item-true (live-below (λ _ _ _ m j. d .older m j) l) i)
 
   -- THE INVARIANT OUTLIVES PRUNING.
-  pub dropped : {g : Grammar} {a : Positions} → Holds g a c → Holds g a c′
+  pub dropped : {g : Grammar} {a : Positions} {waits : ℕ → Type 0} → HoldsFor g a waits c → HoldsFor g a waits c′
   dropped h = record {
     pos = λ s. h .pos (was s);
     rising = λ s u l m. h .rising (was s) (was u) (d .rising s u l m) (was-set u m);
@@ -46,11 +46,11 @@ module _ {c c′ : Chart} {was : ℕ → ℕ} (d : Dropped c c′ was) where
     older = λ m i. d .older m i;
     item-true = λ {s} m i. h .item-true (was-set s m) (d .item-true m i);
     row-true = λ {s} m i. h .row-true (was-set s m) (d .row-true m i);
-    item-there = λ l i.
-        let f = h .item-there (was-live l) i in
+    item-there = λ l i w.
+        let f = h .item-there (was-live l) i w in
         let n = d .item-there l (f .item) in
         record { origin = n .origin; item = n .item; stands = ap (h .pos) (n .named) ∙ f .stands };
-    row-there = λ l i. d .row-there l (h .row-there (was-live l) i);
+    row-there = λ l i w. d .row-there l (h .row-there (was-live l) i w);
   }
 
 -- Two charts with the same sets.
@@ -60,8 +60,8 @@ pub record Same (c c′ : Chart) : Type 0 where
   pub rows : {s x : ℕ} → s ≤ c .last → c′ .row s x ↔ c .row s x
 
 -- What holds of a chart holds of every chart with the same sets.
-pub same : {g : Grammar} {a : Positions} {c c′ : Chart} → Same c c′ → Holds g a c → Holds g a c′
-same {g} {a} {c} {c′} e h = dropped (record {
+pub same : {g : Grammar} {a : Positions} {waits : ℕ → Type 0} {c c′ : Chart} → Same c c′ → HoldsFor g a waits c → HoldsFor g a waits c′
+same {c = c} {c′ = c′} e h = dropped (record {
   last = e .last;
   rising = λ _ _ l _. l;
   older = λ l i. older (within l) i;

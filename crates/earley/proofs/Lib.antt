@@ -4,6 +4,7 @@ pub mod Spans
 pub mod Predictions
 pub mod Wrapper
 pub mod Viable
+pub mod Sieves
 pub mod Charts
 pub mod Steps
 pub mod Next
@@ -12,3 +13,4 @@ pub mod Token
 pub mod Dropping
 pub mod Answers
 pub mod Plain
+pub mod Hints

@@ -6,15 +6,17 @@ use native.Mathlib.Decide.{decLt}
 use native.Mathlib.Omega.{arith}
 use Rattle.grammar.specs.Rules.{Grammar, none, ruleCount, ruleAt}
 use Rattle.grammar.specs.Prediction.{Reaches}
+use Rattle.earley.proofs.Sieves.{Any}
 use Rattle.earley.proofs.Charts.{Chart}
 
--- A rule x ::= y z is stored with origin `o`: (o, y) is completed, and row o has y and x.
-pub record Stored (g : Grammar) (c : Chart) (done : ℕ → ℕ → Type 0) (o r : ℕ) : Type 0 where
+-- A rule x ::= y z is stored with origin `o`: (o, y) is completed, row o has y and x, and z is waited for.
+pub record StoredFor (g : Grammar) (c : Chart) (waits : ℕ → Type 0) (done : ℕ → ℕ → Type 0) (o r : ℕ) : Type 0 where
   pub there : r < ruleCount g
   pub two : ruleAt g r .second ≢ none
   pub completed : done o (ruleAt g r .first)
   pub first : c .row o (ruleAt g r .first)
   pub left : c .row o (ruleAt g r .left)
+  pub waited : waits (ruleAt g r .second)
 
 -- `x` is reached from the second symbol of an item of set `s`.
 pub record Led (g : Grammar) (c : Chart) (s x : ℕ) : Type 0 where
@@ -29,27 +31,37 @@ pub record Unpruned (c : Chart) (kept : ℕ) (c′ : Chart) : Type 0 where
   pub row : {x : ℕ} → c′ .row kept x ↔ c .row kept x
 
 -- The sets behind `kept` are dropped: every new item has an origin below `kept`, and the row of `kept` is cleared.
-pub record Pruned (g : Grammar) (c : Chart) (done : ℕ → ℕ → Type 0) (kept : ℕ) (c′ : Chart) : Type 0 where
+pub record PrunedFor (g : Grammar) (c : Chart) (waits : ℕ → Type 0) (done : ℕ → ℕ → Type 0) (kept : ℕ) (c′ : Chart) : Type 0 where
   pub fewer : kept < c .last
-  pub origins : {o r : ℕ} → Stored g c done o r → o < kept
+  pub origins : {o r : ℕ} → StoredFor g c waits done o r → o < kept
   pub row : {x : ℕ} → c′ .row kept x → ⊥
 
 -- The chart after a position: the sets 0..kept stay, and one new set comes behind them, what is stored and the row that it leads to.
-pub record Next (g : Grammar) (c : Chart) (done : ℕ → ℕ → Type 0) (kept : ℕ) (c′ : Chart) : Type 0 where
+pub record NextFor (g : Grammar) (c : Chart) (waits : ℕ → Type 0) (done : ℕ → ℕ → Type 0) (kept : ℕ) (c′ : Chart) : Type 0 where
   pub last : c′ .last ≡ suc kept
   pub items : {s o r : ℕ} → s ≤ kept → c′ .item s o r ↔ c .item s o r
   pub rows : {s x : ℕ} → s < kept → c′ .row s x ↔ c .row s x
-  pub pruning : Unpruned c kept c′ ⊎ Pruned g c done kept c′
-  pub new-items : {o r : ℕ} → c′ .item (suc kept) o r ↔ Stored g c done o r
+  pub pruning : Unpruned c kept c′ ⊎ PrunedFor g c waits done kept c′
+  pub new-items : {o r : ℕ} → c′ .item (suc kept) o r ↔ StoredFor g c waits done o r
   pub new-row : {x : ℕ} → c′ .row (suc kept) x ↔ Led g c′ (suc kept) x
 
-module _ {g : Grammar} {c c′ : Chart} {kept : ℕ} {done : ℕ → ℕ → Type 0} (next : Next g c done kept c′) where
+-- With no hint every second symbol is waited for.
+abbrev pub Stored : Grammar → Chart → (ℕ → ℕ → Type 0) → ℕ → ℕ → Type 0
+Stored g c done o r = StoredFor g c Any done o r
+
+abbrev pub Pruned : Grammar → Chart → (ℕ → ℕ → Type 0) → ℕ → Chart → Type 0
+Pruned g c done kept c′ = PrunedFor g c Any done kept c′
+
+abbrev pub Next : Grammar → Chart → (ℕ → ℕ → Type 0) → ℕ → Chart → Type 0
+Next g c done kept c′ = NextFor g c Any done kept c′
+
+module _ {g : Grammar} {c c′ : Chart} {kept : ℕ} {waits : ℕ → Type 0} {done : ℕ → ℕ → Type 0} (next : NextFor g c waits done kept c′) where
   -- Only sets of the old chart stay.
   pub kept-within : kept ≤ c .last
   kept-within = ⊎-elim (λ u. let e = u .all in omega arith) (λ p. let l = p .fewer in omega arith) (next .pruning)
 
   -- Where sets are dropped, no new item begins at the last that stays.
-  pub new-origins : {o r : ℕ} → kept < c .last → Stored g c done o r → o < kept
+  pub new-origins : {o r : ℕ} → kept < c .last → StoredFor g c waits done o r → o < kept
   new-origins l s = ⊎-elim (λ u. let e = u .all in absurd (omega arith)) (λ p. p .origins s) (next .pruning)
 
   -- A row that stays has nothing new.

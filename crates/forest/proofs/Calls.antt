@@ -7,12 +7,13 @@ use mathlib.Core.Logic.{_⊎_, inl, inr, ⊎-elim}
 use Prim.Native.Nat.{ℕ, _+_, _-_, _≤_, _<_}
 use native.Mathlib.Omega.{arith}
 use Rattle.grammar.specs.Rules.{Grammar, Says, none, ruleAt, ruleCount}
+use Rattle.earley.proofs.Sieves.{Any}
 use Rattle.earley.proofs.Charts.{Chart}
 use Rattle.forest.specs.Lists.{none as nothing, Once}
 use Rattle.forest.proofs.Lists.{ordered-append}
 use Rattle.forest.proofs.Tied.{Turn}
 use Rattle.binary_heap.specs.Entry.{Entry}
-use Rattle.forest.proofs.Entries.{entry, ones, Pair, Items, Medial, Lone, Stored, Calling}
+use Rattle.forest.proofs.Entries.{entry, ones, Pair, Items, Medial, Lone, Stored, CallingFor}
 use Rattle.forest.proofs.Loops.{gathered, gathered-from, gathers, gathered-once, passing, passing-rises}
 
 -- A list, or none.
@@ -32,12 +33,13 @@ pub record At (from number p : ℕ) : Type 0 where
   pub from-on : from ≤ p
   pub up-to : p < from + number
 
--- Rule `r` is of the symbol alone, and its left side is in the row.
-pub record Begins (g : Grammar) (c : Chart) (k y r : ℕ) : Type 0 where
+-- Rule `r` is of the symbol alone, and its left side is in the row and passes.
+pub record BeginsFor (g : Grammar) (c : Chart) (passes : ℕ → Type 0) (k y r : ℕ) : Type 0 where
   pub is-rule : r < ruleCount g
   pub first : ruleAt g r .first ≡ y
   pub second : ruleAt g r .second ≡ none
   pub left : c .row k (ruleAt g r .left)
+  pub passed : passes (ruleAt g r .left)
 
 -- The item stored at a place.
 pub record StoredAt (is : Items) (k r h p : ℕ) : Type 0 where
@@ -47,7 +49,7 @@ pub record StoredAt (is : Items) (k r h p : ℕ) : Type 0 where
   pub handle : is .handle p ≡ h
 
 -- One completion, by its tests.
-pub record Looped (g : Grammar) (c : Chart) (is : Items) (t : Turn Entry Pair) : Type 0 where
+pub record LoopedFor (g : Grammar) (c : Chart) (is : Items) (passes : ℕ → Type 0) (t : Turn Entry Pair) : Type 0 where
   pub from : ℕ
   pub number : ℕ
   pub base : ℕ
@@ -61,10 +63,19 @@ pub record Looped (g : Grammar) (c : Chart) (is : Items) (t : Turn Entry Pair) :
   pub inside : (p : ℕ) → is .Inside (t .pair .set) p → At from number p
   pub place : (i : ℕ) → i < number → is .Inside (t .pair .set) (from + i)
   pub is-second : (i : ℕ) → i < number → second i ≡ true → ruleAt g (is .rule (from + i)) .second ≡ t .pair .symbol
-  pub second-is : (i : ℕ) → i < number → ruleAt g (is .rule (from + i)) .second ≡ t .pair .symbol → second i ≡ true
-  pub does-begin : (r : ℕ) → begins r ≡ true → r < ruleCount g → Begins g c (t .pair .set) (t .pair .symbol) r
-  pub begin-does : (r : ℕ) → Begins g c (t .pair .set) (t .pair .symbol) r → begins r ≡ true
+  pub second-passes : (i : ℕ) → i < number → second i ≡ true → passes (ruleAt g (is .rule (from + i)) .left)
+  pub second-is : (i : ℕ) → i < number → ruleAt g (is .rule (from + i)) .second ≡ t .pair .symbol → passes (ruleAt g (is .rule (from + i)) .left)
+      → second i ≡ true
+  pub does-begin : (r : ℕ) → begins r ≡ true → r < ruleCount g → BeginsFor g c passes (t .pair .set) (t .pair .symbol) r
+  pub begin-does : (r : ℕ) → BeginsFor g c passes (t .pair .set) (t .pair .symbol) r → begins r ≡ true
   pub stored : row ≡ true → (r : ℕ) → r < ruleCount g → begins r ≡ true → StoredAt is (t .pair .set) r (t .handle) (base + passing begins r)
+
+-- With no hint every left side passes.
+abbrev pub Begins : Grammar → Chart → ℕ → ℕ → ℕ → Type 0
+Begins g c k y r = BeginsFor g c Any k y r
+
+abbrev pub Looped : Grammar → Chart → Items → Turn Entry Pair → Type 0
+Looped g c is t = LoopedFor g c is Any t
 
 -- A member of a list that is there only sometimes.
 record Sometimes {A : Type 0} (b : Bool) (l : List A) (a : A) : Type 0 where
@@ -79,7 +90,7 @@ once-when : {A : Type 0} (b : Bool) {l : List A} → Once l → Once (when b l)
 once-when true o = o
 once-when false o = nothing
 
-module _ {g : Grammar} {c : Chart} {is : Items} (t : Turn Entry Pair) (d : Looped g c is t) where
+module _ {g : Grammar} {c : Chart} {is : Items} {passes : ℕ → Type 0} (t : Turn Entry Pair) (d : LoopedFor g c is passes t) where
   abbrev first-part : List Entry
   first-part = medials (d .second) (d .from) (d .number) (t .handle)
 
@@ -120,34 +131,57 @@ module _ {g : Grammar} {c : Chart} {is : Items} (t : Turn Entry Pair) (d : Loope
       })))
       (member-either first-part (s .member))
 
+  -- nothing whose left side does not pass,
+  looped-passed : (e : Entry) → Member e (t .calls) → passes (ruleAt g (is .rule (e .place)) .left)
+  looped-passed e m =
+      let s = sometimes (d .row) (first-part ++ second-part) (subst (λ l. Member e l) (d .are) m) in
+      let passed : (e : Entry) → Type 0 = λ e. passes (ruleAt g (is .rule (e .place)) .left) in
+      ⊎-elim
+      (λ l.
+      let f = gathered-from (d .second) (λ i. entry (d .from + i) (t .handle)) (d .number) l in
+      subst passed (f .is) (d .second-passes (f .number) (f .below) (f .passes)))
+      (λ r.
+      let f = gathered-from (d .begins) (λ r. entry (d .base + passing (d .begins) r) ones) (ruleCount g) r in
+      let st = d .stored (s .on) (f .number) (f .below) (f .passes) in
+      subst passed (f .is) (subst (λ n. passes (ruleAt g n .left)) (sym (st .rule)) (d .does-begin (f .number) (f .passes) (f .below) .passed)))
+      (member-either first-part (s .member))
+
   -- every item that waits for the symbol,
   looped-medial : (p : ℕ) → c .row (t .pair .set) (t .pair .symbol) → is .Inside (t .pair .set) p → ruleAt g (is .rule p) .second ≡ t .pair .symbol
-      → Member (entry p (t .handle)) (t .calls)
-  looped-medial p row in-set second =
+      → passes (ruleAt g (is .rule p) .left) → Member (entry p (t .handle)) (t .calls)
+  looped-medial p row in-set second passed =
       let at = d .inside p in-set in
       let i : ℕ = p - d .from in
       let is-p : d .from + (p - d .from) ≡ p = omega (arith, at .from-on) in
       let low : p - d .from < d .number = omega (arith, at .from-on, at .up-to) in
-      let passes : d .second (p - d .from) ≡ true =
-      d .second-is (p - d .from) low (subst (λ q. ruleAt g (is .rule q) .second ≡ t .pair .symbol) (sym is-p) second) in
+      let on : d .second (p - d .from) ≡ true =
+      d .second-is (p - d .from) low (subst (λ q. ruleAt g (is .rule q) .second ≡ t .pair .symbol) (sym is-p) second)
+      (subst (λ q. passes (ruleAt g (is .rule q) .left)) (sym is-p) passed) in
       is-call (d .row-in row)
       (member-left second-part
-      (subst (λ q. Member (entry q (t .handle)) first-part) is-p (gathers (d .second) (λ i. entry (d .from + i) (t .handle)) (p - d .from) (d .number) low passes)))
+      (subst (λ q. Member (entry q (t .handle)) first-part) is-p (gathers (d .second) (λ i. entry (d .from + i) (t .handle)) (p - d .from) (d .number) low on)))
 
   -- and the new item of every rule of the symbol alone.
-  looped-unary : (r x : ℕ) → c .row (t .pair .set) (t .pair .symbol) → Says g r x (t .pair .symbol) none → c .row (t .pair .set) x → Stored is t r
-  looped-unary r x row says left =
-      let b : Begins g c (t .pair .set) (t .pair .symbol) r =
-      record { is-rule = says .there; first = says .first; second = says .second; left = subst (c .row (t .pair .set)) (sym (says .left)) left } in
-      let passes : d .begins r ≡ true = d .begin-does r b in
-      let st = d .stored (d .row-in row) r (says .there) passes in
+  looped-unary : (r x : ℕ) → c .row (t .pair .set) (t .pair .symbol) → Says g r x (t .pair .symbol) none → c .row (t .pair .set) x → passes x
+      → Stored is t r
+  looped-unary r x row says left passed =
+      let b : BeginsFor g c passes (t .pair .set) (t .pair .symbol) r =
+      record {
+        is-rule = says .there;
+        first = says .first;
+        second = says .second;
+        left = subst (c .row (t .pair .set)) (sym (says .left)) left;
+        passed = subst passes (sym (says .left)) passed;
+      } in
+      let on : d .begins r ≡ true = d .begin-does r b in
+      let st = d .stored (d .row-in row) r (says .there) on in
       record {
         place = d .base + passing (d .begins) r;
         origin = st .origin;
         rule = st .rule;
         handle = st .handle;
         queued = is-call (d .row-in row)
-            (member-right first-part (gathers (d .begins) (λ r. entry (d .base + passing (d .begins) r) ones) r (ruleCount g) (says .there) passes));
+            (member-right first-part (gathers (d .begins) (λ r. entry (d .base + passing (d .begins) r) ones) r (ruleCount g) (says .there) on));
       }
 
   -- Each entry once.
@@ -169,10 +203,12 @@ module _ {g : Grammar} {c : Chart} {is : Items} (t : Turn Entry Pair) (d : Loope
       omega (arith, d .small))))
 
 -- So the pairs call for what they should.
-pub calling-all : {g : Grammar} {c : Chart} {is : Items} {past : List (Turn Entry Pair)} → ((t : Turn Entry Pair) → Member t past → Looped g c is t) → Calling g c is past
+pub calling-all : {g : Grammar} {c : Chart} {is : Items} {passes : ℕ → Type 0} {past : List (Turn Entry Pair)}
+    → ((t : Turn Entry Pair) → Member t past → LoopedFor g c is passes t) → CallingFor g c is passes past
 calling-all looped =
     record {
       only = λ t e m. looped-only t (looped t m) e;
+      passed = λ t e m. looped-passed t (looped t m) e;
       medial = λ t p m. looped-medial t (looped t m) p;
       unary = λ t r x m. looped-unary t (looped t m) r x;
     }

@@ -10,6 +10,7 @@ use borrow.Author.Tests.{eq-eqb, ne-eqb, eqb-true}
 use Rattle.laws.proofs.Tests.{both-true}
 use Rattle.binary_heap.specs.Entry.{Entry}
 use Rattle.grammar.specs.Rules.{Grammar, Says, none, ruleAt, ruleCount}
+use Rattle.earley.proofs.Sieves.{Any}
 use Rattle.earley.proofs.Charts.{Chart}
 use Rattle.forest.specs.Forests.{Product, alone, paired}
 use Rattle.forest.proofs.Counted.{Telling}
@@ -105,13 +106,18 @@ pub record Stored (is : Items) (t : Turn Entry Pair) (r : ℕ) : Type 0 where
   pub handle : is .handle place ≡ t .handle
   pub queued : Member (entry place ones) (t .calls)
 
--- Each turn calls for these and for no others.
-pub record Calling (g : Grammar) (c : Chart) (is : Items) (past : List (Turn Entry Pair)) : Type 0 where
+-- Each turn calls for those of these whose left side passes, and for no others.
+pub record CallingFor (g : Grammar) (c : Chart) (is : Items) (passes : ℕ → Type 0) (past : List (Turn Entry Pair)) : Type 0 where
   pub only : (t : Turn Entry Pair) (e : Entry) → Member t past → Member e (t .calls) → Medial g c is t e ⊎ Lone g c is t e
+  pub passed : (t : Turn Entry Pair) (e : Entry) → Member t past → Member e (t .calls) → passes (ruleAt g (is .rule (e .place)) .left)
   pub medial : (t : Turn Entry Pair) (p : ℕ) → Member t past → c .row (t .pair .set) (t .pair .symbol) → is .Inside (t .pair .set) p
-      → ruleAt g (is .rule p) .second ≡ t .pair .symbol → Member (entry p (t .handle)) (t .calls)
+      → ruleAt g (is .rule p) .second ≡ t .pair .symbol → passes (ruleAt g (is .rule p) .left) → Member (entry p (t .handle)) (t .calls)
   pub unary : (t : Turn Entry Pair) (r x : ℕ) → Member t past → c .row (t .pair .set) (t .pair .symbol) → Says g r x (t .pair .symbol) none
-      → c .row (t .pair .set) x → Stored is t r
+      → c .row (t .pair .set) x → passes x → Stored is t r
+
+-- With no hint every left side passes.
+abbrev pub Calling : Grammar → Chart → Items → List (Turn Entry Pair) → Type 0
+Calling g c is past = CallingFor g c is Any past
 
 -- A place of a set's item.
 pub record Place (is : Items) (s o r : ℕ) : Type 0 where

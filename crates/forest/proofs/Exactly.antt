@@ -11,9 +11,11 @@ use lib.Seq.{getD-append-seam}
 use Rattle.grammar.specs.Rules.{Grammar, Says, none, ruleAt}
 use Rattle.grammar.specs.Accepted.{Accepted}
 use Rattle.earley.specs.Positions.{Positions}
-use Rattle.earley.proofs.Predictions.{Pred, item, item-two, pred-grows}
-use Rattle.earley.proofs.Charts.{Chart, Live, Found, Holds, live-set}
-use Rattle.earley.proofs.Steps.{Kinds, Done, Pass, DoneAt, pass-all, done-live, row-at, item-at, span-done}
+use Rattle.earley.proofs.Spans.{Span}
+use Rattle.earley.proofs.Predictions.{Pred, item-two, pred-grows}
+use Rattle.earley.proofs.Sieves.{Sieve, Due}
+use Rattle.earley.proofs.Charts.{Chart, Live, Found, HoldsFor, live-set}
+use Rattle.earley.proofs.Steps.{Kinds, DoneFor, PassFor, DoneAt, pass-all, done-live, done-passes, row-of, item-of, span-done}
 use Rattle.forest.specs.Trees.{Tree, leaf, one, two}
 use Rattle.forest.specs.Lists.{none as nothing, more, Once}
 use Rattle.forest.specs.Forests.{Product, alone, paired, Node, token, ofProduct, ofNode, listed}
@@ -23,7 +25,7 @@ use Rattle.forest.proofs.Trees.{root, left, right, arity, Grows, grows-
 use Rattle.forest.proofs.Forests.{Exact, ExactAt, Handles, Completed, Holding, Summand, Before, before-one, before-left, before-right, SumOf}
 
 -- Two sets that stand at one place are one set.
-same-set : {g : Grammar} {a : Positions} {c : Chart} (h : Holds g a c) (s u : ℕ) → s ≤ c .last → u ≤ c .last → h .pos s ≡ h .pos u → s ≡ u
+same-set : {g : Grammar} {a : Positions} {waits : ℕ → Type 0} {c : Chart} (h : HoldsFor g a waits c) (s u : ℕ) → s ≤ c .last → u ≤ c .last → h .pos s ≡ h .pos u → s ≡ u
 same-set h s u l m e = elim (decLt s u) [
   | yes k ↦ (let p = h .rising s u k m in absurd (omega arith))
   | no k ↦ elim (decLt u s) [
@@ -37,23 +39,24 @@ record First (c : Chart) (ks : List ℕ) (k x : ℕ) : Type 0 where
   pub set : k ≡ c .last
   pub kind : Member x ks
 
-only-first : {g : Grammar} {c : Chart} {ks : List ℕ} {k x : ℕ} → Accepted g → Done g c ks k x → x < g .tokens → First c ks k x
-only-first acc (Done.scanned m r) l = record { set = refl; kind = m }
-only-first acc (Done.unary r d y x) l = let k = no-token acc r in absurd (omega arith)
-only-first acc (Done.closed r d z i) l = let k = no-token acc r in absurd (omega arith)
+only-first : {g : Grammar} {c : Chart} {ks : List ℕ} {k x : ℕ} {passes : ℕ → Type 0} → Accepted g → DoneFor g c ks passes k x → x < g .tokens → First c ks k x
+only-first acc (DoneFor.scanned m r) l = record { set = refl; kind = m }
+only-first acc (DoneFor.unary r d y x p) l = let k = no-token acc r in absurd (omega arith)
+only-first acc (DoneFor.closed r d z i p) l = let k = no-token acc r in absurd (omega arith)
 
 -- What is completed, and no token, is predicted where it begins.
-done-predicted : {g : Grammar} {a : Positions} {c : Chart} {ks : List ℕ} {k x : ℕ} (h : Holds g a c) → Kinds g ks → Done g c ks k x → g .tokens ≤ x
-    → Pred g a x (h .pos k)
-done-predicted h s (Done.scanned {t = t} m r) l = let k = s .tokens t m in absurd (omega arith)
-done-predicted h s (Done.unary r d y x) l = h .row-true (live-set h (done-live d)) x
-done-predicted {g} {a} h s (Done.closed {o = o} r d z i) l =
+done-predicted : {g : Grammar} {a : Positions} {waits passes : ℕ → Type 0} {c : Chart} {ks : List ℕ} {k x : ℕ} (h : HoldsFor g a waits c) → Kinds g ks
+    → DoneFor g c ks passes k x → g .tokens ≤ x → Pred g a x (h .pos k)
+done-predicted h s (DoneFor.scanned {t = t} m r) l = let k = s .tokens t m in absurd (omega arith)
+done-predicted h s (DoneFor.unary r d y x p) l = h .row-true (live-set h (done-live d)) x
+done-predicted {g} {a} h s (DoneFor.closed {o = o} r d z i p) l =
     subst (λ x. Pred g a x (h .pos o)) (r .left) (h .item-true (live-set h (done-live d)) i .predicted)
 
--- The premises: the chart holds; what was linked is a pass over the kinds; every item has a handle, and each is exact for its rule's first
+-- The premises: the chart holds, the position may come, and a sieve tells what passes; what was linked is a pass over the kinds; every item has a handle, and each is exact for its rule's first
 -- symbol; a linked token's node is its leaf, and a linked nonterminal's a Sum of exactly its summands.
-module _ {g : Grammar} {a : Positions} {c : Chart} {ks : List ℕ} (hs : Handles c)
-    (acc : Accepted g) (h : Holds g a c) (small : Kinds g ks) (pass : Pass g c ks (Completed hs)) (node : ℕ → Node)
+module _ {g : Grammar} {a : Positions} {waits passes waits′ : ℕ → Type 0} {c : Chart} {ks : List ℕ} (hs : Handles c)
+    (acc : Accepted g) (h : HoldsFor g a waits c) (small : Kinds g ks) (due : Due g waits ks) (sieve : Sieve g passes waits′)
+    (pass : PassFor g c ks passes (Completed hs)) (node : ℕ → Node)
     (holding : (s o r : ℕ) → c .item s o r → Holding hs s o r)
     (old : (s o r p : ℕ) → s ≤ c .last → hs .held s o r p → ExactAt g (a ++ ks ∷ []) node (ruleAt g r .first) (h .pos o) (h .pos s) p)
     (leaves : (k t p : ℕ) → hs .linked k t p → t < g .tokens → node p ≡ token t)
@@ -71,7 +74,7 @@ module _ {g : Grammar} {a : Positions} {c : Chart} {ks : List ℕ} (hs : Handles
   complete {p = p} d = record { handle = p; linked = d }
 
   -- The set that stands where a set stands is that set.
-  done-here : {k y q : ℕ} → Live c k → h .pos k ≡ q → DoneAt g c ks (h .pos) q y → done k y
+  done-here : {k y q : ℕ} → Live c k → h .pos k ≡ q → DoneAt g c ks passes (h .pos) q y → done k y
   done-here {k} {y} l e d =
       subst (λ s. done s y) (same-set h (d .set) k (live-set h (d .live)) (live-set h l) (d .stands ∙ sym e)) (pass-all pass (d .done))
 
@@ -164,14 +167,18 @@ module _ {g : Grammar} {a : Positions} {c : Chart} {ks : List ℕ} (hs : Handles
     predicted : Pred g b x (h .pos k)
     predicted = pred-grows (ks ∷ []) (done-predicted h small (pass .sound (complete d)) no-leaf)
 
+    passed : passes x
+    passed = done-passes small (pass .sound (complete d)) no-leaf
+
     -- One symbol: it is predicted where its left side is, so it was completed there.
     one-listed : {r y : ℕ} (u : Tree) → Says g r x y none → Grows g b u y (h .pos k) end → Listed (one r u)
     one-listed {r} {y} u says gu =
         let first : Pred g b y (h .pos k) = Pred.first says predicted in
-        let dy : done k y = done-here live refl (span-done h (grows-span gu) refl first) in
+        let dy : done k y = done-here live refl (span-done h due sieve (grows-span gu) refl first (sieve .by-only says passed)) in
         record {
           product = alone r (dy .handle);
-          is-summand = Summand.unary says (dy .linked) (row-at h (ks ∷ []) live refl first) (row-at h (ks ∷ []) live refl predicted);
+          is-summand = Summand.unary says (dy .linked) (row-of h due sieve live refl first (grows-span gu))
+              (row-of h due sieve live refl predicted (Span.unary says (grows-span gu)));
           lists = λ before. let l = before-one before in map-member (one r) (below k y (dy .handle) (dy .linked) (omega arith) .complete u gu);
         }
 
@@ -179,8 +186,8 @@ module _ {g : Grammar} {a : Positions} {c : Chart} {ks : List ℕ} (hs : Handles
     two-listed : {r y z m : ℕ} (u v : Tree) → Says g r x y z → z ≢ none → Grows g b u y (h .pos k) m → Grows g b v z m end → Listed (two r u v)
     two-listed {r} {y} {z} {m} u v says two-symbols gu gv =
         let next : Pred g b z m = Pred.second says two-symbols predicted (grows-span gu) in
-        let at : DoneAt g c ks (h .pos) m z = span-done h (grows-span gv) refl next in
-        let f : Found c (h .pos) (at .set) r (h .pos k) = item-at h (ks ∷ []) (at .live) (at .stands) (item says two-symbols predicted (grows-span gu)) in
+        let at : DoneAt g c ks passes (h .pos) m z = span-done h due sieve (grows-span gv) refl next (sieve .by-last says two-symbols passed) in
+        let f : Found c (h .pos) (at .set) r (h .pos k) = item-of h due sieve (at .live) (at .stands) says two-symbols predicted (grows-span gu) (grows-span gv) in
         let older : f .origin < at .set = h .older (live-set h (at .live)) (f .item) in
         let inside : at .set ≤ c .last = live-set h (at .live) in
         let origin : f .origin ≡ k = same-set h (f .origin) k (omega arith) (live-set h live) (f .stands) in
@@ -191,7 +198,7 @@ module _ {g : Grammar} {a : Positions} {c : Chart} {ks : List ℕ} (hs : Handles
         let second : Grows g b v z (h .pos (at .set)) end = subst (λ p. Grows g b v z p end) (sym (at .stands)) gv in
         record {
           product = paired r (i .handle) (dz .handle);
-          is-summand = Summand.closed says (dz .linked) (row-at h (ks ∷ []) (at .live) (at .stands) next) (i .held);
+          is-summand = Summand.closed says (dz .linked) (row-of h due sieve (at .live) (at .stands) next (grows-span gv)) (i .held);
           lists = λ before.
               let lo = before-left before in
               let hi = before-right before in

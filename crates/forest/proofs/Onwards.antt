@@ -8,11 +8,12 @@ use lib.ListN.{length, length-append}
 use Rattle.grammar.specs.Rules.{Grammar, ruleAt}
 use Rattle.grammar.specs.Accepted.{Accepted}
 use Rattle.earley.specs.Positions.{Positions}
-use Rattle.earley.proofs.Charts.{Chart, Holds}
-use Rattle.earley.proofs.Steps.{Kinds, Pass}
-use Rattle.earley.proofs.Next.{Next}
+use Rattle.earley.proofs.Sieves.{Sieve, Due}
+use Rattle.earley.proofs.Charts.{Chart, HoldsFor}
+use Rattle.earley.proofs.Steps.{Kinds, PassFor}
+use Rattle.earley.proofs.Next.{NextFor}
 use Rattle.earley.proofs.Places.{next-cases}
-use Rattle.earley.proofs.Token.{token, token-old}
+use Rattle.earley.proofs.Token.{sifted, sifted-old}
 use Rattle.earley.proofs.Viable.{item-first}
 use Rattle.forest.specs.Forests.{listed}
 use Rattle.forest.specs.Every.{EveryTree}
@@ -31,14 +32,15 @@ pub record Carried (g : Grammar) (is : Items) (past : List (Turn Entry Pair)) (k
   pub old : {k p : ℕ} → k ≤ kept → is′ .Inside k p → Held is k (is′ .origin p) (is′ .rule p) (is′ .handle p)
   pub new : {p : ℕ} → is′ .Inside (suc kept) p → Linked past (is′ .origin p) (ruleAt g (is′ .rule p) .first) (is′ .handle p)
 
-module _ {g : Grammar} {a : Positions} {c c′ : Chart} {ks : List ℕ} {kept : ℕ} {done : ℕ → ℕ → Type 0} {s : Store} {used : ℕ}
-    {is is′ : Items} {past : List (Turn Entry Pair)} (h : Holds g a c) (small : Kinds g ks) (pass : Pass g c ks done) (next : Next g c done kept c′)
+module _ {g : Grammar} {a : Positions} {waits passes waits′ : ℕ → Type 0} {c c′ : Chart} {ks : List ℕ} {kept : ℕ} {done : ℕ → ℕ → Type 0} {s : Store} {used : ℕ}
+    {is is′ : Items} {past : List (Turn Entry Pair)} (h : HoldsFor g a waits c) (small : Kinds g ks) (due : Due g waits ks) (sieve : Sieve g passes waits′)
+    (pass : PassFor g c ks passes done) (next : NextFor g c waits′ done kept c′)
     (carried : Carried g is past kept c′ is′)
     (stays : (k p : ℕ) → is .Inside k p
     → Lasting g (a ++ ks ∷ []) s used (ruleAt g (is .rule p) .first) (h .pos (is .origin p)) (h .pos k) (is .handle p))
     (links : (k x p : ℕ) → Linked past k x p → Lasting g (a ++ ks ∷ []) s used x (h .pos k) (suc (length a)) p) where
-  abbrev after : Holds g (a ++ ks ∷ []) c′
-  after = token h small pass next
+  abbrev after : HoldsFor g (a ++ ks ∷ []) waits′ c′
+  after = sifted h small due sieve pass next
 
   -- An item of a set has what its place has.
   held-lasts : {k o r p : ℕ} → Held is k o r p → Lasting g (a ++ ks ∷ []) s used (ruleAt g r .first) (h .pos o) (h .pos k) p
@@ -61,19 +63,19 @@ module _ {g : Grammar} {a : Positions} {c c′ : Chart} {ks : List ℕ} {kept : 
           let x : ℕ = ruleAt g (is′ .rule p) .first in
           let low : k ≤ suc kept = carried .in-sets i in
           let older : is′ .origin p < k = after .older (let last = next .last in omega arith) (carried .is-item i) in
-          let from : h .pos (is′ .origin p) ≡ after .pos (is′ .origin p) = sym (token-old h small pass next (omega arith)) in
+          let from : h .pos (is′ .origin p) ≡ after .pos (is′ .origin p) = sym (sifted-old h small due sieve pass next (omega arith)) in
           next-cases kept k low
           (λ m.
-          subst₂ (λ i j. Lasting g (a ++ ks ∷ []) s used x i j (is′ .handle p)) from (sym (token-old h small pass next m)) (held-lasts (carried .old m i)))
+          subst₂ (λ i j. Lasting g (a ++ ks ∷ []) s used x i j (is′ .handle p)) from (sym (sifted-old h small due sieve pass next m)) (held-lasts (carried .old m i)))
           (λ e.
           subst₂ (λ i j. Lasting g (a ++ ks ∷ []) s used x i j (is′ .handle p)) from (sym (ap (after .pos) e ∙ new-end))
           (links (is′ .origin p) x (is′ .handle p) (carried .new (subst (λ n. is′ .Inside n p) e i))))
 
 -- EVERY TREE, EACH ONCE: under the handle of rule 0's item in the latest set is every tree of the accepted positions, once.
-pub finished-every : {g : Grammar} {a : Positions} {c : Chart} {is : Items} {s : Store} {used p : ℕ} → Accepted g → (h : Holds g a c) → Handled h is s used
+pub finished-every : {g : Grammar} {a : Positions} {waits : ℕ → Type 0} {c : Chart} {is : Items} {s : Store} {used p : ℕ} → Accepted g → (h : HoldsFor g a waits c) → Handled h is s used
     → is .Inside (c .last) p → c .item (c .last) (is .origin p) 0 → is .rule p ≡ 0 → (rounds : ℕ) → is .handle p < rounds
     → EveryTree g a (listed (s .nodeAt) rounds (is .handle p))
-finished-every {g} {a} {c} {is} {s} {p = p} acc h all inside item zero-rule rounds enough =
+finished-every {g} {a} {c = c} {is = is} {s = s} {p = p} acc h all inside item zero-rule rounds enough =
     every-tree acc
     (subst₂ (λ i j. Exact g a (ruleAt g 0 .first) i j (listed (s .nodeAt) rounds (is .handle p)))
     (item-first acc (h .item-true {s = c .last} (omega arith) item)) (h .ends)

@@ -12,7 +12,7 @@ use Rattle.forest.specs.Forests.{Product, Node, token, sum, FactorOf, Un
 use Rattle.forest.proofs.Forests.{ExactAt, Handles, Summand, Before, SumOf}
 use Rattle.forest.proofs.Tied.{Turn, Tied}
 use Rattle.binary_heap.specs.Entry.{Entry}
-use Rattle.forest.proofs.Entries.{Pair, Items, productOf, Order, terms, Calling, Charted, Rising, Linked}
+use Rattle.forest.proofs.Entries.{Pair, Items, productOf, Order, terms, CallingFor, Charted, Rising, Linked}
 use Rattle.forest.proofs.Sums.{handles, sums}
 use Rattle.forest.proofs.Rooted.{Store, Onward, Rooted, rooted-stays, exact-at-stays}
 
@@ -98,8 +98,9 @@ factor-is (Summand.closed {z = z} {s = s} says l rz h) FactorOf.right linked hel
 leafless : {q t : ℕ} → Under q (token t) → ⊥
 leafless = elim [ ]
 
-module _ (g : Grammar) (c : Chart) (is : Items) (o : Order) {past : List (Turn Entry Pair)} (charted : Charted g c is)
-    (tied : Tied (terms g is o) past []) (rising : Rising is past) (calling : Calling g c is past) (store : Store) (used : ℕ)
+module _ (g : Grammar) (c : Chart) (is : Items) (o : Order) {past : List (Turn Entry Pair)} {passes : ℕ → Type 0} (charted : Charted g c is)
+    (tied : Tied (terms g is o) past []) (rising : Rising is past) (calling : CallingFor g c is passes past)
+    (passed : (t : Turn Entry Pair) → Member t past → g .tokens ≤ t .pair .symbol → passes (t .pair .symbol)) (store : Store) (used : ℕ)
     (stand : (t : Turn Entry Pair) → Member t past → Planted g is store used t)
     (old : (s p : ℕ) → is .Inside s p → Rooted store used (is .handle p)) where
   abbrev hs : Handles c
@@ -107,7 +108,7 @@ module _ (g : Grammar) (c : Chart) (is : Items) (o : Order) {past : List (Turn E
 
   node-sums : (k x h : ℕ) → Linked past k x h → g .tokens ≤ x → SumOf (store .nodeAt) h (Summand g c hs k x)
   node-sums =
-      sums g c is o charted tied rising calling (store .nodeAt) (g .tokens)
+      sums g c is o charted tied rising calling (store .nodeAt) (g .tokens) passed
       (λ t m big. store .reads (stand t m .stands) ∙ stand t m .is-node .sums big)
 
   -- A factor of a Sum lies before it, and is rooted where those before it are.

@@ -23,6 +23,7 @@ use Rattle.node.specs.Rows.{unitsOf, rowOf, sumRow, longProduct, aloneRow, pair
 use Rattle.node.specs.Writing.{put, place, writeUnits}
 use Rattle.node.specs.declared.Node.the-variants.{Sum, Evaluated}
 use Rattle.node.proofs.InOrder.{WrittenFrom}
+use Rattle.earley.proofs.Sieves.{any, any-due, unhinted}
 use Rattle.earley.proofs.Charts.{Chart, Holds, begin}
 use Rattle.earley.proofs.Steps.{Kinds, Pass}
 use Rattle.earley.proofs.Next.{Stored, Led, Next}
@@ -192,9 +193,10 @@ looped-scanned = record {
   inside = λ p i. absurd i;
   place = λ i l. absurd (omega arith);
   is-second = λ i l. absurd (omega arith);
+  second-passes = λ i l on. any;
   second-is = λ i l. absurd (omega arith);
   does-begin = λ r on l.
-      subst (λ n. Begins g c 0 0 n) (sym (eqb-true r 1 on)) (record { is-rule = omega arith; first = refl; second = refl; left = s-in-row });
+      subst (λ n. Begins g c 0 0 n) (sym (eqb-true r 1 on)) (record { is-rule = omega arith; first = refl; second = refl; left = s-in-row; passed = any });
   begin-does = λ r b. eq-eqb r 1 (rule-one r (b .is-rule) (b .second));
   stored = λ row r l on.
       subst (λ n. StoredAt is 0 n 0 (0 + passing (λ r. eqb r 1) n)) (sym (eqb-true r 1 on)) (record { new = refl; origin = refl; rule = refl; handle = refl });
@@ -217,6 +219,7 @@ looped-summed = record {
   inside = λ p i. absurd i;
   place = λ i l. absurd (omega arith);
   is-second = λ i l. absurd (omega arith);
+  second-passes = λ i l on. any;
   second-is = λ i l. absurd (omega arith);
   does-begin = λ r on. absurd (true-false (sym on));
   begin-does = λ r b.
@@ -273,10 +276,10 @@ looped : (t : Turn Entry Pair) → Member t past → Looped g c is t
 looped = of-two (Looped g c is) looped-summed looped-scanned
 
 links : (k x p : ℕ) → Linked past k x p → Lasting g (kinds ∷ []) (unitStore store) 3 x (holds .pos k) 1 p
-links = whole accepted holds small is o charted looped run writing (λ s p i. absurd i) (record { held = λ k p i. absurd i }) begun first
+links = whole accepted holds small any-due unhinted is o charted looped run writing (λ s p i. absurd i) (record { held = λ k p i. absurd i }) begun first
 
 pass : Pass g c kinds done
-pass = whole-pass accepted holds small is o charted looped run writing (λ s p i. absurd i) (record { held = λ k p i. absurd i }) begun first
+pass = whole-pass accepted holds small any-due unhinted is o charted looped run writing (λ s p i. absurd i) (record { held = λ k p i. absurd i }) begun first
 
 link : Linked past 0 1 1
 link = record { turn = summed; member = here refl; set = refl; symbol = refl; handle = refl }
@@ -306,6 +309,7 @@ is-stored = record {
   completed = record { handle = 1; linked = link };
   first = s-in-row;
   left = itself;
+  waited = any;
 }
 
 next : Next g c done 0 c′
@@ -343,7 +347,7 @@ carried = record {
 -- So under the handle of rule 0's item is every tree of the position, once,
 pub smallest-every : EveryTree g (kinds ∷ []) (treesAt store 1)
 smallest-every =
-    finished-every {p = 0} accepted (position holds small pass next) (handled-next holds small pass next carried (λ k p i. absurd i) links) refl
+    finished-every {p = 0} accepted (position holds small pass next) (handled-next holds small any-due unhinted pass next carried (λ k p i. absurd i) links) refl
     (record { set = refl; origin = refl; rule = refl }) refl 2 (omega arith)
 
 -- and that is one tree.

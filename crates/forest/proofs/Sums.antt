@@ -11,7 +11,7 @@ use Rattle.forest.proofs.Lists.{once-map}
 use Rattle.forest.proofs.Forests.{Handles, Holding, Summand, Before, SumOf}
 use Rattle.forest.proofs.Tied.{Turn, Terms, Tied, Called, at-rest, products-once}
 use Rattle.binary_heap.specs.Entry.{Entry}
-use Rattle.forest.proofs.Entries.{entry, ones, Pair, same-pair, same-entry, Items, productOf, Order, terms, Medial, Lone, Stored, Calling, Charted, Rising}
+use Rattle.forest.proofs.Entries.{entry, ones, Pair, same-pair, same-entry, Items, productOf, Order, terms, Medial, Lone, Stored, CallingFor, Charted, Rising}
 use Rattle.forest.proofs.Entries.{Linked, Held, product-lone, product-two, medial-asker, lone-asker}
 
 -- What a product says.
@@ -51,7 +51,7 @@ module _ (g : Grammar) (c : Chart) (is : Items) (o : Order) {past : List (Turn E
       let p = charted .item-is i in
       record { handle = is .handle (p .place); held = record { place = p .place; inside = p .inside; origin = p .origin; rule = p .rule; handle = refl } }
 
-  module _ (rising : Rising is past) (calling : Calling g c is past) where
+  module _ {passes : ℕ → Type 0} (rising : Rising is past) (calling : CallingFor g c is passes past) where
     link : (t : Turn Entry Pair) → Member t past → Linked past (t .pair .set) (t .pair .symbol) (t .handle)
     link t m = record { turn = t; member = m; set = refl; symbol = refl; handle = refl }
 
@@ -86,20 +86,20 @@ module _ (g : Grammar) (c : Chart) (is : Items) (o : Order) {past : List (Turn E
           → Member (productOf is e) (map (productOf is) (t .products))
       is-product e called set symbol = map-member (productOf is) (at-rest w tied t m e .1 (called, same-pair set symbol))
 
-      -- and a summand a product.
-      summand-product : {p : Product} → IsSummand p → Member p (map (productOf is) (t .products))
-      summand-product (Summand.unary {r = r} {y = y} {a = a} says l ry rx) =
+      -- and a summand a product, where the symbol passes.
+      summand-product : {p : Product} → passes (t .pair .symbol) → IsSummand p → Member p (map (productOf is) (t .products))
+      summand-product passed (Summand.unary {r = r} {y = y} {a = a} says l ry rx) =
           let u : Turn Entry Pair = l .turn in
           let at : t .pair .set ≡ u .pair .set = sym (l .set) in
           let s : Stored is u r =
           calling .unary u r (t .pair .symbol) (l .member) (subst₂ (λ k x. c .row k x) at (sym (l .symbol)) ry)
-          (subst (λ y. Says g r (t .pair .symbol) y none) (sym (l .symbol)) says) (subst (λ k. c .row k (t .pair .symbol)) at rx) in
+          (subst (λ y. Says g r (t .pair .symbol) y none) (sym (l .symbol)) says) (subst (λ k. c .row k (t .pair .symbol)) at rx) passed in
           let e : Entry = entry (s .place) ones in
           let is-it : productOf is e ≡ alone r a = product-lone is e refl ∙ (λ i. alone (s .rule i) ((s .handle ∙ l .handle) i)) in
           subst (λ p. Member p (map (productOf is) (t .products))) is-it
           (is-product e (record { by = u; turn = l .member; calls = s .queued }) (s .origin ∙ l .set)
           (ap (λ n. ruleAt g n .left) (s .rule) ∙ says .left))
-      summand-product (Summand.closed {r = r} {z = z} {s = s} {a = a} {b = b} says l rz h) =
+      summand-product passed (Summand.closed {r = r} {z = z} {s = s} {a = a} {b = b} says l rz h) =
           let u : Turn Entry Pair = l .turn in
           let e : Entry = entry (h .place) (u .handle) in
           let is-it : productOf is e ≡ paired r a b =
@@ -107,7 +107,8 @@ module _ (g : Grammar) (c : Chart) (is : Items) (o : Order) {past : List (Turn E
           let called : Member e (u .calls) =
           calling .medial u (h .place) (l .member) (subst₂ (λ k x. c .row k x) (sym (l .set)) (sym (l .symbol)) rz)
           (subst (λ k. is .Inside k (h .place)) (sym (l .set)) (h .inside))
-          (ap (λ n. ruleAt g n .second) (h .rule) ∙ says .second ∙ sym (l .symbol)) in
+          (ap (λ n. ruleAt g n .second) (h .rule) ∙ says .second ∙ sym (l .symbol))
+          (subst passes (sym (ap (λ n. ruleAt g n .left) (h .rule) ∙ says .left)) passed) in
           subst (λ p. Member p (map (productOf is) (t .products))) is-it
           (is-product e (record { by = u; turn = l .member; calls = called }) (h .origin) (ap (λ n. ruleAt g n .left) (h .rule) ∙ says .left))
 
@@ -159,24 +160,24 @@ module _ (g : Grammar) (c : Chart) (is : Items) (o : Order) {past : List (Turn E
           (calling .only u e (called .0 .turn) (called .0 .calls))
 
       -- The Sum of a turn.
-      pub turn-sum : (node : ℕ → Node) → node (t .handle) ≡ sum (map (productOf is) (t .products)) → SumOf node (t .handle) IsSummand
-      turn-sum node stands = record {
+      pub turn-sum : passes (t .pair .symbol) → (node : ℕ → Node) → node (t .handle) ≡ sum (map (productOf is) (t .products)) → SumOf node (t .handle) IsSummand
+      turn-sum passed node stands = record {
         products = map (productOf is) (t .products);
         stands = stands;
         all = λ p. (
           (λ n. let f = member-map (productOf is) (t .products) n in subst IsSummand (f .2) (product-summand (f .0) (f .1))),
-          summand-product,
+          summand-product passed,
         );
         once = once-map (productOf is) one-entry (products-once w tied t m);
         before = λ p n. let f = member-map (productOf is) (t .products) n in subst (Before (t .handle)) (f .2) (factors-before (f .0) (f .1));
       }
 
     -- AT REST the node of a completed pair is a Sum of exactly its summands, each once, with factors before it.
-    pub sums : (node : ℕ → Node) → (bound : ℕ)
+    pub sums : (node : ℕ → Node) → (bound : ℕ) → ((t : Turn Entry Pair) → Member t past → bound ≤ t .pair .symbol → passes (t .pair .symbol))
         → ((t : Turn Entry Pair) → Member t past → bound ≤ t .pair .symbol → node (t .handle) ≡ sum (map (productOf is) (t .products)))
         → (k x h : ℕ) → Linked past k x h → bound ≤ x → SumOf node h (Summand g c handles k x)
-    sums node bound stands k x h l big =
+    sums node bound passed stands k x h l big =
         subst (λ k. SumOf node h (Summand g c handles k x)) (l .set)
         (subst (λ x. SumOf node h (Summand g c handles (l .turn .pair .set) x)) (l .symbol)
         (subst (λ h. SumOf node h (Summand g c handles (l .turn .pair .set) (l .turn .pair .symbol))) (l .handle)
-        (turn-sum (l .turn) (l .member) node (stands (l .turn) (l .member) (omega (arith, l .symbol))))))
+        (turn-sum (l .turn) (l .member) (passed (l .turn) (l .member) (omega (arith, l .symbol))) node (stands (l .turn) (l .member) (omega (arith, l .symbol))))))

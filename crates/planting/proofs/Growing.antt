@@ -27,6 +27,7 @@ use Rattle.demands.proofs.Ways.{keptOf, following}
 use Rattle.demands.proofs.Members.{Standing}
 use Rattle.demands.proofs.NextSet.{following-sizes, following-well, following-next, kept-place, kept-item, new-place, standing}
 use Rattle.earley.specs.Positions.{Positions}
+use Rattle.earley.proofs.Sieves.{any-due, unhinted}
 use Rattle.earley.proofs.Charts.{Holds, begin}
 use Rattle.earley.proofs.Next.{Next}
 use Rattle.earley.proofs.Token.{token}
@@ -109,7 +110,7 @@ module _ {g : Grammar} {table : List (List ℕ)} (accepted : Accepted g) (predic
     pub step-grown : {a : Positions} → Grown g a s v → Grown g (a ++ kinds ∷ []) s′ v′
     step-grown {a} grown = record {
       holds = token (grown .holds) (tokens unrefused) (exact .pass) next;
-      handled = handled-next (grown .holds) (tokens unrefused) (exact .pass) next carried (item-trees unrefused (grown .holds) (grown .handled))
+      handled = handled-next (grown .holds) (tokens unrefused) any-due unhinted (exact .pass) next carried (item-trees unrefused (grown .holds) (grown .handled))
           (pair-trees unrefused (grown .holds) (grown .handled));
     }
       where

@@ -33,6 +33,7 @@ use Rattle.completion.proofs.Entries.{append-items, append-queued, append-queue
 use Rattle.completion.proofs.Summing.{next-queued, next-items}
 use Rattle.demands.specs.Steps.{completed}
 use Rattle.demands.proofs.Chart.{chartOf}
+use Rattle.earley.proofs.Sieves.{any}
 use Rattle.earley.proofs.Steps as steps
 use Rattle.forest.specs.Forests.{Product, alone, paired, Node, token, sum, other}
 use Rattle.forest.proofs.Forests as forests
@@ -114,9 +115,9 @@ module _ {g : Grammar} {st : State} {v : Words} {kinds : List ℕ} (a : Unrefuse
 
   -- What the rules of completion give is what is completed.
   done-completes : {k x : ℕ} → steps.Done g (chartOf st v) kinds k x → Completes g st v kinds k x
-  done-completes (steps.Done.scanned m r) = Completes.scanned m r
-  done-completes (steps.Done.unary says d y x) = Completes.unary says (done-completes d) y x
-  done-completes (steps.Done.closed says d z i) =
+  done-completes (steps.DoneFor.scanned m r) = Completes.scanned m r
+  done-completes (steps.DoneFor.unary says d y x _) = Completes.unary says (done-completes d) y x
+  done-completes (steps.DoneFor.closed says d z i _) =
       Completes.closed {a = handleAt (v .items) (i .place)} says (done-completes d) z
       (record {
         place = i .place;
@@ -125,16 +126,17 @@ module _ {g : Grammar} {st : State} {v : Words} {kinds : List ℕ} (a : Unrefuse
       })
 
   completes-done : {k x : ℕ} → Completes g st v kinds k x → steps.Done g (chartOf st v) kinds k x
-  completes-done (Completes.scanned m r) = steps.Done.scanned m r
-  completes-done (Completes.unary says d y x) = steps.Done.unary says (completes-done d) y x
+  completes-done (Completes.scanned m r) = steps.DoneFor.scanned m r
+  completes-done (Completes.unary says d y x) = steps.DoneFor.unary says (completes-done d) y x any
   completes-done (Completes.closed says d z i) =
-      steps.Done.closed says (completes-done d) z
+      steps.DoneFor.closed says (completes-done d) z
       (record {
         place = i .place;
         in-set = i .in-set;
         origin = ap (λ (j : Item). j .origin) (i .is);
         rule = ap (λ (j : Item). j .rule) (i .is);
       })
+      any
 
   completes-node : {k x : ℕ} → Completes g st v kinds k x ↔ HasNode (Linked turns) k x
   completes-node {k} {x} = (
@@ -179,7 +181,7 @@ module _ {g : Grammar} {st : State} {v : Words} {kinds : List ℕ} (a : Unrefuse
   sum-of : {k x h : ℕ} → Linked turns k x h → g .tokens ≤ x → SumOf g st v kinds (Linked turns) k x h
   sum-of {k} {x} {h} l big =
       let f : forests.SumOf (unitStore (end .units) .nodeAt) h (forests.Summand g (chartOf st v) handle-laws k x) =
-      sums g (chartOf st v) is (beneath-order (g .rules)) (charted a) (tied a) (rising a) (calling a) (unitStore (end .units) .nodeAt) (g .tokens) stands-sum k x h l big in
+      sums g (chartOf st v) is (beneath-order (g .rules)) (charted a) (tied a) (rising a) (calling a) (unitStore (end .units) .nodeAt) (g .tokens) (λ t m big. any) stands-sum k x h l big in
       let big-turn : g .tokens ≤ l .turn .pair .symbol = omega (arith, l .symbol) in
       let at : PoppedAt (a .accepted) st v kinds _ end (l .turn) = so-far a .popped (l .turn) (l .member) big-turn in
       let its : f .products ≡ map (entries.productOf is) (l .turn .products) =

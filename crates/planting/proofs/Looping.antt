@@ -23,6 +23,7 @@ use Rattle.completion.specs.Complete.{predicted, waits, complete}
 use Rattle.completion.specs.inner.Ready.{IsSet, PassFits, Charted}
 use Rattle.completion.proofs.Onward.{Onward, onward-trans}
 use Rattle.completion.proofs.Charting.{steady-refl, steady-complete}
+use Rattle.earley.proofs.Sieves.{any}
 use Rattle.earley.proofs.Charts.{Chart}
 use Rattle.demands.proofs.Chart.{chartOf}
 use Rattle.forest.proofs.Tied.{Turn}
@@ -65,6 +66,7 @@ module _ (g : Grammar) (st : State) (v : Words) (k x link : ℕ) (set : IsSet (v
         first = eqb-true (getD rs r noRule .first) x (wait .0);
         second = eqb-true (getD rs r noRule .second) none (both .0);
         left = holds-true (rowOf rowWords (v .rows) k) (getD rs r noRule .left) (wait .1);
+        passed = any;
       }
 
   begins-alone : (r : ℕ) → Begins g (chartOf st v) k x r → isAlone rs (v .rows) k x r ≡ true
@@ -105,7 +107,8 @@ module _ (g : Grammar) (st : State) (v : Words) (k x link : ℕ) (set : IsSet (v
         inside = λ p i. record { from-on = i .from; up-to = omega (arith, i .from, i .up-to) };
         place = λ i less. record { from = omega arith; up-to = omega arith };
         is-second = λ i less passes. same-second i less ∙ eqb-true (secondOf rs (itemAt (u .items) (startOf v k + i))) x passes;
-        second-is = λ i less second. eq-eqb (secondOf rs (itemAt (u .items) (startOf v k + i))) x (sym (same-second i less) ∙ second);
+        second-passes = λ i less passes. any;
+        second-is = λ i less second passed. eq-eqb (secondOf rs (itemAt (u .items) (startOf v k + i))) x (sym (same-second i less) ∙ second);
         does-begin = alone-begins;
         begin-does = begins-alone;
         stored = stored-at;

@@ -12,6 +12,7 @@ use Rattle.completion.specs.Pass.{Pass}
 use Rattle.demands.specs.Steps.{completed}
 use Rattle.demands.proofs.Chart.{chartOf}
 use Rattle.earley.specs.Positions.{Positions}
+use Rattle.earley.proofs.Sieves.{any-due, unhinted}
 use Rattle.earley.proofs.Charts.{Holds}
 use Rattle.forest.proofs.Entries.{Items, Linked}
 use Rattle.forest.proofs.Units.{unitStore}
@@ -58,7 +59,7 @@ module _ {g : Grammar} {st : State} {v : Words} {kinds : List ℕ} (unrefused : 
   pub pair-trees : (k x p : ℕ) → Linked (past unrefused) k x p
       → Lasting g (a ++ kinds ∷ []) (unitStore (end .units)) (end .at .used) x (h .pos k) (suc (length a)) p
   pair-trees =
-      whole (unrefused .accepted) h (tokens unrefused) (itemsOf st v end) (beneath-order (g .rules)) (charted unrefused) (so-far unrefused .looped)
+      whole (unrefused .accepted) h (tokens unrefused) any-due unhinted (itemsOf st v end) (beneath-order (g .rules)) (charted unrefused) (so-far unrefused .looped)
       (run unrefused) (so-far unrefused .writing) inside handled-end (so-far unrefused .begun) (kinds-read unrefused)
 
   -- The items of the sets keep theirs.
@@ -66,5 +67,5 @@ module _ {g : Grammar} {st : State} {v : Words} {kinds : List ℕ} (unrefused : 
       → Lasting g (a ++ kinds ∷ []) (unitStore (end .units)) (end .at .used) (grammarRule g (ruleAt (end .items) p) .first)
       (h .pos (originAt (end .items) p)) (h .pos k) (handleAt (end .items) p)
   item-trees =
-      held-stays (unrefused .accepted) h (tokens unrefused) (itemsOf st v end) (beneath-order (g .rules)) (charted unrefused)
+      held-stays (unrefused .accepted) h (tokens unrefused) any-due unhinted (itemsOf st v end) (beneath-order (g .rules)) (charted unrefused)
       (so-far unrefused .looped) (run unrefused) (so-far unrefused .writing) inside handled-end
