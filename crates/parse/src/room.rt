@@ -16,7 +16,7 @@ pub const QUEUED: usize = 1024;
 pub const UNITS: usize = 32768;
 
 // The smaller of two numbers.
-fn least(a: usize, b: usize) -> usize
+pub fn least(a: usize, b: usize) -> usize
     ensures { λ r. ⌜ r ≡ min a b ⌝ }
 {
     if a < b {

@@ -13,6 +13,14 @@ use Rattle.parse.specs.Words.{Words}
 use Rattle.parse.specs.Heads.{ToEnd, Meets}
 use Rattle.parse.specs.WellFormed.{Fits, placing}
 
+-- The words of a block.
+abbrev pub blockWords : ℕ
+blockWords = 64
+
+-- The words from `from` up to `to` are 0.
+pub record ClearBetween (words : List ℕ) (from to : ℕ) : Type 0 where
+  pub zero : (i : ℕ) → from ≤ i → i < to → getD words i 0 ≡ 0
+
 -- Every word from `from` on is 0.
 pub record Clear (words : List ℕ) (from : ℕ) : Type 0 where
   pub zero : (i : ℕ) → from ≤ i → getD words i 0 ≡ 0
@@ -56,6 +64,10 @@ pub record WordBelow (n i word : ℕ) : Type 0 where
 -- No row up to row `e` has a bit at `n` or above.
 pub record RowsBelow (n : ℕ) (rows : List ℕ) (e : ℕ) : Type 0 where
   pub each : (k : ℕ) → k ≤ e → Below n (rowOf rowWords rows k)
+
+-- The units from `from` up to `to` are fillers.
+pub record FilledBetween (units : List ℕ) (from to : ℕ) : Type 0 where
+  pub unit : (i : ℕ) → from ≤ i → i < to → getD units i filler ≡ filler
 
 -- Every unit from `from` on is a filler.
 pub record Filled (units : List ℕ) (from : ℕ) : Type 0 where
