@@ -1,16 +1,20 @@
 -- Each condition of the check as the code comes to it.
-use mathlib.Core.Path.{_≡_, sym, _∙_}
+use mathlib.Core.Path.{_≡_, sym, ap, _∙_}
+use mathlib.Core.Bool.{Bool, false, not}
 use mathlib.Core.Logic.{⊎-elim}
 use mathlib.Core.List.{List}
 use Prim.Native.Nat.{ℕ, _+_, _-_, _*_, _≤_, _<_}
 use native.Mathlib.Omega.{arith}
 use borrow.Author.Count.{below-more}
-use lib.ListN.{length}
+use borrow.Author.Tests.{not-true, not-false}
+use lib.ListN.{length, getD}
+use Rattle.laws.specs.Decides.{Decides}
+use Rattle.laws.proofs.Decides.{true-false}
 use Rattle.grammar.specs.Rules.{none}
 use Rattle.grammar.specs.inner.Decoded.{leftIn, firstIn, secondIn}
 use Rattle.grammar.specs.File.{versionOf, lengthOf, ruleCountOf, headerBytes, ruleBytes, Malformed}
 use Rattle.grammar.specs.File.Malformed.{short, version, real-length, told-length}
-use Rattle.grammar.specs.inner.Checking.{Drawn, Adjoins, Precedes, Ruled, Same, EqualPair, FoundLeft}
+use Rattle.grammar.specs.inner.Checking.{Drawn, Adjoins, Precedes, Ruled, Same, EqualPair, LeftBelow, Met}
 
 -- A file that passes the four tests is not malformed.
 pub well-formed : (file : List ℕ) → headerBytes ≤ length file → versionOf file ≡ 1 → lengthOf file ≡ length file
@@ -24,25 +28,33 @@ well-formed file a b c d (told-length x) = x d
 pub high-second : (words : List ℕ) (n t r : ℕ) → Drawn words n t r → (secondIn words r ≡ none → ⊥) → n - 2 ≤ secondIn words r → ⊥
 high-second words n t r d no-none high = ⊎-elim no-none (λ (l : secondIn words r < n - 2). omega arith) (d .second)
 
--- The rule before has the same left side, or the search among all rules before found none.
+-- The rule before has the same left side, or the left side was not met before.
 pub adjoins-next : (words : List ℕ) (r : ℕ) → leftIn words (r - 1) ≡ leftIn words r → Adjoins words r
 adjoins-next words r e = record { adjacent = λ q l s. e }
 
-pub adjoins-none : (words : List ℕ) (r a f : ℕ) → FoundLeft words r a f → a ≡ leftIn words r → r ≤ f → Adjoins words r
-adjoins-none words r a f h e l = record { adjacent = λ q lq s. absurd (h .none-before q (omega arith) (s ∙ sym e)) }
+pub adjoins-met : (words : List ℕ) (marks : List Bool) (r a b : ℕ) → Met words r marks → a ≡ leftIn words r → b ≡ leftIn words (r - 1) → (b ≡ a → ⊥)
+    → Decides (not (getD marks a false)) (Adjoins words r)
+adjoins-met words marks r a b met e eb differs = record {
+  if-yes = λ new.
+      record { adjacent = λ q below s. absurd (true-false (sym (met .left q below) ∙ ap (λ (x : ℕ). getD marks x false) (s ∙ sym e) ∙ not-true _ new)) };
+  if-no = λ old adjoins.
+      let known : LeftBelow words r a = met .no-other a (not-false _ old) in
+      differs (eb ∙ adjoins .adjacent (known .rule) (known .below) (known .is ∙ e) ∙ sym e);
+}
 
-pub adjoins-not : (words : List ℕ) (r a b f : ℕ) → FoundLeft words r a f → a ≡ leftIn words r → b ≡ leftIn words (r - 1) → (b ≡ a → ⊥) → f < r → Adjoins words r → ⊥
-adjoins-not words r a b f h e eb n l x = n (eb ∙ x .adjacent f l (h .found l ∙ e) ∙ sym e)
-
--- The rule has two symbols, or the search up to it found no rule of its one symbol.
+-- The rule has two symbols, or no rule of its one symbol was met up to it.
 pub precedes-two : (words : List ℕ) (r c : ℕ) → c ≡ secondIn words r → (c ≡ none → ⊥) → Precedes words r
 precedes-two words r c ec n = record { unary-below = λ e. absurd (n (ec ∙ e)) }
 
-pub precedes-none : (words : List ℕ) (r b f : ℕ) → FoundLeft words (r + 1) b f → b ≡ firstIn words r → r < f → Precedes words r
-precedes-none words r b f h eb l = record { unary-below = λ e s ls x. h .none-before s (omega arith) (x ∙ sym eb) }
-
-pub precedes-not : (words : List ℕ) (r b c f : ℕ) → FoundLeft words (r + 1) b f → b ≡ firstIn words r → c ≡ secondIn words r → c ≡ none → f ≤ r → Precedes words r → ⊥
-precedes-not words r b c f h eb ec e l p = p .unary-below (sym ec ∙ e) f l (h .found (omega arith) ∙ eb)
+pub precedes-met : (words : List ℕ) (marks : List Bool) (r b c : ℕ) → Met words (r + 1) marks → b ≡ firstIn words r → c ≡ secondIn words r → c ≡ none
+    → Decides (not (getD marks b false)) (Precedes words r)
+precedes-met words marks r b c met eb ec one = record {
+  if-yes = λ new.
+      record { unary-below = λ e s up is. true-false (sym (met .left s (omega arith)) ∙ ap (λ (x : ℕ). getD marks x false) (is ∙ sym eb) ∙ not-true _ new) };
+  if-no = λ old precedes.
+      let known : LeftBelow words (r + 1) b = met .no-other b (not-false _ old) in
+      precedes .unary-below (sym ec ∙ one) (known .rule) (omega (arith, known .below)) (known .is ∙ eb);
+}
 
 -- Every rule from 1 to `r` is as asked, one after the other.
 pub ruled-none : (words : List ℕ) (n t : ℕ) → Ruled words n t 1

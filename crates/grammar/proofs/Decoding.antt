@@ -1,16 +1,16 @@
 -- Rules in bytes and in words, rule by rule.
 use mathlib.Core.Path.{_≡_, refl, sym, ap, subst, _∙_}
 use mathlib.Core.List.{List}
-use Prim.Native.Nat.{ℕ, zero, suc, _+_, _*_, _≤_, _<_}
+use Prim.Native.Nat.{ℕ, zero, suc, _+_, _-_, _*_, _≤_, _<_}
 use native.Mathlib.Omega.{arith}
 use native.Mathlib.Decide.{ℕ-discrete, decLt}
 use lib.ListN.{length, getD, set, replicate, length-set, length-replicate}
 use lib.Seq.{ext-getD, getD-set-same, getD-set-other}
 use Rattle.laws.proofs.Lists.{zeros-word}
 use Rattle.grammar.specs.Rules.{Rule, Grammar, Says, ruleCount, ruleAt}
-use Rattle.grammar.specs.Accepted.{maxRules}
+use Rattle.grammar.specs.Accepted.{maxSymbols, maxRules}
 use Rattle.grammar.specs.File.{u16At, headerBytes, ruleBytes, ruleCountOf, symbolsOf, tokensOf, ruleIn, rulesFrom, grammarOf}
-use Rattle.grammar.specs.inner.Decoded.{ruleWords, leftIn, firstIn, secondIn, rulesBehind, rulesIn, grammarIn, HoldsRules}
+use Rattle.grammar.specs.inner.Decoded.{ruleWords, leftIn, firstIn, secondIn, rulesBehind, rulesIn, grammarIn, nextsAt, headsAt, allWords, nextIn, headIn, Leads, Chained, DecodedRules, Links, HoldsRules}
 
 -- What stands for a rule past the last one.
 abbrev noRule : Rule
@@ -118,7 +118,7 @@ same-grammar file words same =
 -- The first `i` rules of the file stand in the words.
 pub record Decoding (file words : List ℕ) (i : ℕ) : Type 0 where
   pub few : i ≤ ruleCountOf file
-  pub long : length words ≡ ruleWords * maxRules
+  pub long : length words ≡ allWords
   pub same : (r : ℕ) → r < i → SameRule file words r
   pub rest : (k : ℕ) → ruleWords * i ≤ k → getD words k 0 ≡ 0
 
@@ -144,7 +144,7 @@ module _ (file words : List ℕ) (i a b c : ℕ) where
     rest = λ k behind. stored-other k (omega arith) (omega arith) (omega arith) ∙ h .rest k (omega arith);
   }
     where
-      long-stored : length stored ≡ ruleWords * maxRules
+      long-stored : length stored ≡ allWords
       long-stored = simp length-set (h .long)
 
       lower : (r : ℕ) → r < i + 1 → (r ≡ i → ⊥) → r < i
@@ -168,7 +168,7 @@ module _ (file words : List ℕ) (i a b c : ℕ) where
       }
 
 -- With all rules decoded the words hold the file's rules.
-pub all-decoded : (file words : List ℕ) (i : ℕ) → Decoding file words i → ruleCountOf file ≤ i → HoldsRules file words
+pub all-decoded : (file words : List ℕ) (i : ℕ) → Decoding file words i → ruleCountOf file ≤ i → DecodedRules file words
 all-decoded file words i h l = record {
   long = h .long;
   rules = same-grammar file words (λ r lr. h .same r (omega arith));
@@ -176,13 +176,52 @@ all-decoded file words i h l = record {
 }
 
 -- Before the first rule all words are 0.
-pub none-decoded : (file : List ℕ) → Decoding file (replicate (ruleWords * maxRules) 0) 0
+pub none-decoded : (file : List ℕ) → Decoding file (replicate allWords 0) 0
 none-decoded file = record {
   few = omega arith;
-  long = length-replicate {A = ℕ} (ruleWords * maxRules) 0;
+  long = length-replicate {A = ℕ} allWords 0;
   same = λ r l. absurd (omega arith);
-  rest = λ k behind. zeros-word (ruleWords * maxRules) k;
+  rest = λ k behind. zeros-word allWords k;
 }
+
+-- With the chains put in they hold the file's rules still.
+pub linked-holds : (file words linked : List ℕ) (count : ℕ) → ruleCountOf file ≤ maxRules → count ≡ ruleCountOf file → DecodedRules file words → Links count words linked
+    → HoldsRules file linked
+linked-holds file words linked count few is decoded links = record {
+  long = links .long;
+  rules = ap (λ (l : List Rule). record { symbols = symbolsOf file; tokens = tokensOf file; rules = l }) same ∙ decoded .rules;
+  rest = λ i behind before. links .same i before ∙ decoded .rest i behind;
+  chained = subst (Chained linked) is (links .chained);
+  chained-rest = λ r behind there. links .rest r (omega arith) there;
+}
+  where
+    same : rulesIn linked (ruleCountOf file) ≡ rulesIn words (ruleCountOf file)
+    same =
+        ext-getD noRule (rulesIn linked (ruleCountOf file)) (rulesIn words (ruleCountOf file))
+        (behind-count linked 0 (ruleCountOf file) ∙ sym (behind-count words 0 (ruleCountOf file)))
+        (λ r l. one r (omega (arith, behind-count linked 0 (ruleCountOf file))))
+      where
+        one : (r : ℕ) → r < ruleCountOf file → getD (rulesIn linked (ruleCountOf file)) r noRule ≡ getD (rulesIn words (ruleCountOf file)) r noRule
+        one r l =
+            in-rule linked (symbolsOf file) (tokensOf file) (ruleCountOf file) r l
+            ∙ rule-eq (links .same (ruleWords * r) (omega arith)) (links .same (ruleWords * r + 1) (omega arith)) (links .same (ruleWords * r + 2) (omega arith))
+            ∙ sym (in-rule words (symbolsOf file) (tokensOf file) (ruleCountOf file) r l)
+
+-- One word alone leads to a rule, and what leads to it does so wherever the rules begin alike.
+module _ (a b : List ℕ) (count from x : ℕ) (alike : (r : ℕ) → r < count → firstIn a r ≡ firstIn b r) where
+  not-less : (v w : ℕ) → Leads a count from x v → Leads b count from x w → v < w → ⊥
+  not-less v w leads other less =
+      leads .first .none-before (count - w) (other .first .from-on) (omega (arith, other .few)) (alike (count - w) (omega (arith, other .few)) ∙ other .first .begins (omega (arith, other .few)))
+
+pub leads-agree : (a b : List ℕ) (count from x v w : ℕ) → ((r : ℕ) → r < count → firstIn a r ≡ firstIn b r) → Leads a count from x v → Leads b count from x w → v ≡ w
+leads-agree a b count from x v w alike leads other =
+    elim (decLt v w) [
+      | yes less ↦ absurd (not-less a b count from x alike v w leads other less)
+      | no up ↦ elim (decLt w v) [
+        | yes less ↦ absurd (not-less b a count from x (λ r l. sym (alike r l)) w v other leads less)
+        | no same ↦ omega arith
+      ]
+    ]
 
 -- Words that hold the rules of one file are the same words.
 module _ (file a b : List ℕ) (ha : HoldsRules file a) (hb : HoldsRules file b) where
@@ -206,10 +245,33 @@ module _ (file a b : List ℕ) (ha : HoldsRules file a) (hb : HoldsRules file b)
         ]
       ]
 
+  alike : (r : ℕ) → r < ruleCountOf file → firstIn a r ≡ firstIn b r
+  alike r l = ap (λ (q : Rule). q .first) (same-rule r l)
+
+  same-next : (r : ℕ) → r < maxRules → nextIn a r ≡ nextIn b r
+  same-next r there =
+      elim (decLt r (ruleCountOf file)) [
+        | yes l ↦
+            leads-agree a b (ruleCountOf file) (r + 1) (firstIn a r) (nextIn a r) (nextIn b r) alike (ha .chained .next r l)
+            (subst (λ (x : ℕ). Leads b (ruleCountOf file) (r + 1) x (nextIn b r)) (sym (alike r l)) (hb .chained .next r l))
+        | no behind ↦ ha .chained-rest r (omega arith) there ∙ sym (hb .chained-rest r (omega arith) there)
+      ]
+
+  same-head : (x : ℕ) → x < maxSymbols → headIn a x ≡ headIn b x
+  same-head x there = leads-agree a b (ruleCountOf file) 0 x (headIn a x) (headIn b x) alike (ha .chained .head x there) (hb .chained .head x there)
+
   pub holds-agree : a ≡ b
   holds-agree =
       ext-getD 0 a b (ha .long ∙ sym (hb .long))
       (λ i l. elim (decLt i (ruleWords * ruleCountOf file)) [
         | yes inside ↦ same-front (ruleCountOf file) (omega arith) i inside
-        | no behind ↦ ha .rest i (omega arith) ∙ sym (hb .rest i (omega arith))
+        | no behind ↦ elim (decLt i nextsAt) [
+          | yes rest ↦ ha .rest i (omega arith) rest ∙ sym (hb .rest i (omega arith) rest)
+          | no nexts ↦ elim (decLt i headsAt) [
+            | yes next ↦ (let at : nextsAt + (i - nextsAt) ≡ i = omega arith in
+                subst (λ (k : ℕ). getD a k 0 ≡ getD b k 0) at (same-next (i - nextsAt) (omega arith)))
+            | no heads ↦ (let at : headsAt + (i - headsAt) ≡ i = omega arith in
+                subst (λ (k : ℕ). getD a k 0 ≡ getD b k 0) at (same-head (i - headsAt) (omega (arith, ha .long))))
+          ]
+        ]
       ])

@@ -11,3 +11,4 @@ pub mod Facts
 pub mod Reached
 pub mod Following
 pub mod Examples
+pub mod Linking

@@ -12,7 +12,7 @@ use lib.ListN.{length, getD, set, replicate, length-set, length-replicate, getD-
 use lib.Seq.{getD-set-same, getD-set-other}
 use Rattle.laws.proofs.Decides.{true-false, false-true, decides-map}
 use Rattle.grammar.specs.Accepted.{maxSymbols}
-use Rattle.grammar.specs.inner.Checking.{Marked, TokensMarked, AllMarked, LowSymbols, RightMarked, Fires, Spreads, Last}
+use Rattle.grammar.specs.inner.Checking.{Marked, LeftBelow, Met, TokensMarked, AllMarked, LowSymbols, RightMarked, Fires, Spreads, Last}
 use Rattle.grammar.specs.Rules.{none}
 use Rattle.grammar.specs.inner.Decoded.{leftIn, firstIn, secondIn}
 use Rattle.laws.specs.Decides.{Decides}
@@ -56,6 +56,22 @@ more-tokens marks t l h = record {
 
 pub last-token : (marks : List Bool) (a t : ℕ) → TokensMarked a marks → a ≤ t → t ≤ a → TokensMarked t marks
 last-token marks a t h l m = subst (λ (x : ℕ). TokensMarked x marks) (omega arith) h
+
+-- No left side is met before rule 0, and then one rule's after the other's.
+pub none-met : (words : List ℕ) → Met words 0 (replicate maxSymbols false)
+none-met words =
+    record { long = length-replicate {A = Bool} maxSymbols false; left = λ q l. absurd (omega arith); no-other = λ a m. absurd (unmarked-at maxSymbols a m) }
+
+pub more-met : (words : List ℕ) (marks : List Bool) (r a : ℕ) → Met words r marks → a ≡ leftIn words r → a < maxSymbols → Met words (r + 1) (set marks a true)
+more-met words marks r a h e l = record {
+  long = length-set marks a true ∙ h .long;
+  left = below-more _ _ (λ q m. mark-kept marks a (leftIn words q) (h .left q m) (omega (arith, h .long)))
+      (subst (λ (x : ℕ). Marked (set marks a true) x) e (mark-new marks a (omega (arith, h .long))));
+  no-other = λ b m. ⊎-elim (λ (is : b ≡ a). record { rule = r; below = omega arith; is = sym e ∙ sym is }) (λ (o : Marked marks b). older b (h .no-other b o)) (mark-old marks a b m);
+}
+  where
+    older : (b : ℕ) → LeftBelow words r b → LeftBelow words (r + 1) b
+    older b old = record { rule = old .rule; below = omega (arith, old .below); is = old .is }
 
 -- All from `from` on are marked, one after the other.
 pub none-marked : (marks : List Bool) (from : ℕ) → AllMarked marks from from

@@ -3,9 +3,11 @@ ghost use mathlib.Core.Path.{_≡_};
 ghost use Prim.Native.Nat.{_+_, _≤_, _<_};
 ghost use Rattle.laws.specs.Decides.{Decides};
 ghost use Rattle.grammar.specs.Accepted.{maxRules, maxSymbols};
-ghost use Rattle.grammar.specs.inner.Checking.{Sized, Wraps, Drawn, Adjoins, Precedes, Ruled, FoundLeft};
+ghost use Rattle.grammar.specs.inner.Checking.{Sized, Wraps, Drawn, Adjoins, Precedes, Ruled, Met};
+ghost use Rattle.grammar.specs.inner.Decoded.{leftIn, firstIn};
 use crate::limits::RULES;
 use crate::limits::SYMBOLS;
+use crate::marked::Marks;
 use crate::rules::NONE;
 use crate::rules::Rules;
 use crate::rules::first;
@@ -72,57 +74,45 @@ fn drawn(rules: &Rules, n: usize, t: usize, r: usize) -> bool
     c < n - 2
 }
 
-// The first rule below `end` with the left side `symbol`, or `end`.
-fn find_left(rules: &Rules, end: usize, symbol: usize) -> usize
-    requires { ⌜ end ≤ maxRules ⌝ }
-    ensures { λ r. ⌜ FoundLeft (now (rules .entry)) end symbol r ⌝ }
-{
-    let mut r = 0;
-    while r < end {
-        if left(rules, r) == symbol {
-            return r;
-        }
-        r += 1;
-    }
-    r
-}
-
-// Whether rule `r` goes on its left side's block or begins it.
-fn adjoins(rules: &Rules, r: usize) -> bool
-    requires { ⌜ (0 < r) × (r < maxRules) ⌝ }
+// Whether rule `r` goes on its left side's block or begins it. The left sides of the rules below it are marked.
+fn adjoins(rules: &Rules, met: &Marks, r: usize) -> bool
+    requires { ⌜ (0 < r) × (r < maxRules) × (leftIn (now rules) r < maxSymbols) × Met (now rules) r (now met) ⌝ }
     ensures { λ s. ⌜ Decides s (Adjoins (now (rules .entry)) r) ⌝ }
 {
     let a = left(rules, r);
     if left(rules, r - 1) == a {
         return true;
     }
-    r <= find_left(rules, r, a)
+    !met[a]
 }
 
-// Whether no rule of B stands up to rule `r`, where that is A ::= B alone.
-fn precedes(rules: &Rules, r: usize) -> bool
-    requires { ⌜ r < maxRules ⌝ }
+// Whether no rule of B stands up to rule `r`, where that is A ::= B alone. The left sides of the rules up to it are marked.
+fn precedes(rules: &Rules, met: &Marks, r: usize) -> bool
+    requires { ⌜ (r < maxRules) × (firstIn (now rules) r < maxSymbols) × Met (now rules) (r + 1) (now met) ⌝ }
     ensures { λ s. ⌜ Decides s (Precedes (now (rules .entry)) r) ⌝ }
 {
     if second(rules, r) != NONE {
         return true;
     }
-    r < find_left(rules, r + 1, first(rules, r))
+    !met[first(rules, r)]
 }
 
-// Whether every rule but rule 0 is so.
+// Whether every rule but rule 0 is so. Left sides are marked as they are met.
 pub fn ruled(rules: &Rules, n: usize, t: usize, count: usize) -> bool
-    requires { ⌜ (t + 3 ≤ n) × (count ≤ maxRules) ⌝ }
+    requires { ⌜ (t + 3 ≤ n) × (n ≤ maxSymbols) × (count ≤ maxRules) × (leftIn (now rules) 0 < maxSymbols) ⌝ }
     ensures { λ r. ⌜ Decides r (Ruled (now (rules .entry)) n t count) ⌝ }
 {
+    let mut met = [false; SYMBOLS];
+    met[left(rules, 0)] = true;
     for r in 1..count {
         if !drawn(rules, n, t, r) {
             return false;
         }
-        if !adjoins(rules, r) {
+        if !adjoins(rules, &met, r) {
             return false;
         }
-        if !precedes(rules, r) {
+        met[left(rules, r)] = true;
+        if !precedes(rules, &met, r) {
             return false;
         }
     }

@@ -5,6 +5,7 @@ ghost use Rattle.grammar.specs.Answers.{Verdict, numberOf};
 ghost use Rattle.grammar.specs.inner.Checking.{Sized};
 ghost use Rattle.grammar.specs.inner.Decoded.{grammarIn, Decodes};
 
+pub mod chains;
 mod conditions;
 pub mod file;
 pub mod limits;
@@ -14,6 +15,7 @@ mod productive;
 mod reachable;
 pub mod rules;
 
+use crate::chains::link;
 use crate::conditions::ruled;
 use crate::conditions::sized;
 use crate::conditions::wraps;
@@ -55,7 +57,7 @@ fn accepted(rules: &Rules, n: usize, t: usize, count: usize) -> bool
     all_reachable(rules, n, t, count)
 }
 
-// The check of any bytes. The rules of an accepted file are left in `rules`, so that no call decodes its file again.
+// The check of any bytes. The rules of an accepted file are left in `rules`, linked, so that no call decodes its file again.
 pub fn read(file: &[u8], rules: &mut Rules) -> Checked
     ensures verdict { λ r. ⌜ Verdict (now (file .entry)) (numberOf r) ⌝ }
     ensures decoded { λ r. ⌜ Decodes (now (file .entry)) (numberOf r) (now (rules .entry)) (now (rules .exit)) ⌝ }
@@ -72,6 +74,7 @@ pub fn read(file: &[u8], rules: &mut Rules) -> Checked
     let found = decode(file);
     if accepted(&found, n, t, count) {
         *rules = found;
+        link(rules, count);
         return Checked::Accepted;
     }
     Checked::Broken

@@ -5,7 +5,7 @@ ghost use lib.ListN.{length};
 ghost use Rattle.grammar.specs.Accepted.{maxRules};
 ghost use Rattle.grammar.specs.File.{headerBytes, ruleBytes, ruleCountOf};
 ghost use Rattle.grammar.specs.inner.Checking.{Last};
-ghost use Rattle.grammar.specs.inner.Decoded.{leftIn, firstIn, secondIn, HoldsRules};
+ghost use Rattle.grammar.specs.inner.Decoded.{leftIn, firstIn, secondIn, DecodedRules};
 use crate::file::HEADER;
 use crate::file::RULE;
 use crate::file::rule_count;
@@ -16,7 +16,7 @@ use crate::limits::WORDS;
 // What stands for the second symbol of a rule that has one symbol.
 pub const NONE: usize = 65535;
 
-// The decoded rules.
+// The decoded rules, and behind them their chains.
 pub type Rules = [u16; WORDS];
 
 // A word as a number to compute with.
@@ -66,7 +66,7 @@ pub fn last(rules: &Rules, r: usize) -> usize
 pub fn decode(file: &[u8]) -> Rules
     requires { ⌜ (headerBytes + ruleBytes * ruleCountOf (now file) ≤ length (now file))
         × (ruleCountOf (now file) ≤ maxRules) ⌝ }
-    ensures { λ r. ⌜ HoldsRules (now (file .entry)) r ⌝ }
+    ensures { λ r. ⌜ DecodedRules (now (file .entry)) r ⌝ }
 {
     let mut rules = [0; WORDS];
     let count = rule_count(file);

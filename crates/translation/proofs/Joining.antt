@@ -2,14 +2,14 @@
 use mathlib.Core.Path.{_≡_, refl, sym, ap, ap₂, subst, _∙_}
 use mathlib.Core.Bool.{Bool, _&&_}
 use mathlib.Core.List.{List, [], _∷_, _++_}
-use Prim.Native.Nat.{ℕ, suc, _+_, _-_, _*_, _≤_, _<_}
+use Prim.Native.Nat.{ℕ, suc, _+_, _-_, _≤_, _<_}
 use native.Mathlib.Numerals.{add-one}
 use native.Mathlib.Omega.{arith}
 use lib.ListN.{length, getD, take, drop}
 use lib.Seq.{drop-cons, drop-length, getD-take, length-take-le}
 use Rattle.grammar.specs.Rules.{Rule, none}
 use Rattle.grammar.specs.Accepted.{maxRules}
-use Rattle.grammar.specs.inner.Decoded.{ruleWords, rulesBehind}
+use Rattle.grammar.specs.inner.Decoded.{allWords, rulesBehind}
 use Rattle.written.specs.Written.{WrittenRule}
 use Rattle.written.specs.Form.{ruleAt, rulesAt, leftAt, rightAt, behind, longest, writtenHeader, countIn, writtenOf, RuleStands, RulesStand, Formed}
 use Rattle.written.specs.Split.{rule, pair, joined, split}
@@ -22,16 +22,16 @@ use Rattle.translation.proofs.Placing.{new-first}
 
 -- Listing has come to `words`: whatever lists the rest there lists `total` from the beginning.
 pub record Onward (before : List ℕ) (n : ℕ) (total : List Rule) (words : List ℕ) (m : ℕ) (rest : List Rule) : Type 0 where
-  pub long : length words ≡ ruleWords * maxRules
+  pub long : length words ≡ allWords
   pub few : m ≤ maxRules
   pub onward : (after : List ℕ) (k : ℕ) → Lists words m after k rest → Lists before n after k total
 
-pub onward-begins : (before : List ℕ) (n : ℕ) (total rest : List Rule) → total ≡ rest → length before ≡ ruleWords * maxRules → n ≤ maxRules → Onward before n total before n rest
+pub onward-begins : (before : List ℕ) (n : ℕ) (total rest : List Rule) → total ≡ rest → length before ≡ allWords → n ≤ maxRules → Onward before n total before n rest
 onward-begins before n total rest e l f = record { long = l; few = f; onward = λ after k p. subst (Lists before n after k) (sym e) p }
 
 -- Some rules further.
 pub onward-on : {before words after : List ℕ} {n m k : ℕ} {total : List Rule} (rest x y : List Rule) → rest ≡ x ++ y → Onward before n total words m rest → Lists words m after k x
-    → (length after ≡ ruleWords * maxRules) × (k ≤ maxRules) → Onward before n total after k y
+    → (length after ≡ allWords) × (k ≤ maxRules) → Onward before n total after k y
 onward-on {words = words} {m = m} rest x y e o p l =
     record { long = l .0; few = l .1; onward = λ w j q. o .onward w j (subst (Lists words m w j) (sym e) (lists-on x y p q)) }
 
@@ -103,7 +103,7 @@ module _ (new : ℕ → ℕ) (empty : ℕ → Bool) (a : ℕ) (held : List ℕ) 
   count-is : k ≤ length held → length (take k held) ≡ k
   count-is h = length-take-le k held h
 
-  pub joining-begins : (x head : ℕ) (e : Bool) → k ≤ length held → 1 < k → x ≡ getD held 0 0 → head ≡ new x → head < 65536 → e ≡ empty x → length before ≡ ruleWords * maxRules → count ≤ maxRules
+  pub joining-begins : (x head : ℕ) (e : Bool) → k ≤ length held → 1 < k → x ≡ getD held 0 0 → head ≡ new x → head < 65536 → e ≡ empty x → length before ≡ allWords → count ≤ maxRules
       → Joining before head e from count 1
   joining-begins x head e h m is eh low ee l f =
       let two : 1 < length (take k held) = let c = count-is h in omega arith in
@@ -121,7 +121,7 @@ module _ (new : ℕ → ℕ) (empty : ℕ → Bool) (a : ℕ) (held : List ℕ) 
 
   module _ (words : List ℕ) (head : ℕ) (e : Bool) (fresh n i x : ℕ) (is : x ≡ getD held i 0) (j : Joining words head e fresh n i) (y : ℕ) (t : Bool) (ey : y ≡ new x) (et : t ≡ empty x) where
     -- A place more.
-    joined-on : {after : List ℕ} {m : ℕ} → i + 1 < k → fresh < 65536 → Lists words n after m (pair fresh head y e t) → (length after ≡ ruleWords * maxRules) × (m ≤ maxRules)
+    joined-on : {after : List ℕ} {m : ℕ} → i + 1 < k → fresh < 65536 → Lists words n after m (pair fresh head y e t) → (length after ≡ allWords) × (m ≤ maxRules)
         → Joining after fresh (e && t) (fresh + 1) m (i + 1)
     joined-on h low p l =
         let at = place-at i x (j .inside) is in
@@ -140,7 +140,7 @@ module _ (new : ℕ → ℕ) (empty : ℕ → Bool) (a : ℕ) (held : List ℕ) 
         }
 
     pub joining-on : {after : List ℕ} {m : ℕ} {both : Bool} → i + 1 < k → fresh < 65536 → both ≡ (e && t) → Lists words n after m (pair fresh head y e t)
-        → (length after ≡ ruleWords * maxRules) × (m ≤ maxRules) → Joining after fresh both (fresh + 1) m (i + 1)
+        → (length after ≡ allWords) × (m ≤ maxRules) → Joining after fresh both (fresh + 1) m (i + 1)
     joining-on {after} {m} h low eb p l = subst (λ (s : Bool). Joining after fresh s (fresh + 1) m (i + 1)) (sym eb) (joined-on h low p l)
 
     -- The last place.
@@ -159,7 +159,7 @@ module _ (keep empty : ℕ → Bool) (bytes : List ℕ) (before : List ℕ) (fro
     pub low : fresh + allNew keep (rulesAt bytes at left) ≤ 512
     pub rest : Onward before 0 (splits keep empty (writtenOf bytes .rules) from) words n (splits keep empty (rulesAt bytes at left) fresh)
 
-  pub parting-begins : (left : ℕ) → Formed bytes → left ≡ countIn bytes → from + allNew keep (writtenOf bytes .rules) ≤ 512 → length before ≡ ruleWords * maxRules
+  pub parting-begins : (left : ℕ) → Formed bytes → left ≡ countIn bytes → from + allNew keep (writtenOf bytes .rules) ≤ 512 → length before ≡ allWords
       → Parting before writtenHeader left from 0
   parting-begins left f e low l = record {
     stand = subst (RulesStand bytes writtenHeader) (sym e) (f .rules);
@@ -193,7 +193,7 @@ module _ (keep empty : ℕ → Bool) (bytes : List ℕ) (before : List ℕ) (fro
     -- A rule more.
     pub parting-on : (there a k new : ℕ) (room : List ℕ) {after : List ℕ} {m : ℕ} → 0 < left → there ≡ behind bytes at → a ≡ number keep (leftAt bytes at)
         → take k room ≡ places keep (rightAt bytes at) → k ≤ longest → length room ≡ longest → new ≡ k - 2
-        → Lists words n after m (split (number keep) empty a (take k room) fresh) → (length after ≡ ruleWords * maxRules) × (m ≤ maxRules)
+        → Lists words n after m (split (number keep) empty a (take k room) fresh) → (length after ≡ allWords) × (m ≤ maxRules)
         → Parting after there (left - 1) (fresh + new) m
     parting-on there a k new room {after} {m} h e ea el f lr en q l =
         let count : length (take k room) ≡ k = length-take-le k room (omega arith) in

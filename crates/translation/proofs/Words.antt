@@ -12,7 +12,7 @@ use borrow.Author.Tests.{eq-eqb, ne-eqb}
 use Rattle.laws.proofs.Decides.{true-false, false-true}
 use Rattle.grammar.specs.Rules.{Rule, none}
 use Rattle.grammar.specs.Accepted.{maxRules}
-use Rattle.grammar.specs.inner.Decoded.{ruleWords, rulesBehind, rulesIn}
+use Rattle.grammar.specs.inner.Decoded.{allWords, ruleWords, rulesBehind, rulesIn}
 use Rattle.written.specs.Split.{rule, given, pair}
 use Rattle.written.specs.Translation.{equal, hasRule, adding, listing}
 use Rattle.written.proofs.Listing.{adding-there, adding-new, listing-grows, listing-append, rules-parts, or-first}
@@ -79,7 +79,7 @@ behind-last words r (suc k) =
     let e : r + 1 + k ≡ r + suc k = omega arith in
     ap (λ (l : List Rule). ruleIn words r ∷ l) (behind-last words (r + 1) k ∙ ap (λ (n : ℕ). rulesBehind words (r + 1) k ++ ruleIn words n ∷ []) e)
 
-module _ (words : List ℕ) (n a b c : ℕ) (room : n < maxRules) (long : length words ≡ ruleWords * maxRules) where
+module _ (words : List ℕ) (n a b c : ℕ) (room : n < maxRules) (long : length words ≡ allWords) where
   abbrev stored : List ℕ
   stored = set (set (set words (ruleWords * n) a) (ruleWords * n + 1) b) (ruleWords * n + 2) c
 
@@ -112,7 +112,7 @@ module _ (words : List ℕ) (n a b c : ℕ) (room : n < maxRules) (long : length
       ap (rulesIn stored) (add-one n) ∙ behind-last stored 0 n
       ∙ ap₂ (λ (l : List Rule) (q : Rule). l ++ q ∷ []) (behind-same 0 n (omega arith)) (ap (ruleIn stored) e ∙ stored-rule)
 
-  stored-long : length stored ≡ ruleWords * maxRules
+  stored-long : length stored ≡ allWords
   stored-long = simp length-set long
 
   -- A rule that the list does not have, stored behind it.
@@ -126,7 +126,7 @@ module _ (words : List ℕ) (n a b c : ℕ) (room : n < maxRules) (long : length
       more list (full f l) = absurd (omega arith)
 
   pub lists-stored : n + 1 < maxRules → false ≡ hasRule (rulesIn words n) (rule a b c)
-      → Lists words n stored (n + 1) (rule a b c ∷ []) × ((length stored ≡ ruleWords * maxRules) × (n + 1 ≤ maxRules))
+      → Lists words n stored (n + 1) (rule a b c ∷ []) × ((length stored ≡ allWords) × (n + 1 ≤ maxRules))
   lists-stored h e = (lists-new h e, (stored-long, omega arith))
 
 -- No room for another: the number says so from then on.

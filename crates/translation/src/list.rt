@@ -4,7 +4,7 @@ ghost use mathlib.Core.List.{[], _∷_};
 ghost use Prim.Native.Nat.{_+_, _*_, _≤_, _<_};
 ghost use lib.ListN.{length as lengthOf};
 ghost use Rattle.grammar.specs.Accepted.{maxRules};
-ghost use Rattle.grammar.specs.inner.Decoded.{ruleWords, rulesIn};
+ghost use Rattle.grammar.specs.inner.Decoded.{allWords, rulesIn};
 ghost use Rattle.written.specs.Split as spec;
 ghost use Rattle.written.specs.Translation.{equal, hasRule};
 ghost use Rattle.translation.specs.inner.Lists.{ruleIn, Lists};
@@ -45,9 +45,9 @@ fn has_rule(rules: &Rules, count: usize, a: usize, b: usize, c: usize) -> bool
 
 // The list with one rule more, unless it has it. How many there are; 2,048 where there is no room.
 pub fn add(rules: &mut Rules, count: usize, a: usize, b: usize, c: usize) -> usize
-    requires { ⌜ (lengthOf (now rules) ≡ ruleWords * maxRules) × (count ≤ maxRules) × (a < 65536) × (b < 65536) × (c < 65536) ⌝ }
+    requires { ⌜ (lengthOf (now rules) ≡ allWords) × (count ≤ maxRules) × (a < 65536) × (b < 65536) × (c < 65536) ⌝ }
     ensures listed { λ r. ⌜ Lists (now (rules .entry)) count (now (rules .exit)) r (spec.rule a b c ∷ []) ⌝ }
-    ensures long { λ r. ⌜ (lengthOf (now (rules .exit)) ≡ ruleWords * maxRules) × (r ≤ maxRules) ⌝ }
+    ensures long { λ r. ⌜ (lengthOf (now (rules .exit)) ≡ allWords) × (r ≤ maxRules) ⌝ }
 {
     if RULES <= count {
         return count;
@@ -66,9 +66,9 @@ pub fn add(rules: &mut Rules, count: usize, a: usize, b: usize, c: usize) -> usi
 
 // The same where `yes` says so.
 fn add_if(rules: &mut Rules, count: usize, yes: bool, a: usize, b: usize, c: usize) -> usize
-    requires { ⌜ (lengthOf (now rules) ≡ ruleWords * maxRules) × (count ≤ maxRules) × (a < 65536) × (b < 65536) × (c < 65536) ⌝ }
+    requires { ⌜ (lengthOf (now rules) ≡ allWords) × (count ≤ maxRules) × (a < 65536) × (b < 65536) × (c < 65536) ⌝ }
     ensures listed { λ r. ⌜ Lists (now (rules .entry)) count (now (rules .exit)) r (spec.given yes (spec.rule a b c ∷ [])) ⌝ }
-    ensures long { λ r. ⌜ (lengthOf (now (rules .exit)) ≡ ruleWords * maxRules) × (r ≤ maxRules) ⌝ }
+    ensures long { λ r. ⌜ (lengthOf (now (rules .exit)) ≡ allWords) × (r ≤ maxRules) ⌝ }
 {
     if !yes {
         return count;
@@ -86,9 +86,9 @@ pub fn pair(
     b_empty: bool,
     c_empty: bool,
 ) -> usize
-    requires { ⌜ (lengthOf (now rules) ≡ ruleWords * maxRules) × (count ≤ maxRules) × (a < 65536) × (b < 65536) × (c < 65536) ⌝ }
+    requires { ⌜ (lengthOf (now rules) ≡ allWords) × (count ≤ maxRules) × (a < 65536) × (b < 65536) × (c < 65536) ⌝ }
     ensures listed { λ r. ⌜ Lists (now (rules .entry)) count (now (rules .exit)) r (spec.pair a b c «b_empty» «c_empty») ⌝ }
-    ensures long { λ r. ⌜ (lengthOf (now (rules .exit)) ≡ ruleWords * maxRules) × (r ≤ maxRules) ⌝ }
+    ensures long { λ r. ⌜ (lengthOf (now (rules .exit)) ≡ allWords) × (r ≤ maxRules) ⌝ }
 {
     let one = add(rules, count, a, b, c);
     let two = add_if(rules, one, c_empty, a, b, NONE);

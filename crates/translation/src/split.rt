@@ -2,10 +2,10 @@
 ghost use mathlib.Core.Path.{_≡_};
 ghost use mathlib.Core.Bool.{_&&_};
 ghost use mathlib.Core.List.{[]};
-ghost use Prim.Native.Nat.{_+_, _*_, _≤_, _<_};
+ghost use Prim.Native.Nat.{_+_, _≤_, _<_};
 ghost use lib.ListN.{length as lengthOf, take};
 ghost use Rattle.grammar.specs.Accepted.{maxRules};
-ghost use Rattle.grammar.specs.inner.Decoded.{ruleWords};
+ghost use Rattle.grammar.specs.inner.Decoded.{allWords};
 ghost use Rattle.written.specs.Form as form;
 ghost use Rattle.written.specs.Split as spec;
 ghost use Rattle.written.specs.Translation as translation;
@@ -48,10 +48,10 @@ fn join(
     k: usize,
     from: usize,
 ) -> usize
-    requires { ⌜ (lengthOf (now rules) ≡ ruleWords * maxRules) × (count ≤ maxRules) × (a < 65536) × (2 ≤ k) × (k ≤ form.longest) × (from + k < 65536) × (lengthOf (now held) ≡ form.longest) ⌝ }
+    requires { ⌜ (lengthOf (now rules) ≡ allWords) × (count ≤ maxRules) × (a < 65536) × (2 ≤ k) × (k ≤ form.longest) × (from + k < 65536) × (lengthOf (now held) ≡ form.longest) ⌝ }
     ensures listed { λ r. ⌜ Lists (now (rules .entry)) count (now (rules .exit)) r
         (spec.split (translation.number (marked (now (keep .entry)))) (marked (now (empty .entry))) a (take k (now (held .entry))) from) ⌝ }
-    ensures long { λ r. ⌜ (lengthOf (now (rules .exit)) ≡ ruleWords * maxRules) × (r ≤ maxRules) ⌝ }
+    ensures long { λ r. ⌜ (lengthOf (now (rules .exit)) ≡ allWords) × (r ≤ maxRules) ⌝ }
 {
     let first = wide(held[0]);
     let mut head = number(keep, first);
@@ -91,10 +91,10 @@ fn split(
     k: usize,
     from: usize,
 ) -> usize
-    requires { ⌜ (lengthOf (now rules) ≡ ruleWords * maxRules) × (count ≤ maxRules) × (a < 65536) × (k ≤ form.longest) × (from + k < 65536) × (lengthOf (now held) ≡ form.longest) ⌝ }
+    requires { ⌜ (lengthOf (now rules) ≡ allWords) × (count ≤ maxRules) × (a < 65536) × (k ≤ form.longest) × (from + k < 65536) × (lengthOf (now held) ≡ form.longest) ⌝ }
     ensures listed { λ r. ⌜ Lists (now (rules .entry)) count (now (rules .exit)) r
         (spec.split (translation.number (marked (now (keep .entry)))) (marked (now (empty .entry))) a (take k (now (held .entry))) from) ⌝ }
-    ensures long { λ r. ⌜ (lengthOf (now (rules .exit)) ≡ ruleWords * maxRules) × (r ≤ maxRules) ⌝ }
+    ensures long { λ r. ⌜ (lengthOf (now (rules .exit)) ≡ allWords) × (r ≤ maxRules) ⌝ }
 {
     if k == 0 {
         return count;
@@ -107,10 +107,10 @@ fn split(
 
 // The list of rules, where new symbols are numbered from `from` on. How many there are; 2,048 where there are too many.
 pub fn list(written: &[u8], keep: &Marks, empty: &Marks, rules: &mut Rules, from: usize) -> usize
-    requires { ⌜ form.Formed (now written) × (lengthOf (now rules) ≡ ruleWords * maxRules)
+    requires { ⌜ form.Formed (now written) × (lengthOf (now rules) ≡ allWords)
         × (from + translation.allNew (marked (now keep)) (form.writtenOf (now written) .rules) ≤ 512) ⌝ }
     ensures { λ r. ⌜ Listed (now (rules .exit)) r (translation.listing [] (translation.splits (marked (now (keep .entry))) (marked (now (empty .entry)))
-        (form.writtenOf (now (written .entry)) .rules) from)) × (lengthOf (now (rules .exit)) ≡ ruleWords * maxRules) × (r ≤ maxRules) ⌝ }
+        (form.writtenOf (now (written .entry)) .rules) from)) × (lengthOf (now (rules .exit)) ≡ allWords) × (r ≤ maxRules) ⌝ }
 {
     let mut room = [0; LONGEST];
     let mut at = HEADER;

@@ -2,6 +2,7 @@
 use borrow.Author.Tests.{not-true, not-false}
 use Rattle.laws.proofs.Decides.{says-no, decides-map}
 use Rattle.grammar.proofs.Judging.{accepted-wraps, accepted-ruled, accepted-distinct, accepted-productive, accepted-reachable, low, judged}
+use native.Mathlib.Omega.{arith}
 use borrow.Author.Needs.{needs}
 use Rattle.grammar.proofs.accepted.Statement.{statement}
 use Rattle.grammar.proofs.accepted.Tie as tie
@@ -13,7 +14,10 @@ returns : tie.Need-returns
 returns c = says-no (λ h. c .before .wraps .ensures .if-no (not-true _ (c .if1 .taken)) (accepted-wraps _ _ _ _ (c .before .before .pre) h))
 
 ruled-requires : tie.Need-ruled-requires
-ruled-requires c κs = search needs
+ruled-requires c κs =
+    let required = c .before .before .pre in
+    let wrapped = c .before .wraps .ensures .if-yes (not-false _ (c .if1 .left)) in
+    (required .room, required .few-symbols, required .few-rules, omega (arith, wrapped .left, required .few-symbols, required .room))
 
 returns-2 : tie.Need-returns-2
 returns-2 c =

@@ -1,6 +1,7 @@
 -- `grammar::read` meets its contract. One verdict a return.
 use borrow.Author.Tests.{not-true, not-false}
-use Rattle.grammar.proofs.Judging.{formed}
+use Rattle.grammar.proofs.Judging.{formed, accepted-low}
+use Rattle.grammar.proofs.Decoding.{linked-holds}
 use Rattle.grammar.specs.Accepted.{Accepted}
 use Rattle.grammar.proofs.Verdicts.{verdict-one, verdict-two, verdict-zero, readable, not-sized, read-grammar}
 use mathlib.Core.Path.{refl, subst, subst⁻¹}
@@ -51,18 +52,33 @@ decode-requires c κs =
 accepted-requires : tie.Need-accepted-requires
 accepted-requires c κs = c .before .before .before .sized .ensures .if-yes (not-false _ (c .before .before .if2 .left))
 
+link-requires : tie.Need-link-requires
+link-requires c κs =
+    let sizes-tested = c .before .before .before .before .before .before .sized .ensures .if-yes (not-false _ (c .before .before .before .before .before .if2 .left)) in
+    let rules-counted = c .before .before .before .before .before .before .before .rule-count in
+    let decoded = c .before .before .before .before .decode in (
+      sizes-tested .few-rules,
+      accepted-low _ _ _ _ (c .before .before .accepted .ensures .if-yes (c .before .if3 .taken)),
+      decoded .ensures .long,
+      λ i behind. decoded .ensures .rest i (omega (arith, sizes-tested .few-rules, rules-counted .ensures .0)),
+    )
+
 returns-3 : tie.Need-returns-3
 returns-3 c =
-    let form-checked = c .before .before .before .before .before .before .before .before .before .before .malformed in
-    let form-tested = c .before .before .before .before .before .before .before .before .before .if1 in
-    let symbols-read = c .before .before .before .before .before .before .before .before .symbols in
-    let tokens-read = c .before .before .before .before .before .before .before .tokens in
-    let rules-counted = c .before .before .before .before .before .before .rule-count in
-    let decoded = c .before .before .before .decode in (
+    let form-checked = c .before .before .before .before .before .before .before .before .before .before .before .before .malformed in
+    let form-tested = c .before .before .before .before .before .before .before .before .before .before .before .if1 in
+    let symbols-read = c .before .before .before .before .before .before .before .before .before .before .symbols in
+    let tokens-read = c .before .before .before .before .before .before .before .before .before .tokens in
+    let rules-counted = c .before .before .before .before .before .before .before .before .rule-count in
+    let few = c .before .before .before .before .before .before .before .sized .ensures .if-yes (not-false _ (c .before .before .before .before .before .before .if2 .left)) .few-rules in
+    let decoded = c .before .before .before .before .before .decode in (
       verdict-zero _ (form-checked .ensures .if-no (form-tested .left))
           (subst Accepted (read-grammar _ _ _ _ _ (record { symbols = symbols-read .ensures .0; tokens = tokens-read .ensures .0; rules = rules-counted .ensures .0 })
-          (decoded .ensures .rules)) (c .before .accepted .ensures .if-yes (c .if3 .taken))),
-      record { accepted = λ zero. decoded .ensures; refused = λ other. absurd (other refl) },
+          (decoded .ensures .rules)) (c .before .before .before .accepted .ensures .if-yes (c .before .before .if3 .taken))),
+      record {
+        accepted = λ zero. linked-holds _ _ _ _ (omega (arith, few, rules-counted .ensures .0)) (rules-counted .ensures .0) (decoded .ensures) (c .link .ensures);
+        refused = λ other. absurd (other refl);
+      },
     )
 
 returns-4 : tie.Need-returns-4
@@ -93,5 +109,6 @@ read-spec =
     returns-2
     decode-requires
     accepted-requires
+    link-requires
     returns-3
     returns-4)

@@ -60,12 +60,6 @@ pub record EqualPair (words : List ℕ) (count : ℕ) : Type 0 where
   pub there : higher < count
   pub same : Same words lower higher
 
--- The first place below `end` whose rule has the left side `a`, or `end`.
-pub record FoundLeft (words : List ℕ) (end a r : ℕ) : Type 0 where
-  pub within : r ≤ end
-  pub none-before : (q : ℕ) → q < r → leftIn words q ≡ a → ⊥
-  pub found : r < end → leftIn words r ≡ a
-
 -- Every symbol of the first `count` rules is below the limit.
 pub record LowSymbols (words : List ℕ) (count : ℕ) : Type 0 where
   pub left : (r : ℕ) → r < count → leftIn words r < maxSymbols
@@ -83,6 +77,18 @@ pub record AllReachable (g : Grammar) : Type 0 where
 -- `a` is marked.
 abbrev pub Marked : List Bool → ℕ → Type 0
 Marked marks a = getD marks a false ≡ true
+
+-- Some rule below rule `r` has the left side `a`.
+pub record LeftBelow (words : List ℕ) (r a : ℕ) : Type 0 where
+  pub rule : ℕ
+  pub below : rule < r
+  pub is : leftIn words rule ≡ a
+
+-- The left sides of the rules below rule `r` are marked, and nothing else.
+pub record Met (words : List ℕ) (r : ℕ) (marks : List Bool) : Type 0 where
+  pub long : length marks ≡ maxSymbols
+  pub left : (q : ℕ) → q < r → Marked marks (leftIn words q)
+  pub no-other : (a : ℕ) → Marked marks a → LeftBelow words r a
 
 -- `a` is the last symbol on the right of rule `r`: the second, or the first where there is no second.
 pub record Last (words : List ℕ) (r a : ℕ) : Type 0 where

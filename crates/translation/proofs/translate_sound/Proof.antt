@@ -4,6 +4,7 @@ use native.Mathlib.Omega.{arith}
 use Rattle.written.specs.Translation.{number}
 use lib.ListN.{length-replicate}
 use Prim.Native.Nat.{ℕ}
+use Rattle.grammar.specs.inner.Decoded.{allWords}
 use Rattle.translation.proofs.Answering.{many-symbols, few-new, many-rules, few-bytes, tokens-below, all-written, done}
 use borrow.Author.Needs.{needs}
 use Rattle.translation.proofs.translate_sound.Statement.{statement}
@@ -33,7 +34,7 @@ list-requires : tie.Need-list-requires
 list-requires c κs =
     let required = c .before .before .before .before .before .before .before .pre in (
       required .0,
-      length-replicate {A = ℕ} 6144 0,
+      length-replicate {A = ℕ} allWords 0,
       few-new _ (required .0) (required .2) _ _ (required .3) (required .4) (c .before .before .before .before .before .before .before .args .file .now) _ _ (c .before .before .before .number .ensures .0 ∙ ap (number _) (c .before .before .before .before .end .ensures .0)) (c .before .before .count-new .ensures .0) (c .before .if1 .left),
     )
 
