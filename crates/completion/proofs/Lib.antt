@@ -13,6 +13,7 @@ pub mod Through
 pub mod Charting
 pub mod Heaped
 pub mod Pending
+pub mod Counting
 pub mod Scanning
 pub mod Remaining
 pub mod Once

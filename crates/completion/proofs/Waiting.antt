@@ -2,17 +2,17 @@
 use mathlib.Core.Path.{_≡_, refl, sym, ap, _∙_, subst}
 use mathlib.Core.Bool.{Bool, true, false, _&&_, not}
 use mathlib.Core.List.{List}
-use Prim.Native.Nat.{ℕ, _/_, _<_}
-use native.Mathlib.Decide.{decLt}
+use Prim.Native.Nat.{ℕ, _+_, _-_, _/_, _<_}
+use native.Mathlib.Decide.{decLt, ℕ-discrete}
 use native.Mathlib.Omega.{arith}
 use lib.ListN.{length, getD}
 use lib.Dec.{eqb}
 use borrow.Author.Tests.{eq-eqb, ne-eqb}
 use Rattle.laws.specs.Turns.{over}
-use Rattle.laws.proofs.Turns.{over-keeps}
+use Rattle.laws.proofs.Turns.{over-keeps, over-next, over-none, over-split, over-still}
 use Rattle.item.specs.Item.{itemWords}
 use Rattle.grammar.specs.Rules.{Rule, none, noRule}
-use Rattle.grammar.specs.inner.Decoded.{leftIn, firstIn, secondIn, rulesIn}
+use Rattle.grammar.specs.inner.Decoded.{leftIn, firstIn, secondIn, rulesIn, FirstFrom}
 use Rattle.grammar.proofs.Decoding.{in-count, in-rule}
 use Rattle.node.specs.Rows.{allOnes}
 use Rattle.completion.specs.Pass.{Pass, andThen, store, enqueue}
@@ -131,6 +131,46 @@ module _ (rs : List Rule) (rows : List ℕ) (k x link r : ℕ) (s : Pass) (sound
       by-fit : (b : Bool) → PassFits (elim b [ true ↦ store k r link s | false ↦ s ])
       by-fit true = store-sound k r link s sound
       by-fit false = sound
+
+-- A rule that begins with another symbol is passed over, whatever the pass.
+module _ (words : List ℕ) (count : ℕ) (rows : List ℕ) (k x link r : ℕ) (s : Pass) (there : r < count) (differs : firstIn words r ≡ x → ⊥) where
+  passes : false ≡ waits (rulesIn words count) rows k x r
+  passes = waits-other (rulesIn words count) rows k x r (firstIn words r) (rule-first words count r there) differs
+
+  pub unary-other : completeUnary (rulesIn words count) rows k x link r s ≡ s
+  unary-other =
+      elim (ℕ-discrete (s .at .stopped) 0) [
+        | yes on ↦ unary-passed (rulesIn words count) rows k x r link s on passes
+        | no stopped ↦ unary-stopped (rulesIn words count) rows k x r link s stopped
+      ]
+
+  pub binary-other : completeBinary (rulesIn words count) rows k x link r s ≡ s
+  binary-other =
+      elim (ℕ-discrete (s .at .stopped) 0) [
+        | yes on ↦ binary-passed (rulesIn words count) rows k x r link s on passes
+        | no stopped ↦ binary-stopped (rulesIn words count) rows k x r link s stopped
+      ]
+
+-- Where rules that begin with another symbol are passed over, a walk along a chain does what a walk over all rules does.
+module _ (words : List ℕ) (count x : ℕ) (turn : ℕ → Pass → Pass)
+    (others : (r : ℕ) (s : Pass) → r < count → (firstIn words r ≡ x → ⊥) → turn r s ≡ s) where
+  pub walk-on : (from r : ℕ) (s : Pass) → FirstFrom words count from x r → over from turn s ≡ over r turn s
+  walk-on from r s first =
+      sym (
+      ap (λ (n : ℕ). over n turn s) (let all : r ≡ from + (r - from) = omega (arith, first .from-on) in all)
+      ∙ over-split from (r - from) turn s
+      ∙ over-still (λ (t : Pass). Unit {0}) (r - from) (λ i. turn (from + i))
+      (λ i t before known. others (from + i) t (omega (arith, first .up-to)) (first .none-before (from + i) (omega arith) (omega arith))) (over from turn s) tt)
+
+  -- It begins with the first rule of the symbol,
+  pub walk-begins : (r : ℕ) (s : Pass) → FirstFrom words count 0 x r → s ≡ over r turn s
+  walk-begins r s first = over-none turn s ∙ walk-on 0 r s first
+
+  -- and goes on with the next.
+  pub walk-next : (r next : ℕ) (start now then : Pass) → firstIn words r ≡ x → FirstFrom words count (r + 1) (firstIn words r) next → now ≡ over r turn start → then ≡ turn r now
+      → then ≡ over next turn start
+  walk-next r next start now then begins first before step =
+      over-next r turn start now then before step ∙ walk-on (r + 1) next start (subst (λ (y : ℕ). FirstFrom words count (r + 1) y next) begins first)
 
 -- Completing rule after rule keeps a pass sound.
 pub unaries-sound : (rs : List Rule) (rows : List ℕ) (k x link n : ℕ) (s : Pass) → PassFits s → PassFits (over n (completeUnary rs rows k x link) s)

@@ -9,7 +9,7 @@ ghost use mathlib.Core.Path.{_≡_};
 ghost use Prim.Native.Nat.{_*_, _<_};
 ghost use Rattle.laws.specs.Bits.{wordBits};
 ghost use Rattle.bits.specs.Width.{rowWords};
-ghost use Rattle.grammar.specs.inner.Decoded.{rulesIn};
+ghost use Rattle.grammar.specs.inner.Decoded.{rulesIn, Chained};
 ghost use Rattle.completion.specs.Pass.{passOf};
 ghost use Rattle.completion.specs.inner.Ready.{RulesFit, IsSet, Rowed, PassFits, Charted};
 ghost use Rattle.completion.specs.Complete.{complete};
@@ -37,7 +37,7 @@ pub fn complete(
     link: u32,
     at: Progress,
 ) -> Progress
-    requires { ⌜ RulesFit (rulesIn (now rules) count) × Rowed (now starts) (now rows) ⌝ }
+    requires { ⌜ RulesFit (rulesIn (now rules) count) × Rowed (now starts) (now rows) × Chained (now rules) count ⌝ }
     requires { ⌜ IsSet (now starts) k × (x < wordBits * rowWords) ⌝ }
     requires { ⌜ PassFits (passOf at (now items) (now queue)) × Charted (rulesIn (now rules) count) (now starts)
         (passOf at (now items) (now queue)) ⌝ }

@@ -1,11 +1,9 @@
 // Step 2 of a position: each of its kinds that is predicted gets its node and is completed with the latest set.
 ghost use mathlib.Core.Path.{_≡_};
-ghost use mathlib.Core.List.{List};
-ghost use Prim.Native.Nat.{ℕ, _*_, _<_};
-ghost use lib.ListN.{length, getD};
+ghost use Prim.Native.Nat.{_*_, _<_};
 ghost use Rattle.laws.specs.Bits.{wordBits};
 ghost use Rattle.bits.specs.Width.{rowWords};
-ghost use Rattle.grammar.specs.inner.Decoded.{rulesIn};
+ghost use Rattle.grammar.specs.inner.Decoded.{rulesIn, Chained};
 ghost use Rattle.completion.specs.Pass.{passOver};
 ghost use Rattle.completion.specs.Scan.{scan, scanAll};
 ghost use Rattle.completion.specs.inner.Ready.{RulesFit, IsSet, Rowed, PassFits, UnitsFit, Charted, KindsFit};
@@ -28,7 +26,7 @@ fn scan(
     kind: usize,
     at: Progress,
 ) -> Progress
-    requires { ⌜ RulesFit (rulesIn (now rules) count) × Rowed (now starts) (now rows) ⌝ }
+    requires { ⌜ RulesFit (rulesIn (now rules) count) × Rowed (now starts) (now rows) × Chained (now rules) count ⌝ }
     requires { ⌜ IsSet (now starts) e × (kind < wordBits * rowWords) ⌝ }
     requires { ⌜ PassFits (passOver at (now items) (now queue) (now store)) × UnitsFit (passOver at (now items) (now queue) (now store))
         × Charted (rulesIn (now rules) count) (now starts) (passOver at (now items) (now queue) (now store)) ⌝ }
@@ -68,7 +66,7 @@ pub fn scan_all(
     kinds: &[u16],
     at: Progress,
 ) -> Progress
-    requires { ⌜ RulesFit (rulesIn (now rules) count) × Rowed (now starts) (now rows) ⌝ }
+    requires { ⌜ RulesFit (rulesIn (now rules) count) × Rowed (now starts) (now rows) × Chained (now rules) count ⌝ }
     requires { ⌜ IsSet (now starts) e × KindsFit (now kinds) ⌝ }
     requires { ⌜ PassFits (passOver at (now items) (now queue) (now store)) × UnitsFit (passOver at (now items) (now queue) (now store))
         × Charted (rulesIn (now rules) count) (now starts) (passOver at (now items) (now queue) (now store)) ⌝ }

@@ -2,15 +2,14 @@
 // pair is completed.
 ghost use mathlib.Core.Path.{_≡_};
 ghost use Prim.Native.Nat.{_<_};
-ghost use Rattle.laws.specs.Counts.{once};
 ghost use Rattle.binary_heap.specs.Entry.{entriesIn};
 ghost use Rattle.binary_heap.specs.Sift.{entryAt};
-ghost use Rattle.grammar.specs.inner.Decoded.{rulesIn};
+ghost use Rattle.grammar.specs.inner.Decoded.{rulesIn, Chained};
 ghost use Rattle.item.specs.Item.{itemAt};
 ghost use Rattle.parse.specs.WellFormed.{leftOf};
 ghost use Rattle.completion.specs.Pass.{passOver, passOf};
-ghost use Rattle.completion.specs.inner.Ready.{RulesFit, Rowed, PassFits, UnitsFit, Charted, RulesRead};
-ghost use Rattle.completion.specs.inner.Pending.{Grounds, Pending};
+ghost use Rattle.completion.specs.inner.Ready.{PassFits, UnitsFit, RulesRead};
+ghost use Rattle.completion.specs.inner.Pending.{Grounds, Pending, Rooted};
 ghost use Rattle.completion.specs.Sums.{greatest, isOf, summands, productNode, sumEnds, nextSummand, popSum, completeSum, completeAllSums};
 use crate::Progress;
 use crate::complete;
@@ -21,6 +20,7 @@ use grammar::rules::Rules;
 use item::wide;
 use node::Node;
 use node::factor::long_right;
+use parse::room::least;
 
 // The origin of the greatest entry's item.
 fn greatest_origin(items: &[u32], queue: &[u32], at: Progress) -> usize
@@ -81,13 +81,8 @@ fn sum_ends(
     !is_of(rules, count, items, queue, k, x, at, 0)
 }
 
-fn once(yes: bool) -> u32
-    ensures { λ r. ⌜ r ≡ once yes ⌝ }
-{
-    if yes { 1 } else { 0 }
-}
-
-// How many entries of the queue are of origin `k` and left side `x`.
+// How many entries of the queue are of origin `k` and left side `x`. Each but the root has its parent among them, so that behind the children of the
+// last one found there is none.
 fn summands(
     rules: &Rules,
     count: usize,
@@ -97,13 +92,22 @@ fn summands(
     x: usize,
     at: Progress,
 ) -> u32
-    requires { ⌜ RulesRead (rulesIn (now rules) count) (passOf at (now items) (now queue)) ⌝ }
+    requires { ⌜ RulesRead (rulesIn (now rules) count) (passOf at (now items) (now queue)) × (0 < at .queued) ⌝ }
+    requires { ⌜ Rooted (rulesIn (now rules) count) k x (passOf at (now items) (now queue)) ⌝ }
     ensures { λ r. ⌜ r ≡ summands (rulesIn (now (rules .entry)) count) k x
         (passOf at (now (items .entry)) (now (queue .entry))) ⌝ }
 {
     let mut number = 0;
-    for pos in 0..at.queued {
-        number += once(is_of(rules, count, items, queue, k, x, at, pos));
+    let mut end = 1;
+    let mut pos = 0;
+    while pos < end {
+        if !is_of(rules, count, items, queue, k, x, at, pos) {
+            pos += 1;
+            continue;
+        }
+        number += 1;
+        pos += 1;
+        end = least(2 * pos + 1, at.queued);
     }
     number
 }
@@ -188,9 +192,9 @@ fn complete_sum(
     store: &mut [u16],
     at: Progress,
 ) -> Progress
-    requires { ⌜ RulesFit (rulesIn (now rules) count) × Rowed (now starts) (now rows) ⌝ }
-    requires { ⌜ PassFits (passOver at (now items) (now queue) (now store)) × UnitsFit (passOver at (now items) (now queue) (now store))
-        × Charted (rulesIn (now rules) count) (now starts) (passOver at (now items) (now queue) (now store)) × (0 < at .queued) ⌝ }
+    requires { ⌜ Grounds (rulesIn (now rules) count) (now starts) (now rows) × Pending (rulesIn (now rules) count)
+        (now starts) (passOver at (now items) (now queue) (now store)) × UnitsFit (passOver at (now items) (now queue) (now store))
+        × (0 < at .queued) × Chained (now rules) count ⌝ }
     ensures { λ r. ⌜ passOver r (now (items .exit)) (now (queue .exit)) (now (store .exit)) ≡ completeSum (rulesIn (now (rules .entry)) count)
         (now (starts .entry)) (now (rows .entry)) (passOver at (now (items .entry)) (now (queue .entry)) (now (store .entry))) ⌝ }
 {
@@ -218,7 +222,8 @@ pub fn complete_all_sums_entirely(
     at: Progress,
 ) -> Progress
     requires { ⌜ Grounds (rulesIn (now rules) count) (now starts) (now rows) × Pending (rulesIn (now rules) count)
-        (now starts) (passOver at (now items) (now queue) (now store)) × UnitsFit (passOver at (now items) (now queue) (now store)) ⌝ }
+        (now starts) (passOver at (now items) (now queue) (now store)) × UnitsFit (passOver at (now items) (now queue) (now store))
+        × Chained (now rules) count ⌝ }
     ensures { λ r. ⌜ passOver r (now (items .exit)) (now (queue .exit)) (now (store .exit))
         ≡ completeAllSums (rulesIn (now (rules .entry)) count) (now (starts .entry)) (now (rows .entry))
         (passOver at (now (items .entry)) (now (queue .entry)) (now (store .entry))) ⌝ }

@@ -15,7 +15,7 @@ use Rattle.binary_heap.specs.Entry.{Entry, entryWords, entriesIn}
 use Rattle.binary_heap.specs.Sift.{entryAt}
 use Rattle.binary_heap.proofs.Held.{none-held}
 use Rattle.grammar.specs.Rules.{Grammar, Rule, none}
-use Rattle.grammar.specs.inner.Decoded.{rulesIn}
+use Rattle.grammar.specs.inner.Decoded.{rulesIn, Chained}
 use Rattle.grammar.proofs.Decoding.{in-count}
 use Rattle.grammar.proofs.Facts.{second-low}
 use Rattle.parse.specs.declared.State.{State}
@@ -87,8 +87,8 @@ module _ (rules : List ℕ) (sizes : Sizes) (table : List (List ℕ)) (s : State
   kinds-fit = position-fits (sizes .tokens) kinds (omega (arith, can .accepted .room, can .accepted .few-symbols))
 
   -- What scanning the kinds asks.
-  pub scan-asks : KindsFit kinds → (RulesFit rs × Rowed (v .starts) (v .rows)) × ((IsSet (v .starts) (s .set) × KindsFit kinds) × (PassFits (beginning s v) × UnitsFit (beginning s v) × Charted rs (v .starts) (beginning s v)))
-  scan-asks fit = ((accepted-rules-fit g (can .accepted), can .rowed), ((latest, fit), (begins .sound, units-fit, begins .charted)))
+  pub scan-asks : KindsFit kinds → Chained rules (sizes .rules) → (RulesFit rs × Rowed (v .starts) (v .rows) × Chained rules (sizes .rules)) × ((IsSet (v .starts) (s .set) × KindsFit kinds) × (PassFits (beginning s v) × UnitsFit (beginning s v) × Charted rs (v .starts) (beginning s v)))
+  scan-asks fit chained = ((accepted-rules-fit g (can .accepted), can .rowed, chained), ((latest, fit), (begins .sound, units-fit, begins .charted)))
 
   -- What the sums ask.
   pub sums-ask : Grounds rs (v .starts) (v .rows) × Pending rs (v .starts) (scanned g s v kinds) × UnitsFit (scanned g s v kinds)

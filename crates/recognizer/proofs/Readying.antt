@@ -9,7 +9,7 @@ use Rattle.item.specs.Item.{handleAt}
 use Rattle.node.specs.Rows.{allOnes}
 use Rattle.grammar.specs.Accepted.{Accepted, maxRules}
 use Rattle.grammar.specs.File.{grammarOf}
-use Rattle.grammar.specs.inner.Decoded.{rulesIn}
+use Rattle.grammar.specs.inner.Decoded.{rulesIn, Chained}
 use Rattle.grammar.proofs.Verdicts.{accepted-readable, read-grammar}
 use Rattle.grammar.specs.Rules.{Grammar}
 use Rattle.parse.specs.declared.State.{State}
@@ -69,6 +69,9 @@ module _ (file : List ℕ) (s : State) (w : Words) (words : List ℕ) (r : Readi
 
   pub readied-few : (sizes : Sizes) → r ≡ readied.Formed sizes → sizes .rules ≤ maxRules
   readied-few sizes is = sound-few file words sizes (readied-for sizes is .opened)
+
+  pub readied-chained : (sizes : Sizes) → r ≡ readied.Formed sizes → Chained words (sizes .rules)
+  readied-chained sizes is = readied-for sizes is .opened .chained
 
   pub readied-formed : (sizes : Sizes) → r ≡ readied.Formed sizes → Formed file s w (grammarFrom words sizes)
   readied-formed sizes is = record { checked = sound-checked file words sizes (readied-for sizes is .opened); well-formed = readied-for sizes is .well-formed }

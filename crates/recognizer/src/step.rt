@@ -3,6 +3,7 @@ ghost use mathlib.Core.Path.{_≡_};
 ghost use Prim.Native.Nat.{_*_, _≤_};
 ghost use lib.ListN.{length, take};
 ghost use Rattle.item.specs.Item.{itemWords};
+ghost use Rattle.grammar.specs.inner.Decoded.{Chained};
 ghost use Rattle.completion.specs.Pass.{passOver};
 ghost use Rattle.completion.specs.inner.Ready.{HasRow, KindsFit};
 ghost use Rattle.demands.specs.Positions.{isPosition, anyPredicted};
@@ -67,7 +68,7 @@ fn complete_position(
     kinds: &[u16],
 ) -> Progress
     requires { ⌜ Steppable (grammarFrom (now rules) sizes) (now table) state
-        (wordsOf (now items) (now starts) (now rows) (now queue) (now store)) × KindsFit (now kinds) ⌝ }
+        (wordsOf (now items) (now starts) (now rows) (now queue) (now store)) × KindsFit (now kinds) × Chained (now rules) (sizes .rules) ⌝ }
     ensures { λ r. ⌜ passOver r (now (items .exit)) (now (queue .exit)) (now (store .exit))
         ≡ completed (grammarFrom (now (rules .entry)) sizes) state
         (wordsOf (now (items .entry)) (now (starts .entry)) (now (rows .entry)) (now (queue .entry)) (now (store .entry))) (now (kinds .entry)) ⌝ }
@@ -146,7 +147,7 @@ pub fn step(
     kinds: &[u16],
 ) -> Answer
     requires { ⌜ Steppable (grammarFrom (now rules) sizes) (now table) state
-        (wordsOf (now items) (now starts) (now rows) (now queue) (now store)) ⌝ }
+        (wordsOf (now items) (now starts) (now rows) (now queue) (now store)) × Chained (now rules) (sizes .rules) ⌝ }
     ensures { λ r. ⌜ outcomeOf r
         (wordsOf (now (items .exit)) (now (starts .exit)) (now (rows .exit)) (now (queue .exit)) (now (store .exit)))
         ≡ stepped (grammarFrom (now (rules .entry)) sizes) (now (table .entry)) state

@@ -2,7 +2,7 @@
 ghost use mathlib.Core.Path.{_≡_};
 ghost use Prim.Native.Nat.{_≤_, _<_};
 ghost use Rattle.grammar.specs.Accepted.{maxRules};
-ghost use Rattle.grammar.specs.inner.Decoded.{rulesIn};
+ghost use Rattle.grammar.specs.inner.Decoded.{rulesIn, Chained};
 ghost use Rattle.grammar.specs.Prediction.{Predicts};
 ghost use Rattle.laws.specs.Decides.{Decides};
 ghost use lib.ListN.{length};
@@ -89,7 +89,7 @@ pub fn step_within(
     kinds: &[u16],
 ) -> Answer
     requires { ⌜ Steppable (grammarFrom (now rules) sizes) (now table) state
-        (within (wordsOf (now items) (now starts) (now rows) (now queue) (now store))) ⌝ }
+        (within (wordsOf (now items) (now starts) (now rows) (now queue) (now store))) × Chained (now rules) (sizes .rules) ⌝ }
     ensures { λ r. ⌜ outcomeOf r
         (wordsOf (now (items .exit)) (now (starts .exit)) (now (rows .exit)) (now (queue .exit)) (now (store .exit)))
         ≡ inPlace (wordsOf (now (items .entry)) (now (starts .entry)) (now (rows .entry)) (now (queue .entry)) (now (store .entry)))
@@ -131,7 +131,7 @@ pub fn run_within(
 ) -> Ran
     requires { ⌜ Steppable (grammarFrom (now rules) sizes) (now table) state
         (within (wordsOf (now items) (now starts) (now rows) (now queue) (now store))) × Predicts (grammarFrom (now rules) sizes)
-        rowWords (now table) ⌝ }
+        rowWords (now table) × Chained (now rules) (sizes .rules) ⌝ }
     ensures { λ r. ⌜ endedOf r (wordsOf (now (items .exit)) (now (starts .exit)) (now (rows .exit)) (now (queue .exit)) (now (store .exit)))
         ≡ inPlaceEnded (wordsOf (now (items .entry)) (now (starts .entry)) (now (rows .entry)) (now (queue .entry)) (now (store .entry)))
         (ran (grammarFrom (now (rules .entry)) sizes) (now (table .entry)) state
@@ -182,7 +182,7 @@ pub fn run_kinds_within(
 ) -> Ran
     requires { ⌜ Steppable (grammarFrom (now rules) sizes) (now table) state
         (within (wordsOf (now items) (now starts) (now rows) (now queue) (now store))) × Predicts (grammarFrom (now rules) sizes)
-        rowWords (now table) ⌝ }
+        rowWords (now table) × Chained (now rules) (sizes .rules) ⌝ }
     ensures { λ r. ⌜ endedOf r (wordsOf (now (items .exit)) (now (starts .exit)) (now (rows .exit)) (now (queue .exit)) (now (store .exit)))
         ≡ inPlaceEnded (wordsOf (now (items .entry)) (now (starts .entry)) (now (rows .entry)) (now (queue .entry)) (now (store .entry)))
         (ran (grammarFrom (now (rules .entry)) sizes) (now (table .entry)) state

@@ -51,6 +51,8 @@ complete-unary-predictions-requires c κs =
       subst PassFits (sym
           (c .before .before .before .before .complete-medial-items .ensures))
           (medials-sound rs (given .starts .now) (given .k) (given .x) (given .link) s (required .1 .1 .0) (required .1 .1 .1)),
+      required .0 .2,
+      required .1 .0 .1,
     )
 
 -- src/lib.rt:56:5
@@ -60,7 +62,7 @@ complete-binary-predictions-requires c κs =
     let required = c .before .before .before .before .before .before .before .before .before .before .before .before .before .before .before .before .before .before .before .pre in
     let rs = rulesIn (given .rules .now) (given .count) in
     let s = passOf (given .at) (given .items .now) (given .queue .now) in
-    (required .0 .0, has-row (given .starts .now) (given .rows .now) (given .k) (required .0 .1) (required .1 .0 .0))
+    (required .0 .0, has-row (given .starts .now) (given .rows .now) (given .k) (required .0 .1) (required .1 .0 .0), required .0 .2, required .1 .0 .1)
 
 -- src/lib.rt:26:1
 same-length : tie.Need-same-length

@@ -1,13 +1,16 @@
 -- What the sums of a pass rest on.
 use mathlib.Core.Path.{_≡_}
+use mathlib.Core.Bool.{true}
 use mathlib.Core.List.{List}
 use Prim.Native.Nat.{ℕ, _+_, _≤_, _<_}
 use lib.ListN.{length, getD, take}
-use Rattle.item.specs.Item.{originAt}
+use Rattle.item.specs.Item.{itemAt, originAt}
 use Rattle.binary_heap.specs.Entry.{entryKey}
 use Rattle.binary_heap.specs.Heap.{Heap}
+use Rattle.binary_heap.specs.Sift.{entryAt, parent}
 use Rattle.grammar.specs.Rules.{Rule, none, noRule}
 use Rattle.completion.specs.Pass.{Pass}
+use Rattle.completion.specs.Sums.{isOf}
 use Rattle.completion.specs.inner.Ready.{RulesFit, Rowed, PassFits, Charted}
 
 -- What no step changes: the rules of an accepted grammar, and a start for each row.
@@ -27,3 +30,9 @@ pub record Pending (rs : List Rule) (starts : List ℕ) (s : Pass) : Type 0 wher
   pub charted : Charted rs starts s
   pub earlier : (k p : ℕ) → getD starts k 0 ≤ p → p < getD starts (k + 1) 0 → originAt (s .items) p < k
   pub heap : Heap (entryKey (s .items)) (take (s .at .queued) (s .queue))
+
+-- Each entry of origin `k` and left side `x` but the root has its parent among them.
+pub record Rooted (rs : List Rule) (k x : ℕ) (s : Pass) : Type 0 where
+  pub parents :
+      (pos : ℕ) → 0 < pos → pos < s .at .queued → isOf rs k x (itemAt (s .items) (entryAt (s .queue) pos .place)) ≡ true
+      → isOf rs k x (itemAt (s .items) (entryAt (s .queue) (parent pos) .place)) ≡ true

@@ -5,7 +5,7 @@ use Rattle.prediction.proofs.Reaching.{accepted-within}
 use Rattle.demands.specs.Positions.{positionsIn}
 use Rattle.demands.specs.Calls.{Runs}
 use Rattle.demands.proofs.Telling.{run-means}
-use Rattle.recognizer.proofs.Readying.{readied-fault, readied-few, readied-formed}
+use Rattle.recognizer.proofs.Readying.{readied-fault, readied-few, readied-formed, readied-chained}
 use Rattle.recognizer.proofs.Given.{can-step, runs}
 use Rattle.recognizer.proofs.run_kinds.Statement.{statement}
 use Rattle.recognizer.proofs.run_kinds.Tie as tie
@@ -48,7 +48,7 @@ run-kinds-within-requires c κs =
     let readied = c .before .before .before .before .before .before .before .before .before .before .before .before .ready in
     let found = c .before .before .before .before .before .before .before .before .before .before .found in
     let tabled = c .before .before .before .before .before .before .before .table in
-    (can-step (readied-formed _ _ _ _ _ (readied .ensures) _ (found .given .1)) (tabled .ensures (found .given .0 .0 .tokens)), tabled .ensures (found .given .0 .0 .tokens))
+    (can-step (readied-formed _ _ _ _ _ (readied .ensures) _ (found .given .1)) (tabled .ensures (found .given .0 .0 .tokens)), tabled .ensures (found .given .0 .0 .tokens), readied-chained _ _ _ _ _ (readied .ensures) _ (found .given .1))
 
 same-length-6 : tie.Need-same-length-6
 same-length-6 c = let ran = c .before .before .before .before .before .before .before .before .before .before .run-kinds-within in ran .kept .1 .1 .1 .1 .0

@@ -5,7 +5,7 @@ use borrow.Author.Needs.{needs}
 use Rattle.prediction.proofs.Reaching.{accepted-within}
 use Rattle.demands.specs.Calls.{Takes}
 use Rattle.demands.proofs.Telling.{position-means}
-use Rattle.recognizer.proofs.Readying.{readied-fault, readied-few, readied-formed}
+use Rattle.recognizer.proofs.Readying.{readied-fault, readied-few, readied-formed, readied-chained}
 use Rattle.recognizer.proofs.Given.{can-step, takes}
 use Rattle.recognizer.proofs.token.Statement.{statement}
 use Rattle.recognizer.proofs.token.Tie as tie
@@ -51,7 +51,7 @@ step-within-requires c κs =
     let readied = c .before .before .before .before .before .before .before .before .before .before .before .before .before .ready in
     let found = c .before .before .before .before .before .before .before .before .before .before .before .found in
     let tabled = c .before .before .before .before .before .before .before .before .table in
-    can-step (readied-formed _ _ _ _ _ (readied .ensures) _ (found .given .1)) (tabled .ensures (found .given .0 .0 .tokens))
+    (can-step (readied-formed _ _ _ _ _ (readied .ensures) _ (found .given .1)) (tabled .ensures (found .given .0 .0 .tokens)), readied-chained _ _ _ _ _ (readied .ensures) _ (found .given .1))
 
 same-length-6 : tie.Need-same-length-6
 same-length-6 c = let stepped = c .before .before .before .before .before .before .before .before .before .before .step-within in stepped .kept .1 .1 .1 .1 .0

@@ -4,7 +4,7 @@ use mathlib.Core.List.{List}
 use Prim.Native.Nat.{ℕ}
 use Rattle.grammar.specs.Accepted.{Accepted}
 use Rattle.grammar.specs.File.{Malformed, grammarOf, symbolsOf, tokensOf, ruleCountOf}
-use Rattle.grammar.specs.inner.Decoded.{rulesIn, grammarIn}
+use Rattle.grammar.specs.inner.Decoded.{rulesIn, grammarIn, Chained}
 use Rattle.parse.specs.declared.State.{State}
 use Rattle.parse.specs.Words.{Words, within}
 use Rattle.parse.specs.WellFormed.{WellFormed}
@@ -16,7 +16,7 @@ use Rattle.recognizer.specs.declared.ready.Readied.the-variants as readi
 use Rattle.recognizer.specs.Answers.{refusalNumber}
 use Rattle.demands.specs.Calls.{FileFault, CallFault}
 
--- The numbers of an accepted file, and words that hold its rules.
+-- The numbers of an accepted file, and words that hold its rules and their chains.
 pub record OpenedFile (file words : List ℕ) (sizes : Sizes) : Type 0 where
   pub whole : Malformed file → ⊥
   pub accepted : Accepted (grammarOf file)
@@ -24,6 +24,7 @@ pub record OpenedFile (file words : List ℕ) (sizes : Sizes) : Type 0 where
   pub tokens : sizes .tokens ≡ tokensOf file
   pub rules : sizes .rules ≡ ruleCountOf file
   pub decoded : grammarIn words (symbolsOf file) (tokensOf file) (ruleCountOf file) ≡ grammarOf file
+  pub chained : Chained words (sizes .rules)
 
 -- 1 or 2, or an accepted file.
 abbrev pub Opens : List ℕ → List ℕ → Opened → Type 0

@@ -47,7 +47,7 @@ complete-sum-requires : tie.Need-complete-sum-requires Inv-loop μ-loop
 complete-sum-requires c κs =
     let required = c .before .before .before .before .before .before .before .before .before .before .before .before .before .pre in
     let r = c .before .before .before .before .before .before .before .loop .inv .0 in
-    ((required .0 .rules-fit, required .0 .rowed), (r .pending .sound, r .units, r .pending .charted, c .before .before .before .before .before .if1 .taken))
+    (required .0, r .pending, r .units, c .before .before .before .before .before .if1 .taken, required .3)
 
 loop-less : tie.Need-loop-less Inv-loop μ-loop
 loop-less c = remaining-falls (c .before .before .before .before .before .before .before .before .before .before .before .before .before .before .before .before .before .before .before .before .pre .0) (c .before .before .before .before .before .before .before .before .before .before .before .before .before .before .loop .inv .0) _ (c .before .before .before .before .before .before .before .before .before .before .before .before .if1 .taken) (c .before .before .before .before .before .before .complete-sum .ensures)

@@ -1,5 +1,5 @@
 -- `completion::sums::complete_sum` meets its contract.
-use mathlib.Core.Path.{_≡_, sym, ap, ap₂, _∙_, subst}
+use mathlib.Core.Path.{sym, ap, _∙_, subst}
 use mathlib.Core.List.{[]}
 use Prim.Native.Nat.{ℕ}
 use native.Mathlib.Omega.{arith}
@@ -9,11 +9,12 @@ use Rattle.binary_heap.specs.Entry.{entriesIn}
 use Rattle.binary_heap.specs.Sift.{entryAt}
 use Rattle.grammar.specs.inner.Decoded.{rulesIn}
 use Rattle.node.specs.declared.Node.the-variants.{Sum}
-use Rattle.completion.specs.Pass.{Pass, passOver, passOf, append}
+use Rattle.completion.specs.Pass.{passOver, append}
 use Rattle.completion.specs.Sums.{popSum}
-use Rattle.completion.specs.inner.Ready.{IsSet, RulesRead}
-use Rattle.completion.proofs.Overlaid.{onUnits, fits-on, charted-on, read-on, completed-on}
+use Rattle.completion.specs.inner.Ready.{IsSet}
+use Rattle.completion.proofs.Overlaid.{fits-on, charted-on, completed-on}
 use Rattle.completion.proofs.Summing.{sum-is}
+use Rattle.completion.proofs.Counting.{greatest-rooted, rooted-on}
 use Rattle.completion.proofs.Charting.{Steady, steady-refl, steady-append, steady-pop}
 use Rattle.completion.proofs.sums.complete_sum.Statement.{statement}
 use Rattle.completion.proofs.sums.complete_sum.Tie as tie
@@ -21,28 +22,32 @@ use Rattle.completion.proofs.sums.complete_sum.Tie as tie
 greatest-origin-requires : tie.Need-greatest-origin-requires
 greatest-origin-requires c κs =
     let required = c .before .before .before .before .before .before .before .pre in
-    (fits-on [] (required .1 .0), required .1 .3)
+    (fits-on [] (required .1 .sound), required .3)
 
 greatest-left-requires : tie.Need-greatest-left-requires
 greatest-left-requires c κs =
     let required = c .before .before .before .before .before .before .before .before .before .before .pre in
-    (record { sound = fits-on [] (required .1 .0); few-rules = required .0 .0 .few-rules; rules = required .1 .2 .rules }, required .1 .3)
+    (record { sound = fits-on [] (required .1 .sound); few-rules = required .0 .rules-fit .few-rules; rules = required .1 .charted .rules }, required .3)
 
 cast-link : tie.Need-cast-link
 cast-link c =
     let required = c .before .before .before .before .before .before .before .before .before .before .before .before .pre in
-    record { fits = omega (arith, required .1 .1 .few-units, required .1 .1 .used-fit) }
+    record { fits = omega (arith, required .2 .few-units, required .2 .used-fit) }
 
 summands-requires : tie.Need-summands-requires
 summands-requires c κs =
     let required = c .before .before .before .before .before .before .before .before .before .before .before .before .before .before .pre in
-    record { sound = fits-on [] (required .1 .0); few-rules = required .0 .0 .few-rules; rules = required .1 .2 .rules }
+    let given = c .before .before .before .before .before .before .before .before .before .before .before .before .before .before .args in
+    let s = passOver (given .at) (given .items .now) (given .queue .now) (given .store .now) in (
+      (record { sound = fits-on [] (required .1 .sound); few-rules = required .0 .rules-fit .few-rules; rules = required .1 .charted .rules }, required .3),
+      rooted-on [] _ _ (c .before .before .before .before .before .before .greatest-origin .ensures) (c .before .before .before .greatest-left .ensures) (greatest-rooted (required .0) s (required .1) (required .3)),
+    )
 
 cast-t28 : tie.Need-cast-t28
 cast-t28 c =
     let given = c .before .before .before .before .before .before .before .before .before .before .before .before .before .before .before .args in
     let required = c .before .before .before .before .before .before .before .before .before .before .before .before .before .before .before .pre in
-    record { fits = omega (arith, c .before .before .before .before .greatest-left .ensures, required .0 .0 .lefts (ruleAt (given .items .now) (entryAt (entriesIn (given .queue .now)) 0 .place))) }
+    record { fits = omega (arith, c .before .before .before .before .greatest-left .ensures, required .0 .rules-fit .lefts (ruleAt (given .items .now) (entryAt (entriesIn (given .queue .now)) 0 .place))) }
 
 append-requires : tie.Need-append-requires
 append-requires c κs = search needs
@@ -56,8 +61,8 @@ pop-sum-requires c κs =
     let s = passOver (given .at) (given .items .now) (given .queue .now) (given .store .now) in
     let begun : Steady rs (given .starts .now) s (passOver (written .result) (given .items .now) (given .queue .now) _) =
     subst (Steady rs (given .starts .now) s) (sym (written .ensures (given .items .now) (entriesIn (given .queue .now))))
-    (steady-append rs (given .starts .now) s _ s (steady-refl rs (given .starts .now) s (required .1 .0) (required .1 .2))) in
-    record { sound = fits-on [] (begun .sound); few-rules = required .0 .0 .few-rules; rules = begun .charted .rules }
+    (steady-append rs (given .starts .now) s _ s (steady-refl rs (given .starts .now) s (required .1 .sound) (required .1 .charted))) in
+    record { sound = fits-on [] (begun .sound); few-rules = required .0 .rules-fit .few-rules; rules = begun .charted .rules }
 
 complete-requires : tie.Need-complete-requires
 complete-requires c κs =
@@ -72,14 +77,14 @@ complete-requires c κs =
     let top = entryAt (entriesIn (given .queue .now)) 0 .place in
     let begun : Steady rs (given .starts .now) s (passOver (written .result) (given .items .now) (given .queue .now) _) =
     subst (Steady rs (given .starts .now) s) (sym (written .ensures (given .items .now) (entriesIn (given .queue .now))))
-    (steady-append rs (given .starts .now) s _ s (steady-refl rs (given .starts .now) s (required .1 .0) (required .1 .2))) in
+    (steady-append rs (given .starts .now) s _ s (steady-refl rs (given .starts .now) s (required .1 .sound) (required .1 .charted))) in
     let popped = subst (Steady rs (given .starts .now) s) (sym (sum-popped .ensures))
     (steady-pop rs (given .starts .now) s (origin-read .result) (left-read .result) _ begun) in (
-      required .0,
+      (required .0 .rules-fit, required .0 .rowed, required .4),
       (
         (
-          subst (IsSet (given .starts .now)) (sym (origin-read .ensures)) (required .1 .2 .origins top (required .1 .0 .entries 0 (required .1 .3))),
-          omega (arith, left-read .ensures, required .0 .0 .lefts (ruleAt (given .items .now) top)),
+          subst (IsSet (given .starts .now)) (sym (origin-read .ensures)) (required .1 .charted .origins top (required .1 .sound .entries 0 (required .3))),
+          omega (arith, left-read .ensures, required .0 .rules-fit .lefts (ruleAt (given .items .now) top)),
         ),
         (fits-on [] (popped .sound), charted-on [] (popped .charted)),
       ),

@@ -1,9 +1,10 @@
 -- `recognizer::file::open` meets its contract: the verdict of the check, case by case.
-use mathlib.Core.Path.{ap}
+use mathlib.Core.Path.{sym, ap, subst}
 use native.Mathlib.Omega.{arith}
 use borrow.Author.Needs.{needs}
 use Rattle.grammar.proofs.Verdicts.{AcceptedFile, accepted-file}
 use Rattle.grammar.specs.Answers.{numberOf}
+use Rattle.grammar.specs.inner.Decoded.{Chained}
 use Rattle.demands.specs.Calls.{FileFault}
 use Rattle.recognizer.proofs.file.open.Statement.{statement}
 use Rattle.recognizer.proofs.file.open.Tie as tie
@@ -54,6 +55,7 @@ returns-3 c =
       tokens = c .before .tokens .ensures .0;
       rules = c .rule-count .ensures .0;
       decoded = file-read .ensures .1 .accepted (ap numberOf (verdict-told .given .1)) .rules;
+      chained = subst (Chained _) (sym (c .rule-count .ensures .0)) (file-read .ensures .1 .accepted (ap numberOf (verdict-told .given .1)) .chained);
     }
 
 pub open-spec : {M : Type 1} → statement M

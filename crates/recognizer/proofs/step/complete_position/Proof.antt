@@ -15,7 +15,7 @@ scan-all-requires c κs =
     let given = c .before .before .before .before .before .before .before .before .before .args in
     let required = c .before .before .before .before .before .before .before .before .before .pre in
     let v = wordsOf (given .items .now) (given .starts .now) (given .rows .now) (given .queue .now) (given .store .now) in
-    scan-asks (given .rules .now) (given .sizes) (given .table .now) (given .state) v (required .0) (given .kinds .now) (required .1)
+    scan-asks (given .rules .now) (given .sizes) (given .table .now) (given .state) v (required .0) (given .kinds .now) (required .1) (required .2)
 
 complete-all-sums-entirely-requires : tie.Need-complete-all-sums-entirely-requires
 complete-all-sums-entirely-requires c κs =
@@ -25,7 +25,7 @@ complete-all-sums-entirely-requires c κs =
     let rs = rulesIn (given .rules .now) (given .sizes .rules) in
     let v = wordsOf (given .items .now) (given .starts .now) (given .rows .now) (given .queue .now) (given .store .now) in
     let asked = sums-ask (given .rules .now) (given .sizes) (given .table .now) (given .state) v (required .0) (given .kinds .now) in
-    (asked .0, subst (Pending rs (given .starts .now)) (sym (scanned .ensures)) (asked .1), subst UnitsFit (sym (scanned .ensures)) (asked .2))
+    (asked .0, subst (Pending rs (given .starts .now)) (sym (scanned .ensures)) (asked .1), subst UnitsFit (sym (scanned .ensures)) (asked .2), required .2)
 
 same-length : tie.Need-same-length
 same-length c = search needs

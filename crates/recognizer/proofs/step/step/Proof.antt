@@ -31,7 +31,7 @@ fit : (c : tie.Else1) → KindsFit (c .before .before .before .before .before .b
 fit c =
     let begun = c .before .before .before .before .before .before .before .before in
     let given = begun .args in
-    kinds-fit (given .rules .now) (given .sizes) (given .table .now) (given .state) (words begun) (begun .pre) (given .kinds .now) (position c)
+    kinds-fit (given .rules .now) (given .sizes) (given .table .now) (given .state) (words begun) (begun .pre .0) (given .kinds .now) (position c)
 
 -- .. behind the second one of them is predicted, ..
 there : (c : tie.Else2) → let begun = c .before .before .before .before .before .before .before .before .before .before .before in Predicted (begun .args .state) (words begun) (begun .args .kinds .now)
@@ -43,7 +43,7 @@ there c =
 -- .. and this is what their pass came to.
 came : (c : tie.After-complete-position) → let begun = c .before .before .before .before .before .before .before .before .before .before .before .before .before .before .before .before .before in let given = begun .args in let passed = c .complete-position in Came (given .rules .now) (given .sizes) (given .table .now) (given .state) (words begun) (given .kinds .now) (passed .result) (passed .last .1 .1 .1 .1 .0) (passed .last .1 .1 .1 .1 .1 .1 .1 .0) (passed .last .1 .1 .1 .1 .1 .1 .1 .1 .0)
 came c = record {
-  can = c .before .before .before .before .before .before .before .before .before .before .before .before .before .before .before .before .before .pre;
+  can = c .before .before .before .before .before .before .before .before .before .before .before .before .before .before .before .before .before .pre .0;
   position = position (c .before .before .before .before .before .before .before .before .before);
   there = there (c .before .before .before .before .before .before);
   is = c .complete-position .ensures;
@@ -63,7 +63,7 @@ any-predicted-requires : tie.Need-any-predicted-requires
 any-predicted-requires c κs =
     let begun = c .before .before .before .before .before .before .before .before .before in
     let given = begun .args in
-    (row-there (given .rules .now) (given .sizes) (given .table .now) (given .state) (words begun) (begun .pre) (given .kinds .now), fit (c .before))
+    (row-there (given .rules .now) (given .sizes) (given .table .now) (given .state) (words begun) (begun .pre .0) (given .kinds .now), fit (c .before))
 
 same-length : tie.Need-same-length
 same-length c = search needs
@@ -78,11 +78,11 @@ returns-2 c =
     (λ some. false≢true (sym lacks ∙ predicted-any (given .state) (words begun) (given .kinds .now) some)))
 
 complete-position-requires : tie.Need-complete-position-requires
-complete-position-requires c κs = (c .before .before .before .before .before .before .before .before .before .before .before .before .before .before .before .before .pre, fit (c .before .before .before .before .before .before .before .before))
+complete-position-requires c κs = (c .before .before .before .before .before .before .before .before .before .before .before .before .before .before .before .before .pre .0, fit (c .before .before .before .before .before .before .before .before), c .before .before .before .before .before .before .before .before .before .before .before .before .before .before .before .before .pre .1)
 
 give-up-requires : tie.Need-give-up-requires
 give-up-requires c κs =
-    let required = c .before .before .before .before .before .before .before .before .before .before .before .before .before .before .before .before .before .before .before .before .before .before .before .before .before .before .before .pre in
+    let required = c .before .before .before .before .before .before .before .before .before .before .before .before .before .before .before .before .before .before .before .before .before .before .before .before .before .before .before .pre .0 in
     let passed = c .before .before .before .before .before .before .before .before .before .before .complete-position in (
       omega (arith, required .well-formed .items-fit, passed .kept .1 .1 .1 .1 .0),
       omega (arith, required .well-formed .units-fit, passed .kept .1 .1 .1 .1 .1 .1 .1 .1 .0),
@@ -120,7 +120,7 @@ enum-told c = search needs
 
 unwrite-requires : tie.Need-unwrite-requires
 unwrite-requires c κs =
-    let required = c .before .before .before .before .before .before .before .before .before .before .before .before .before .before .before .before .before .before .before .before .before .before .before .before .before .before .before .before .before .before .before .before .before .before .before .before .before .pre in
+    let required = c .before .before .before .before .before .before .before .before .before .before .before .before .before .before .before .before .before .before .before .before .before .before .before .before .before .before .before .before .before .before .before .before .before .before .before .before .before .pre .0 in
     let passed = c .before .before .before .before .before .before .before .before .before .before .before .before .before .before .before .before .before .before .before .before .complete-position in
     omega (arith, required .well-formed .units-fit, passed .kept .1 .1 .1 .1 .1 .1 .1 .1 .0)
 

@@ -92,7 +92,7 @@ part-step-within-end : tie.Need-part-step-within-end Inv-loop μ-loop
 part-step-within-end c = search needs
 
 step-within-requires : tie.Need-step-within-requires Inv-loop μ-loop
-step-within-requires c κs = c .before .before .before .before .before .before .before .before .before .loop .inv .going .steppable
+step-within-requires c κs = (c .before .before .before .before .before .before .before .before .before .loop .inv .going .steppable, c .before .before .before .before .before .before .before .before .before .before .before .before .before .before .before .before .pre .2)
 
 enum-known-next : tie.Need-enum-known-next Inv-loop μ-loop
 enum-known-next c = c .match .keys1

@@ -47,14 +47,14 @@ slice-aggregate-step c =
 slice-relend-prefix-step-2 : tie.Need-slice-relend-prefix-step-2
 slice-relend-prefix-step-2 c =
     let given = c .before .before .before .before .before .before .before .before .before .before .before .before .before .before .before .before .args in
-    let required = c .before .before .before .before .before .before .before .before .before .before .before .before .before .before .before .before .pre in
+    let required = c .before .before .before .before .before .before .before .before .before .before .before .before .before .before .before .before .pre .0 in
     let w = wordsOf (given .items .now) (given .starts .now) (given .rows .now) (given .queue .now) (given .store .now) in
     omega (arith, starts-there w (required .well-formed), c .before .before .before .before .before .set-room .ensures)
 
 slice-aggregate-step-2 : tie.Need-slice-aggregate-step-2
 slice-aggregate-step-2 c =
     let given = c .before .before .before .before .before .before .before .before .before .before .before .before .before .before .before .before .before .args in
-    let required = c .before .before .before .before .before .before .before .before .before .before .before .before .before .before .before .before .before .pre in
+    let required = c .before .before .before .before .before .before .before .before .before .before .before .before .before .before .before .before .before .pre .0 in
     let w = wordsOf (given .items .now) (given .starts .now) (given .rows .now) (given .queue .now) (given .store .now) in
     sym (length-take-le _ (given .starts .now) (omega (arith, starts-there w (required .well-formed), c .before .before .before .before .before .before .set-room .ensures)))
 
@@ -88,10 +88,12 @@ step-requires c κs =
     let required = c .before .before .before .before .before .before .before .before .before .before .before .before .before .before .before .before .before .before .before .before .pre in
     let items-measured = c .before .before .before .before .before .before .before .before .before .before .before .before .item-room in
     let sets-measured = c .before .before .before .before .before .before .before .before .before .set-room in
-    let w = wordsOf (given .items .now) (given .starts .now) (given .rows .now) (given .queue .now) (given .store .now) in
-    subst (Steppable (grammarFrom (given .rules .now) (given .sizes)) (given .table .now) (given .state))
-    (first-within w (items-measured .ensures) (sets-measured .ensures) (c .before .before .before .before .before .before .before .queue-room .ensures) (c .before .before .before .before .before .store-room .ensures))
-    required
+    let w = wordsOf (given .items .now) (given .starts .now) (given .rows .now) (given .queue .now) (given .store .now) in (
+      subst (Steppable (grammarFrom (given .rules .now) (given .sizes)) (given .table .now) (given .state))
+          (first-within w (items-measured .ensures) (sets-measured .ensures) (c .before .before .before .before .before .before .before .queue-room .ensures) (c .before .before .before .before .before .store-room .ensures))
+          (required .0),
+      required .1,
+    )
 
 same-length : tie.Need-same-length
 same-length c = search needs
