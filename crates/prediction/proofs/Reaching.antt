@@ -1,5 +1,5 @@
 -- Chains of steps are what first symbols reach.
-use mathlib.Core.Path.{_≡_, sym, subst, _∙_}
+use mathlib.Core.Path.{_≡_, refl, sym, subst, _∙_}
 use mathlib.Core.List.{List, []}
 use lib.Seq.{ext-getD}
 use Rattle.laws.proofs.Bits.{row-ext}
@@ -12,7 +12,7 @@ use Rattle.grammar.specs.Prediction.{Reaches, Predicts, rowAt}
 use Rattle.grammar.specs.Prediction.Reaches.{here, by-first}
 use Rattle.grammar.proofs.Reached.{reaches-trans}
 use Rattle.grammar.proofs.Decoding.{in-count, in-left, in-first, in-says}
-use Rattle.prediction.specs.inner.Tables.{Bit, Within, Step, Seeded, Chain, Closed, LowRows}
+use Rattle.prediction.specs.inner.Tables.{Bit, Within, NotAbove, Step, Seeded, Chain, Closed, LowRows, Lone}
 use Rattle.prediction.specs.inner.Tables.Step.{own, rule}
 use Rattle.prediction.specs.inner.Tables.Chain.{link, join}
 use Rattle.prediction.proofs.Cells.{steps-low}
@@ -21,6 +21,14 @@ module _ (words : List ℕ) (width n count : ℕ) (within : Within words n count
   -- Steps start at symbols.
   pub seed-low : LowRows n seed
   seed-low = steps-low (leftIn words) (firstIn words) width n count seed (within .left) h
+
+  -- A symbol that is no left side leads to itself alone.
+  pub seed-lone : (from : ℕ) → NotAbove words count from → Lone from seed
+  seed-lone from low = record { alone = λ x y l b. by-step l (h .no-more x y b) }
+    where
+      by-step : {x y : ℕ} → x < from → Step (leftIn words) (firstIn words) n count x y → y ≡ x
+      by-step l (own there) = refl
+      by-step l (rule {r = r} there) = absurd (omega (arith, low .left r there))
 
   module _ (t : ℕ) where
     abbrev g : Grammar

@@ -10,7 +10,7 @@ use Rattle.laws.specs.Bits.{Holds, union}
 use Rattle.laws.proofs.Bits.{union-left, union-right, union-one, union-row}
 use Rattle.grammar.specs.Accepted.{maxSymbols}
 use Rattle.grammar.specs.Prediction.{rowAt}
-use Rattle.prediction.specs.inner.Tables.{Bit, Shape, Chain, Closed, LowRows}
+use Rattle.prediction.specs.inner.Tables.{Bit, Shape, Chain, Closed, LowRows, Lone}
 use Rattle.prediction.proofs.Cells.{row-new, row-kept, shape-kept}
 
 -- A chain of the seed's bits through middle symbols below `k`.
@@ -67,20 +67,28 @@ module _ (width : ℕ) (seed : List (List ℕ)) where
   via-low h (link {x = x} {y = y} b) = h .low x y b
   via-low h (join l p q) = via-low h p
 
-  -- The seed is the level before turn 0.
-  pub level-seed : Shape width seed → Level width seed 0 seed
-  level-seed h = record { shape = h; sound = λ x y b. link b; complete = λ x y v. back v }
-    where
-      back : {x y : ℕ} → Via seed 0 x y → Bit seed x y
-      back (link b) = b
-      back (join l p q) = absurd (omega arith)
+  -- From a lone row a chain leads nowhere.
+  lone-bit : {from k x y : ℕ} → Lone from seed → Via seed k x y → x < from → Bit seed x y
+  lone-bit h (link b) l = b
+  lone-bit {from} {k} {x} {y} h (join {m = m} before p q) l =
+      let to : Bit seed x m = lone-bit h p l in
+      let is : m ≡ x = h .alone x m l to in
+      subst (λ (z : ℕ). Bit seed z y) is (lone-bit h q (subst (λ (z : ℕ). z < from) (sym is) l))
 
-  -- A turn begins, and ends.
-  pub turn-begins : (k : ℕ) (table : List (List ℕ)) → Level width seed k table → InTurn width seed k 0 table
-  turn-begins k table h = record {
+  -- Where the rows below `from` are lone, the seed is the level before turn `from`.
+  pub level-seed : (from : ℕ) → Shape width seed → Lone from seed → Level width seed from seed
+  level-seed from h lone = record { shape = h; sound = λ x y b. link b; complete = λ x y v. back v }
+    where
+      back : {x y : ℕ} → Via seed from x y → Bit seed x y
+      back (link b) = b
+      back {x} {y} (join {m = m} l p q) = subst (λ (z : ℕ). Bit seed x z) (sym (lone .alone m y l (back q))) (back p)
+
+  -- A turn begins behind them, and ends.
+  pub turn-begins : (from k : ℕ) (table : List (List ℕ)) → Lone from seed → Level width seed k table → InTurn width seed k from table
+  turn-begins from k table lone h = record {
     shape = h .shape;
-    past-sound = λ x y l. absurd (omega arith);
-    past-complete = λ x y l. absurd (omega arith);
+    past-sound = λ x y l b. widen (h .sound x y b);
+    past-complete = λ x y l v. h .complete x y (link (lone-bit lone v l));
     sound = λ x y l. h .sound x y;
     complete = λ x y l. h .complete x y;
   }

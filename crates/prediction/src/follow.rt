@@ -79,7 +79,7 @@ pub fn table(rules: &Rules, n: usize, count: usize) -> Table
     ensures { λ r. ⌜ ((t : ℕ) → Followers (grammarIn (now (rules .entry)) n t count) rowWords r) ⌝ }
 {
     let begins = prediction(rules, n, count);
-    let ended = close(ends(rules, n, count), n);
+    let ended = close(ends(rules, n, count), 0, n);
     let behind = beside(rules, &begins, n, count);
     across(&ended, &behind, n)
 }

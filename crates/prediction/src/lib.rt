@@ -5,7 +5,7 @@ ghost use Rattle.bits.specs.Width.{rowWords};
 ghost use Rattle.grammar.specs.Accepted.{maxSymbols, maxRules};
 ghost use Rattle.grammar.specs.inner.Decoded.{leftIn, firstIn, grammarIn};
 ghost use Rattle.grammar.specs.Prediction.{Predicts};
-ghost use Rattle.prediction.specs.inner.Tables.{Within, Shape, Seeded, Closed, LowRows};
+ghost use Rattle.prediction.specs.inner.Tables.{Within, Shape, Seeded, NotAbove, Closed, LowRows, Lone};
 
 pub mod follow;
 
@@ -48,14 +48,31 @@ fn seed(rules: &Rules, n: usize, count: usize) -> Table
     table
 }
 
-// The closure, in Warshall's order: after turn `k` row `i` holds what is reached from `i` through symbols up to `k`.
-fn close(seed: Table, n: usize) -> Table
-    requires { ⌜ (n ≤ maxSymbols) × Shape rowWords seed × LowRows n seed ⌝ }
+// The lowest left side of a rule, or `n`. A symbol below it leads to itself alone, as every token does.
+fn lowest_left(rules: &Rules, n: usize, count: usize) -> usize
+    requires { ⌜ count ≤ maxRules ⌝ }
+    ensures { λ r. ⌜ NotAbove (now (rules .entry)) count r ⌝ }
+{
+    let mut low = n;
+    for r in 0..count {
+        let a = left(rules, r);
+        if low <= a {
+            continue;
+        }
+        low = a;
+    }
+    low
+}
+
+// The closure, in Warshall's order: after turn `k` row `i` holds what is reached from `i` through symbols up to `k`. Rows below `from` hold their own
+// symbol alone, and are left out.
+fn close(seed: Table, from: usize, n: usize) -> Table
+    requires { ⌜ (n ≤ maxSymbols) × Shape rowWords seed × LowRows n seed × Lone from seed ⌝ }
     ensures { λ r. ⌜ Closed rowWords seed r ⌝ }
 {
     let mut table = seed;
-    for k in 0..n {
-        for i in 0..n {
+    for k in from..n {
+        for i in from..n {
             let row = table[i];
             if !has(&row, k) {
                 continue;
@@ -72,5 +89,5 @@ pub fn table(rules: &Rules, n: usize, count: usize) -> Table
     requires { ⌜ (count ≤ maxRules) × Within (now rules) n count ⌝ }
     ensures { λ r. ⌜ ((t : ℕ) → Predicts (grammarIn (now (rules .entry)) n t count) rowWords r) ⌝ }
 {
-    close(seed(rules, n, count), n)
+    close(seed(rules, n, count), lowest_left(rules, n, count), n)
 }

@@ -1,8 +1,9 @@
--- `prediction::close` meets its contract. The invariants: `Level` before a turn, and `InTurn` within it, whatever the seed was.
+-- `prediction::close` meets its contract. The invariants: `Level` before a turn, and `InTurn` within it, whatever the seed was, if its rows below `from` are lone.
 use mathlib.Core.List.{List}
 use borrow.Author.Tests.{not-true, not-false}
 use Rattle.laws.proofs.Bits.{holds-true, holds-false}
 use Rattle.bits.specs.Width.{rowWords}
+use Rattle.prediction.specs.inner.Tables.{Lone}
 use Rattle.prediction.proofs.Warshall.{Level, InTurn, level-seed, turn-begins, turn-ends, row-passed, row-joined, closed}
 use borrow.Author.Needs.{needs}
 use native.Mathlib.Omega.{arith}
@@ -12,22 +13,22 @@ use Rattle.prediction.proofs.close.Statement.{statement}
 use Rattle.prediction.proofs.close.Tie as tie
 
 abbrev Inv-loop2 : tie.InvT-loop2
-Inv-loop2 n table₀ k i₀ table i = (s : List (List ℕ)) → Level rowWords s k table₀ → InTurn rowWords s k i table
+Inv-loop2 from n table₀ k i₀ table i = (s : List (List ℕ)) → Lone from s → Level rowWords s k table₀ → InTurn rowWords s k i table
 
 abbrev μ-loop2 : tie.MeasureT-loop2
-μ-loop2 n table₀ k i₀ table i = n - i
+μ-loop2 from n table₀ k i₀ table i = n - i
 
 abbrev Inv-loop : tie.InvT-loop
-Inv-loop n table₀ k₀ table k = Level rowWords table₀ k table
+Inv-loop from n table₀ k₀ table k = Level rowWords table₀ k table
 
 abbrev μ-loop : tie.MeasureT-loop
-μ-loop n table₀ k₀ table k = n - k
+μ-loop from n table₀ k₀ table k = n - k
 
 loop-holds : tie.Need-loop-holds Inv-loop2 μ-loop2 Inv-loop μ-loop
-loop-holds c = level-seed _ _ (c .pre .1)
+loop-holds c = level-seed _ _ _ (c .pre .1) (c .pre .3)
 
 loop2-holds : tie.Need-loop2-holds Inv-loop2 μ-loop2 Inv-loop μ-loop
-loop2-holds c = λ s h. turn-begins _ _ _ _ h
+loop2-holds c = λ s lone h. turn-begins _ _ _ _ _ lone h
 
 mul-row : tie.Need-mul-row Inv-loop2 μ-loop2 Inv-loop μ-loop
 mul-row c = search needs
@@ -47,7 +48,7 @@ loop2-less c = search needs
 loop2-again : tie.Need-loop2-again Inv-loop2 μ-loop2 Inv-loop μ-loop
 loop2-again c =
     let rows-looped = c .before .before .before .before .before .loop2 in
-    λ s h. row-passed _ _ _ _ _ (rows-looped .inv s h) (holds-false _ _ (sym (c .before .has .ensures) ∙ not-true _ (c .if1 .taken)))
+    λ s lone h. row-passed _ _ _ _ _ (rows-looped .inv s lone h) (holds-false _ _ (sym (c .before .has .ensures) ∙ not-true _ (c .if1 .taken)))
 
 mul-other : tie.Need-mul-other Inv-loop2 μ-loop2 Inv-loop μ-loop
 mul-other c = search needs
@@ -58,9 +59,10 @@ array-copy-out-other c = search needs
 join-requires : tie.Need-join-requires Inv-loop2 μ-loop2 Inv-loop μ-loop
 join-requires c κs =
     let looped = c .before .before .before .before .before .before .before .before .before .before .loop in
+    let lone = c .before .before .before .before .before .before .before .before .before .before .before .pre .3 in
     let rows-looped = c .before .before .before .before .before .before .before .before .loop2 in (
-      rows-looped .inv _ (looped .inv) .shape .row (rows-looped .i) (omega arith) .width-is,
-      rows-looped .inv _ (looped .inv) .shape .row (looped .k) (omega arith) .width-is,
+      rows-looped .inv _ lone (looped .inv) .shape .row (rows-looped .i) (omega arith) .width-is,
+      rows-looped .inv _ lone (looped .inv) .shape .row (looped .k) (omega arith) .width-is,
     )
 
 mul-table : tie.Need-mul-table Inv-loop2 μ-loop2 Inv-loop μ-loop
@@ -80,7 +82,7 @@ loop2-again-2 c =
     let rows-looped = c .before .before .before .before .before .before .before .before .before .loop2 in
     let looked-up = c .before .before .before .before .before .has in
     let bit-tested = c .before .before .before .before .if1 in
-    λ s h. row-joined _ _ _ _ _ _ (c .join .ensures) (rows-looped .inv s h) (omega arith) (omega arith)
+    λ s lone h. row-joined _ _ _ _ _ _ (c .join .ensures) (rows-looped .inv s lone h) (omega arith) (omega arith)
     (holds-true _ _ (sym (looked-up .ensures) ∙ not-false _ (bit-tested .left)))
 
 add-k : tie.Need-add-k Inv-loop2 μ-loop2 Inv-loop μ-loop
@@ -93,7 +95,7 @@ loop-again : tie.Need-loop-again Inv-loop2 μ-loop2 Inv-loop μ-loop
 loop-again c =
     let required = c .before .before .before .before .pre in
     let looped = c .before .before .before .loop in
-    turn-ends _ _ _ _ _ _ (required .2) (c .before .loop2 .inv _ (looped .inv)) (c .loop2-test .left)
+    turn-ends _ _ _ _ _ _ (required .2) (c .before .loop2 .inv _ (required .3) (looped .inv)) (c .loop2-test .left)
 
 returns : tie.Need-returns Inv-loop2 μ-loop2 Inv-loop μ-loop
 returns c = closed _ _ _ _ _ (c .before .before .pre .2) (c .before .loop .inv) (c .loop-test .left)

@@ -41,6 +41,10 @@ pub record AllWithin (words : List ℕ) (n count : ℕ) : Type 0 where
 abbrev pub lastIn : List ℕ → ℕ → ℕ
 lastIn words r = elim (eqb (secondIn words r) none) [ true ↦ firstIn words r | false ↦ secondIn words r ]
 
+-- No left side of the first `count` rules is below `low`.
+pub record NotAbove (words : List ℕ) (count low : ℕ) : Type 0 where
+  pub left : (r : ℕ) → r < count → low ≤ leftIn words r
+
 -- A symbol and itself; and of each rule the two symbols that it is asked for.
 pub data Step (from to : ℕ → ℕ) (n count : ℕ) : ℕ → ℕ → Type 0 where
   own : {x : ℕ} → x < n → Step from to n count x x
@@ -74,3 +78,7 @@ pub record Across (to on : List (List ℕ)) (n x y : ℕ) : Type 0 where
   pub middle-low : middle < n
   pub first : Bit to x middle
   pub second : Bit on middle y
+
+-- In a row below `from` no bit is set but the symbol's own.
+pub record Lone (from : ℕ) (table : List (List ℕ)) : Type 0 where
+  pub alone : (x y : ℕ) → x < from → Bit table x y → y ≡ x

@@ -1,6 +1,7 @@
 -- `prediction::follow::table` meets its contract. What stands beside the symbols that a symbol ends is what follows it.
 use Rattle.prediction.proofs.Cells.{steps-low}
 use Rattle.prediction.proofs.Following.{last-low, followers}
+use native.Mathlib.Omega.{arith}
 use borrow.Author.Needs.{needs}
 use Rattle.prediction.proofs.follow.table.Statement.{statement}
 use Rattle.prediction.proofs.follow.table.Tie as tie
@@ -14,7 +15,7 @@ ends-requires c κs = search needs
 close-requires : tie.Need-close-requires
 close-requires c κs =
     let required = c .before .before .pre in
-    (required .1 .within .few, c .ends .ensures .shape, steps-low _ _ _ _ _ _ (λ r l. last-low _ _ _ r (required .1) l) (c .ends .ensures))
+    (required .1 .within .few, c .ends .ensures .shape, steps-low _ _ _ _ _ _ (λ r l. last-low _ _ _ r (required .1) l) (c .ends .ensures), record { alone = λ x y below b. absurd (omega arith) })
 
 beside-requires : tie.Need-beside-requires
 beside-requires c κs =
