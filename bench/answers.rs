@@ -1,5 +1,6 @@
 //! Answers calls of the ordinary program, for `bench/compare`. Each line of standard input is one call, as decimal numbers: which call,
-//! then the file's bytes, items, starts, rows, queue, store and tokens, each led by its length, then the state's set number, item count and used units.
+//! then the file's bytes, items, starts, rows, queue, store and tokens (the kinds of a position, the words of a run of them), each led by its length, then the
+//! state's set number, item count and used units.
 //! Each line of standard output is the answer: document 01's number, the call's own results, and all lent words.
 
 use std::io::{self, BufRead, Write};
@@ -12,6 +13,8 @@ const TOKEN: u64 = 2;
 const RUN: u64 = 3;
 const FINISHED: u64 = 4;
 const LATEST_SET: u64 = 5;
+const KINDS: u64 = 6;
+const RUN_KINDS: u64 = 7;
 
 fn number<T>(result: &Result<T, Refusal>) -> u64 {
     result.as_ref().err().map_or(0, |&refusal| refusal as u64)
@@ -47,13 +50,17 @@ fn answer(line: &str) -> Vec<u64> {
             out.push(number(&result));
             out.extend(told(result.unwrap_or(state)));
         }
-        TOKEN => {
-            let result = ordinary::token(&file, state, &mut words, tokens[0]);
+        TOKEN | KINDS => {
+            let result = match call {
+                TOKEN => ordinary::token(&file, state, &mut words, tokens[0]),
+                _ => ordinary::kinds(&file, state, &mut words, &tokens),
+            };
             out.push(number(&result));
             out.extend(told(result.unwrap_or(state)));
         }
-        RUN => {
-            let ran = ordinary::run(&file, state, &mut words, &tokens);
+        RUN | RUN_KINDS => {
+            let run = if call == RUN { ordinary::run } else { ordinary::run_kinds };
+            let ran = run(&file, state, &mut words, &tokens);
             out.push(ran.refusal.map_or(0, |refusal| refusal as u64));
             out.extend(told(ran.state));
             out.push(ran.taken as u64);

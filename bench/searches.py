@@ -11,6 +11,7 @@ import re
 import subprocess
 import sys
 import tempfile
+from itertools import islice
 
 import inputs
 import model
@@ -67,8 +68,7 @@ def parsed(file, sentences):
 def operators(levels, rng):
     """Expressions with so many levels of operators that join to the left."""
     blocks = [f"e{k}: e{k} OPERATOR{k} e{k + 1} | e{k + 1}" for k in range(levels)]
-    file = inputs.read_grammar("\n".join(blocks + [f"e{levels}: OPEN e0 CLOSE | VALUE"]))
-    tokens = sorted([f"OPERATOR{k}" for k in range(levels)] + ["OPEN", "CLOSE", "VALUE"])
+    file, tokens = inputs.read_grammar("\n".join(blocks + [f"e{levels}: OPEN e0 CLOSE | VALUE"]))
     number = {name: k for k, name in enumerate(tokens)}
 
     def expression(depth):
@@ -107,7 +107,7 @@ def one_set(seconds, rules_each, origins, rng):
 
 def mixes():
     """Name, label, rules and lookups."""
-    for name, file, short, long_one in inputs.inputs(random.Random(inputs.SEED)):
+    for name, file, short, long_one, _ in islice(inputs.inputs(random.Random(inputs.SEED)), 3):  # the mix of C-13, which had no policy
         yield name, f"{name}, long sentence", *parsed(file, [long_one])
         if name == "a":
             yield "a-short", "a, short sentences", *parsed(file, short)

@@ -1,13 +1,14 @@
-//! Times the proved library beside the ordinary program on the inputs that inputs.py wrote.
+//! Times the proved library beside the ordinary program, and beside what runs today, on the inputs that inputs.py wrote.
 //!
-//!     timing DIRECTORY                             medians of both, as the tables of docs/SPEED.md
+//!     timing DIRECTORY                             medians of all, as the tables of docs/SPEED.md
+//!     timing DIRECTORY --growth                    how the time grows: with the tokens, the items of a set, the symbols
 //!     timing DIRECTORY ENGINE GRAMMAR JOB COUNT    one job, COUNT times, for a tool that counts instructions
 //!
-//! Both are called in the same way, on the same buffers at the largest capacities; each start clears them. The time is the process's own
-//! on its processor, so that others who use the machine count little.
+//! The first two are called in the same way, on the same buffers at the largest capacities; each start clears them. What runs today is today.rs, whose parse
+//! owns its vectors. The time is the process's own on its processor, so that others who use the machine count little.
 
 use std::hint::black_box;
-use std::{env, fs, process};
+use std::{env, fs, iter, process, slice};
 
 /// The words of a row: one a set.
 const SET_ROW: usize = 8;
@@ -22,12 +23,20 @@ const UNITS: usize = 32768;
 /// A unit that holds nothing.
 const FILLER: u16 = 0xFFFF;
 
-const GRAMMARS: [&str; 3] = ["a", "b", "routing"];
-const ENGINES: [(&str, Engine); 2] = [("ordinary", ordinary_engine::ENGINE), ("proved", proved_engine::ENGINE)];
+const GRAMMARS: [&str; 4] = ["a", "b", "routing", "policy"];
+const ENGINES: [(&str, Engine); 4] = [
+    ("ordinary", Engine::Lent(ordinary_engine::CALLS)),
+    ("proved", Engine::Lent(proved_engine::CALLS)),
+    ("gearley", Engine::Today { forest: true }),
+    ("gearley_bare", Engine::Today { forest: false }),
+];
 
 /// Samples of each job, and the least microseconds of one. A sample of `reload` is all sentences once.
 const SAMPLES: usize = 11;
 const SAMPLE_MICROS: f64 = 10_000.0;
+
+/// The short sentences that are read to count instructions: as many for any COUNT, so that reading them cancels out.
+const COUNTED: usize = 200;
 
 unsafe extern "C" {
     /// C's: the processor time of this process, in microseconds where POSIX holds.
@@ -47,21 +56,28 @@ struct Parse {
     store: Vec<u16>,
 }
 
+#[derive(Clone, Copy)]
+enum Engine {
+    Lent(Calls),
+    Today { forest: bool },
+}
+
 /// The calls, answering by document 01's numbers.
 #[derive(Clone, Copy)]
-struct Engine {
+struct Calls {
     check: fn(&[u8]) -> u32,
     start: fn(&[u8], &mut Parse) -> u32,
     run: fn(&[u8], &mut Parse, &[u16]) -> (u32, usize),
+    run_kinds: fn(&[u8], &mut Parse, &[u16]) -> (u32, usize),
     /// The number, and the handle where the tokens are a sentence.
     finished: fn(&[u8], &mut Parse) -> (u32, Option<u32>),
 }
 
 mod ordinary_engine {
-    use super::{Engine, Parse};
-    use ordinary::{Refusal, State, Words};
+    use super::{Calls, Parse};
+    use ordinary::{Ran, Refusal, State, Words};
 
-    pub const ENGINE: Engine = Engine { check, start, run, finished };
+    pub const CALLS: Calls = Calls { check, start, run, run_kinds, finished };
 
     fn number<T>(result: &Result<T, Refusal>) -> u32 {
         result.as_ref().err().map_or(0, |&refusal| refusal as u32)
@@ -89,11 +105,21 @@ mod ordinary_engine {
         number(&result)
     }
 
+    fn kept(parse: &mut Parse, ran: Ran) -> (u32, usize) {
+        keep(parse, ran.state);
+        (ran.refusal.map_or(0, |refusal| refusal as u32), ran.taken)
+    }
+
     fn run(file: &[u8], parse: &mut Parse, tokens: &[u16]) -> (u32, usize) {
         let (state, mut words) = parts(parse);
         let ran = ordinary::run(file, state, &mut words, tokens);
-        keep(parse, ran.state);
-        (ran.refusal.map_or(0, |refusal| refusal as u32), ran.taken)
+        kept(parse, ran)
+    }
+
+    fn run_kinds(file: &[u8], parse: &mut Parse, positions: &[u16]) -> (u32, usize) {
+        let (state, mut words) = parts(parse);
+        let ran = ordinary::run_kinds(file, state, &mut words, positions);
+        kept(parse, ran)
     }
 
     fn finished(file: &[u8], parse: &mut Parse) -> (u32, Option<u32>) {
@@ -105,9 +131,9 @@ mod ordinary_engine {
 
 /// The static library. Each slice is a pointer and a length, as include/brinesaddle.h has it.
 mod proved_engine {
-    use super::{Engine, Parse};
+    use super::{Calls, Parse};
 
-    pub const ENGINE: Engine = Engine { check, start, run, finished };
+    pub const CALLS: Calls = Calls { check, start, run, run_kinds, finished };
 
     #[rustfmt::skip]
     unsafe extern "C" {
@@ -122,6 +148,12 @@ mod proved_engine {
             items: *mut u32, items_len: usize, starts: *mut u32, starts_len: usize,
             rows: *mut u64, rows_len: usize, queue: *mut u32, queue_len: usize, store: *mut u16, store_len: usize,
             tokens: *const u16, tokens_len: usize, taken: &mut usize,
+        ) -> u32;
+        fn brinesaddle_run_kinds(
+            file: *const u8, file_len: usize, set: &mut usize, held: &mut usize, used: &mut usize,
+            items: *mut u32, items_len: usize, starts: *mut u32, starts_len: usize,
+            rows: *mut u64, rows_len: usize, queue: *mut u32, queue_len: usize, store: *mut u16, store_len: usize,
+            positions: *const u16, positions_len: usize, taken: &mut usize,
         ) -> u32;
         fn brinesaddle_finished(
             file: *const u8, file_len: usize, set: usize, held: usize, used: usize,
@@ -158,6 +190,21 @@ mod proved_engine {
                 items.as_mut_ptr(), items.len(), starts.as_mut_ptr(), starts.len(),
                 rows.as_mut_ptr(), rows.len(), queue.as_mut_ptr(), queue.len(), store.as_mut_ptr(), store.len(),
                 tokens.as_ptr(), tokens.len(), &mut taken,
+            )
+        };
+        (number, taken)
+    }
+
+    #[rustfmt::skip]
+    fn run_kinds(file: &[u8], parse: &mut Parse, positions: &[u16]) -> (u32, usize) {
+        let Parse { set, held, used, items, starts, rows, queue, store } = parse;
+        let mut taken = 0;
+        let number = unsafe {
+            brinesaddle_run_kinds(
+                file.as_ptr(), file.len(), set, held, used,
+                items.as_mut_ptr(), items.len(), starts.as_mut_ptr(), starts.len(),
+                rows.as_mut_ptr(), rows.len(), queue.as_mut_ptr(), queue.len(), store.as_mut_ptr(), store.len(),
+                positions.as_ptr(), positions.len(), &mut taken,
             )
         };
         (number, taken)
@@ -203,24 +250,37 @@ impl Parse {
     }
 }
 
-/// A grammar with its sentences.
+/// A grammar with its sentences, and the words of the positions of the long one. Those that tell how the time grows have a long one alone.
 struct Input {
-    name: &'static str,
+    name: String,
     file: Vec<u8>,
+    today: today::Grammar,
     short: Vec<Vec<u16>>,
     long: Vec<u16>,
+    kinds: Vec<u16>,
+}
+
+fn text(path: String) -> String {
+    fs::read_to_string(&path).unwrap_or_else(|why| fail(&format!("{path}: {why}")))
+}
+
+fn numbers(line: &str) -> Vec<u16> {
+    line.split(' ').map(|number| number.parse().expect("a number")).collect()
 }
 
 impl Input {
-    fn read(directory: &str, name: &'static str) -> Input {
+    /// With so many short sentences, or all.
+    fn read(directory: &str, name: &str, most: usize) -> Input {
         let path = |kind: &str| format!("{directory}/{name}.{kind}");
-        let text = |kind| fs::read_to_string(path(kind)).unwrap_or_else(|why| fail(&format!("{}: {why}", path(kind))));
-        let sentence = |line: &str| line.split(' ').map(|token| token.parse().expect("a token")).collect();
+        let file = fs::read(path("grammar")).unwrap_or_else(|why| fail(&format!("{}: {why}", path("grammar"))));
+        let is_whole = GRAMMARS.contains(&name);
         Input {
-            name,
-            file: fs::read(path("grammar")).unwrap_or_else(|why| fail(&format!("{}: {why}", path("grammar")))),
-            short: text("short").lines().map(sentence).collect(),
-            long: sentence(text("long").trim_end()),
+            name: name.to_string(),
+            today: today::Grammar::new(&file),
+            file,
+            short: if is_whole { text(path("short")).lines().take(most).map(numbers).collect() } else { vec![] },
+            long: numbers(text(path("long")).trim_end()),
+            kinds: if is_whole { numbers(text(path("kinds")).trim_end()) } else { vec![] },
         }
     }
 }
@@ -241,9 +301,11 @@ enum Job {
     Reload,
     /// Start and a run of the long sentence.
     Long,
+    /// The same, as positions of several kinds.
+    Kinds,
 }
 
-const JOBS: [(&str, Job); 7] = [
+const JOBS: [(&str, Job); 8] = [
     ("check", Job::Check),
     ("start", Job::Start),
     ("empty", Job::Empty),
@@ -251,55 +313,126 @@ const JOBS: [(&str, Job); 7] = [
     ("finished", Job::Finished),
     ("reload", Job::Reload),
     ("long", Job::Long),
+    ("kinds", Job::Kinds),
 ];
 
-fn read_sentence(engine: Engine, input: &Input, parse: &mut Parse, tokens: &[u16]) -> Option<u32> {
-    expect((engine.start)(&input.file, parse), 0);
-    expect((engine.run)(&input.file, parse, tokens), (0, tokens.len()));
-    let (number, handle) = (engine.finished)(&input.file, parse);
+fn read_sentence(calls: Calls, input: &Input, parse: &mut Parse, tokens: &[u16]) -> Option<u32> {
+    expect((calls.start)(&input.file, parse), 0);
+    expect((calls.run)(&input.file, parse, tokens), (0, tokens.len()));
+    finished(calls, input, parse)
+}
+
+fn finished(calls: Calls, input: &Input, parse: &mut Parse) -> Option<u32> {
+    let (number, handle) = (calls.finished)(&input.file, parse);
     expect(number, 0);
     handle
 }
 
-/// Does a job `count` times, from a parse that a start or a sentence has left; answers the microseconds.
-fn timed(engine: Engine, input: &Input, job: Job, count: usize, parse: &mut Parse) -> f64 {
+/// Does a job `count` times, from a parse that a start or a sentence has left; answers the microseconds, where the engine can do it.
+fn timed(engine: Engine, input: &Input, job: Job, count: usize, parse: &mut Parse) -> Option<f64> {
+    match engine {
+        Engine::Lent(calls) => Some(timed_lent(calls, input, job, count, parse)),
+        Engine::Today { forest } => timed_today(input, job, count, forest),
+    }
+}
+
+fn timed_lent(calls: Calls, input: &Input, job: Job, count: usize, parse: &mut Parse) -> f64 {
     let file = &input.file;
     if job == Job::Finished {
-        read_sentence(engine, input, parse, &input.short[0]);
+        read_sentence(calls, input, parse, &input.short[0]);
     } else {
-        expect((engine.start)(file, parse), 0);
+        expect((calls.start)(file, parse), 0);
     }
     let begun = clock();
     for turn in 0..count {
         let file = black_box(file);
         match job {
-            Job::Check => expect((engine.check)(file), 0),
-            Job::Start => expect((engine.start)(file, parse), 0),
-            Job::Empty => expect((engine.run)(file, parse, &[]), (0, 0)),
+            Job::Check => expect((calls.check)(file), 0),
+            Job::Start => expect((calls.start)(file, parse), 0),
+            Job::Empty => expect((calls.run)(file, parse, &[]), (0, 0)),
             Job::One => {
-                expect((engine.run)(file, parse, &input.short[0][..1]), (0, 1));
+                expect((calls.run)(file, parse, &input.short[0][..1]), (0, 1));
                 parse.undo_one();
             }
-            Job::Finished => expect((engine.finished)(file, parse).1.is_some(), true),
-            Job::Reload => expect(read_sentence(engine, input, parse, &input.short[turn % input.short.len()]).is_some(), true),
+            Job::Finished => expect((calls.finished)(file, parse).1.is_some(), true),
+            Job::Reload => expect(read_sentence(calls, input, parse, &input.short[turn % input.short.len()]).is_some(), true),
             Job::Long => {
-                expect((engine.start)(file, parse), 0);
-                expect((engine.run)(file, parse, &input.long), (0, input.long.len()));
+                expect((calls.start)(file, parse), 0);
+                expect((calls.run)(file, parse, &input.long), (0, input.long.len()));
+            }
+            Job::Kinds => {
+                expect((calls.start)(file, parse), 0);
+                expect((calls.run_kinds)(file, parse, &input.kinds), (0, input.long.len()));
             }
         }
     }
     (clock() - begun) as f64
 }
 
-/// Both leave the same words and nodes behind each of the first short sentences, and behind the long one.
+/// What runs today has no check of a grammar or a state. Its tables are made before, and a parse is started anew each time.
+fn timed_today(input: &Input, job: Job, count: usize, forest: bool) -> Option<f64> {
+    if matches!(job, Job::Check | Job::Empty | Job::One | Job::Finished) {
+        return None;
+    }
+    let begun = clock();
+    for turn in 0..count {
+        let today = black_box(&input.today);
+        let ended = match job {
+            Job::Reload => today.read(forest, single(&input.short[turn % input.short.len()])),
+            Job::Long => today.read(forest, single(&input.long)),
+            Job::Kinds => today.read(forest, Positions(&input.kinds)),
+            _ => today.read(forest, iter::empty()),
+        };
+        expect(black_box(ended).finished, job == Job::Reload || ended.finished);
+    }
+    Some((clock() - begun) as f64)
+}
+
+/// Each token as a position.
+fn single(tokens: &[u16]) -> impl Iterator<Item = &[u16]> {
+    tokens.iter().map(slice::from_ref)
+}
+
+/// The positions in words that cut none off.
+struct Positions<'a>(&'a [u16]);
+
+impl<'a> Iterator for Positions<'a> {
+    type Item = &'a [u16];
+
+    fn next(&mut self) -> Option<&'a [u16]> {
+        let (&count, rest) = self.0.split_first()?;
+        let (kinds, rest) = rest.split_at(usize::from(count));
+        self.0 = rest;
+        Some(kinds)
+    }
+}
+
+/// Both leave the same words and nodes behind each of the first short sentences, behind the long one and behind its positions; and what runs today the same number
+/// of sets and items.
 fn agree(input: &Input) {
-    let [(_, ordinary), (_, proved)] = ENGINES;
-    let (mut theirs, mut ours) = (Parse::new(), Parse::new());
+    let both = [ordinary_engine::CALLS, proved_engine::CALLS];
+    let mut parses = [Parse::new(), Parse::new()];
     for tokens in input.short.iter().take(200).chain([&input.long]) {
-        let answers = [(ordinary, &mut theirs), (proved, &mut ours)].map(|(engine, parse)| read_sentence(engine, input, parse, tokens));
-        if answers[0] != answers[1] || theirs != ours {
-            fail(&format!("the two part on grammar {}: {tokens:?}", input.name));
-        }
+        let answers = [0, 1].map(|k| read_sentence(both[k], input, &mut parses[k], tokens));
+        compare(input, answers, &parses, |forest| input.today.read(forest, single(tokens)));
+    }
+    if !input.kinds.is_empty() {
+        let answers = [0, 1].map(|k| {
+            expect((both[k].start)(&input.file, &mut parses[k]), 0);
+            expect((both[k].run_kinds)(&input.file, &mut parses[k], &input.kinds), (0, input.long.len()));
+            finished(both[k], input, &mut parses[k])
+        });
+        compare(input, answers, &parses, |forest| input.today.read(forest, Positions(&input.kinds)));
+    }
+}
+
+fn compare(input: &Input, answers: [Option<u32>; 2], parses: &[Parse; 2], read_today: impl Fn(bool) -> today::Ended) {
+    if answers[0] != answers[1] || parses[0] != parses[1] {
+        fail(&format!("the two part on grammar {}", input.name));
+    }
+    let due = today::Ended { set: parses[0].set, items: parses[0].held, finished: answers[0].is_some() };
+    for forest in [false, true] {
+        expect(read_today(forest), due);
     }
 }
 
@@ -308,42 +441,76 @@ fn median(mut samples: Vec<f64>) -> f64 {
     samples[samples.len() / 2]
 }
 
-/// The medians of both, in microseconds a job. Their samples alternate.
-fn medians(input: &Input, job: Job) -> [f64; 2] {
+/// Microseconds of a job, or nothing where the engine cannot do it.
+type Times = [Option<f64>; ENGINES.len()];
+
+/// The medians of all, a job. Their samples alternate.
+fn medians(input: &Input, job: Job) -> Times {
     let mut parse = Parse::new();
     let trial = 10;
-    let once = timed(ENGINES[0].1, input, job, trial, &mut parse) / trial as f64;
+    let once = timed(ENGINES[0].1, input, job, trial, &mut parse).map_or(0.0, |time| time / trial as f64);
     let count = match job {
         Job::Reload => input.short.len(),
         _ => (SAMPLE_MICROS / once.max(0.1)).ceil() as usize,
     };
     let samples = if job == Job::Reload { SAMPLES / 2 } else { SAMPLES };
-    let mut times = [vec![], vec![]];
+    let mut times = ENGINES.map(|_| vec![]);
     for _ in 0..samples {
-        for (engine, times) in ENGINES.iter().zip(&mut times) {
-            times.push(timed(engine.1, input, job, count, &mut parse) / count as f64);
+        for ((_, engine), times) in ENGINES.iter().zip(&mut times) {
+            times.extend(timed(*engine, input, job, count, &mut parse).map(|time| time / count as f64));
         }
     }
-    times.map(median)
+    times.map(|times| (!times.is_empty()).then(|| median(times)))
+}
+
+/// What the tokens of a long run take: less the start, and less the checks and the table of a run.
+fn tokens_of(long: Times, start: Times, empty: Times, count: usize) -> Times {
+    std::array::from_fn(|k| Some((long[k]? - start[k]? - empty[k].unwrap_or(0.0)) / count as f64))
+}
+
+fn heading(title: &str) {
+    println!("\n| {title} | ordinary | proved | ratio | gearley | ratio | without its forest | ratio |\n|---|---|---|---|---|---|---|---|");
+}
+
+/// A row: the proved library's ratio to each of the others.
+fn row(label: &str, [ordinary, proved, gearley, bare]: Times) {
+    let told = |time: Option<f64>| time.map_or(String::new(), |time| format!("{time:.3}"));
+    let ratio = |other: Option<f64>| proved.zip(other).map_or(String::new(), |(ours, theirs)| format!("{:.2}", ours / theirs));
+    println!(
+        "| {label} | {} | {} | {} | {} | {} | {} | {} |",
+        told(ordinary), told(proved), ratio(ordinary), told(gearley), ratio(gearley), told(bare), ratio(bare)
+    );
 }
 
 fn report(directory: &str) {
     for name in GRAMMARS {
-        let input = Input::read(directory, name);
+        let input = Input::read(directory, name, usize::MAX);
         agree(&input);
-        println!("\n| {name}, µs | ordinary | proved | ratio |\n|---|---|---|---|");
-        let mut before = [0.0; 2];
-        for (label, job) in JOBS {
-            let [theirs, ours] = medians(&input, job);
-            println!("| {label} | {theirs:.2} | {ours:.2} | {:.2} |", ours / theirs);
-            if matches!(job, Job::Start | Job::Empty) {
-                before = [before[0] + theirs, before[1] + ours];
-            }
-            if job == Job::Long {
-                let count = input.long.len() as f64;
-                let [theirs, ours] = [(theirs - before[0]) / count, (ours - before[1]) / count];
-                println!("| a token of the long run | {theirs:.3} | {ours:.3} | {:.2} |", ours / theirs);
-            }
+        heading(&format!("{name}, µs"));
+        let times = JOBS.map(|(label, job)| {
+            let times = medians(&input, job);
+            row(label, times);
+            times
+        });
+        let [_, start, empty, .., long, kinds] = times;
+        row("a token of the long run", tokens_of(long, start, empty, input.long.len()));
+        row("a position of several kinds", tokens_of(kinds, start, empty, input.long.len()));
+    }
+}
+
+fn growth(directory: &str) {
+    heading("a token, µs");
+    for name in text(format!("{directory}/growth")).lines() {
+        let input = Input::read(directory, name, usize::MAX);
+        agree(&input);
+        let [start, empty, long] = [Job::Start, Job::Empty, Job::Long].map(|job| medians(&input, job));
+        row(name, tokens_of(long, start, empty, input.long.len()));
+    }
+    heading("a call, µs");
+    for name in GRAMMARS {
+        let input = Input::read(directory, name, usize::MAX);
+        for (label, job) in JOBS.into_iter().filter(|(_, job)| matches!(job, Job::Check | Job::Start | Job::Empty | Job::One)) {
+            row(&format!("{name}: {label}"), medians(&input, job));
         }
     }
 }
@@ -368,12 +535,13 @@ fn main() {
     let words: Vec<&str> = arguments.iter().map(String::as_str).collect();
     match words[..] {
         [directory] => report(directory),
+        [directory, "--growth"] => growth(directory),
         [directory, engine, grammar, job, count] => {
-            let known = GRAMMARS.map(|name| (name, name));
-            let input = Input::read(directory, named(&known, grammar));
             let count = count.parse().unwrap_or_else(|_| fail("COUNT is a number"));
-            timed(named(&ENGINES, engine), &input, named(&JOBS, job), count, &mut Parse::new());
+            let input = Input::read(directory, grammar, COUNTED);
+            let done = timed(named(&ENGINES, engine), &input, named(&JOBS, job), count, &mut Parse::new());
+            done.unwrap_or_else(|| fail(&format!("{engine} has no {job}")));
         }
-        _ => fail("usage: timing DIRECTORY [ENGINE GRAMMAR JOB COUNT]"),
+        _ => fail("usage: timing DIRECTORY [--growth | ENGINE GRAMMAR JOB COUNT]"),
     }
 }

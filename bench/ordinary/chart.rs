@@ -1,6 +1,6 @@
 //! The lent words within their capacities, as items, set starts, predicted rows, queue and store.
 
-use std::ops::Range;
+use std::ops::{BitOr, BitXor, Range};
 
 use crate::grammar::{is_below, Grammar, Row, NONE, ROW_WORDS};
 use crate::nodes::{Heads, FILLER};
@@ -72,11 +72,11 @@ impl<'a> Chart<'a> {
             && self.has_fit_starts(e, count)
             && (0..=e).all(|k| self.has_fit_items(grammar, k))
             && self.rows[..=e].iter().all(|row| is_below(row, grammar.symbols))
-            && self.items[count..].iter().all(|item| *item == [0; 3])
-            && self.starts[e + 2..].iter().all(|word| *word == 0)
-            && self.rows[e + 1..].iter().all(|row| *row == [0; ROW_WORDS])
-            && self.queue.iter().all(|entry| *entry == [0; 2])
-            && self.store[used..].iter().all(|unit| *unit == FILLER)
+            && are_all(self.items[count..].as_flattened(), 0)
+            && are_all(&self.starts[e + 2..], 0)
+            && are_all(self.rows[e + 1..].as_flattened(), 0)
+            && are_all(self.queue.as_flattened(), 0)
+            && are_all(&self.store[used..], FILLER)
             && Heads::of(&self.store[..used]).is_some_and(|heads| self.items[..count].iter().all(|&[_, _, handle]| heads.has(handle)))
     }
 
@@ -94,12 +94,17 @@ impl<'a> Chart<'a> {
     }
 }
 
+/// Whether all words are this one. There is no exit on the way, so that many are looked at at a time.
+fn are_all<T: Copy + Default + PartialEq + BitXor<Output = T> + BitOr<Output = T>>(words: &[T], due: T) -> bool {
+    words.iter().fold(T::default(), |differing, &word| differing | (word ^ due)) == T::default()
+}
+
 /// The order of the items in the queue: origin, rule.
 pub fn queue_order([origin, rule, _]: Item) -> u64 {
     u64::from(origin) << 32 | u64::from(rule)
 }
 
-/// The order of the items in a set: second (none last), rule, origin.
-pub fn set_order(grammar: &Grammar, [origin, rule, _]: Item) -> (u16, u32, u32) {
-    (grammar.rules[rule as usize].second, rule, origin)
+/// The order of the items in a set: second (none last), rule, origin. Rules and origins of stored items are below 65,536.
+pub fn set_order(grammar: &Grammar, [origin, rule, _]: Item) -> u64 {
+    u64::from(grammar.rules[rule as usize].second) << 32 | u64::from(rule) << 16 | u64::from(origin)
 }

@@ -16,11 +16,17 @@ pub const NONE: u16 = 0xFFFF;
 /// A set of symbols: symbol s is bit s % 64 of word s / 64.
 pub type Row = [u64; ROW_WORDS];
 
-#[derive(Clone, Copy, PartialEq, Eq)]
+#[derive(Clone, Copy)]
 pub struct Rule {
     pub left: u16,
     pub first: u16,
     pub second: u16,
+}
+
+impl Rule {
+    fn word(&self) -> u64 {
+        u64::from(self.left) << 32 | u64::from(self.first) << 16 | u64::from(self.second)
+    }
 }
 
 pub struct Grammar {
@@ -132,18 +138,19 @@ impl Grammar {
         true
     }
 
-    /// Whether two rules are equal: all pairs are looked at, up to the first that is.
+    /// Whether two rules are equal: all pairs are looked at, up to the first that is. As single words, which are compared faster.
     fn has_equal_pair(&self) -> bool {
-        (1..self.rules.len()).any(|r| self.rules[..r].contains(&self.rules[r]))
+        let words: Vec<u64> = self.rules.iter().map(Rule::word).collect();
+        (1..words.len()).any(|r| words[..r].contains(&words[r]))
     }
 
-    /// Whether every nonterminal derives some string of tokens.
+    /// Whether every nonterminal derives some string of tokens. Rules of one symbol lead to later ones, so that it goes from the last rule to the first.
     fn is_productive(&self) -> bool {
         let mut marked = [false; MAX_SYMBOLS];
         marked[..self.tokens].fill(true);
         loop {
             let mut changed = false;
-            for rule in &self.rules[1..] {
+            for rule in self.rules[1..].iter().rev() {
                 let left = usize::from(rule.left);
                 if !marked[left]
                     && marked[usize::from(rule.first)]
@@ -159,33 +166,49 @@ impl Grammar {
         }
     }
 
-    /// Whether every nonterminal is reachable from S.
+    /// Whether every nonterminal is reachable from S. The rules of one left side are adjacent by now.
     fn is_reachable(&self) -> bool {
+        let mut begins = vec![self.rules.len(); self.symbols];
+        for (number, rule) in self.rules.iter().enumerate().rev() {
+            begins[usize::from(rule.left)] = number;
+        }
         let mut marked = [false; MAX_SYMBOLS];
         marked[usize::from(self.rules[0].first)] = true;
-        loop {
-            let mut changed = false;
-            for rule in &self.rules[1..] {
-                if !marked[usize::from(rule.left)] {
-                    continue;
-                }
+        let mut due = vec![self.rules[0].first];
+        while let Some(left) = due.pop() {
+            for rule in self.rules[begins[usize::from(left)]..].iter().take_while(|rule| rule.left == left) {
                 for symbol in [rule.first, rule.second] {
                     if symbol != NONE && !marked[usize::from(symbol)] {
                         marked[usize::from(symbol)] = true;
-                        changed = true;
+                        due.push(symbol);
                     }
                 }
             }
-            if !changed {
-                return marked[self.tokens..self.wrapper()].iter().all(|&mark| mark);
+        }
+        marked[self.tokens..self.wrapper()].iter().all(|&mark| mark)
+    }
+
+    /// What W begins with: its row of the table, without the others.
+    pub fn beginnings(&self) -> Row {
+        let mut row = [0; ROW_WORDS];
+        add(&mut row, self.wrapper());
+        loop {
+            let before = row;
+            for rule in &self.rules {
+                if holds(&row, usize::from(rule.left)) {
+                    add(&mut row, usize::from(rule.first));
+                }
+            }
+            if row == before {
+                return row;
             }
         }
     }
 
     /// The prediction table: row X holds X and every symbol reached from X by first symbols.
-    pub fn table(&self) -> [Row; MAX_SYMBOLS] {
-        let mut table = [[0; ROW_WORDS]; MAX_SYMBOLS];
-        for (symbol, row) in table[..self.symbols].iter_mut().enumerate() {
+    pub fn table(&self) -> Vec<Row> {
+        let mut table = vec![[0; ROW_WORDS]; self.symbols];
+        for (symbol, row) in table.iter_mut().enumerate() {
             add(row, symbol);
         }
         for rule in &self.rules {
@@ -194,7 +217,7 @@ impl Grammar {
         // Warshall's order. A token leads nowhere.
         for through in self.tokens..self.symbols {
             let reached = table[through];
-            for row in &mut table[self.tokens..self.symbols] {
+            for row in &mut table[self.tokens..] {
                 if holds(row, through) {
                     unite(row, &reached);
                 }
@@ -204,29 +227,31 @@ impl Grammar {
     }
 
     pub fn by_first(&self) -> ByFirst {
-        ByFirst::new(&self.rules)
+        ByFirst::new(self)
     }
 }
 
 /// The rules of each first symbol, those of one symbol apart from those of two, in number order.
 pub struct ByFirst {
-    begins: [u16; 2 * MAX_SYMBOLS + 1],
-    numbers: [u16; MAX_RULES],
+    begins: Vec<u16>,
+    numbers: Vec<u16>,
 }
 
 impl ByFirst {
-    fn new(rules: &[Rule]) -> ByFirst {
+    fn new(grammar: &Grammar) -> ByFirst {
         let class = |rule: &Rule| 2 * usize::from(rule.first) + usize::from(rule.second != NONE);
-        let mut begins = [0; 2 * MAX_SYMBOLS + 1];
-        for rule in rules {
+        let mut begins = vec![0; 2 * grammar.symbols + 1];
+        for rule in &grammar.rules {
             begins[class(rule) + 1] += 1;
         }
-        for class in 0..2 * MAX_SYMBOLS {
-            begins[class + 1] += begins[class];
+        let mut begin = 0;
+        for place in &mut begins {
+            begin += *place;
+            *place = begin;
         }
-        let mut numbers = [0; MAX_RULES];
-        let mut places = begins;
-        for (number, rule) in rules.iter().enumerate() {
+        let mut numbers = vec![0; grammar.rules.len()];
+        let mut places = begins.clone();
+        for (number, rule) in grammar.rules.iter().enumerate() {
             let place = &mut places[class(rule)];
             numbers[usize::from(*place)] = number as u16;
             *place += 1;

@@ -99,13 +99,13 @@ fn length_at(units: &[u16], at: usize) -> Option<usize> {
     is_node.then_some(length)
 }
 
-/// A bit for each unit that there can be.
-pub struct Heads([u64; 512]);
+/// A bit for each unit.
+pub struct Heads(Vec<u64>);
 
 impl Heads {
     /// The heads of the nodes met from 0 to the end of the units, if all are nodes or fillers.
     pub fn of(units: &[u16]) -> Option<Heads> {
-        let mut heads = Heads([0; 512]);
+        let mut heads = Heads(vec![0; units.len().div_ceil(64)]);
         let mut at = 0;
         while at < units.len() {
             if units[at] == FILLER {

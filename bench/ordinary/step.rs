@@ -1,29 +1,37 @@
-//! One token, by document 01's steps.
+//! One position, by document 01's steps.
 
 use crate::chart::{set_order, Chart, Entry, Item};
-use crate::grammar::{holds, unite, ByFirst, Grammar, Row, MAX_SYMBOLS, NONE, ROW_WORDS};
+use crate::grammar::{holds, unite, ByFirst, Grammar, Row, NONE, ROW_WORDS};
 use crate::nodes::{self, Units, FILLER, NO_FACTOR};
 use crate::{queue, Refusal, State};
 
-/// A token on a well-formed state. A refusal leaves the words as they were.
-pub fn step(
-    grammar: &Grammar,
-    by_first: &ByFirst,
-    table: &[Row; MAX_SYMBOLS],
-    chart: &mut Chart,
-    state: State,
-    token: usize,
-) -> Result<State, Refusal> {
-    if token >= grammar.tokens {
+/// A grammar with what is worked out from it once a call.
+pub struct Tables<'g> {
+    grammar: &'g Grammar,
+    by_first: ByFirst,
+    predicted: Vec<Row>,
+}
+
+impl<'g> Tables<'g> {
+    pub fn new(grammar: &'g Grammar) -> Tables<'g> {
+        Tables { grammar, by_first: grammar.by_first(), predicted: grammar.table() }
+    }
+}
+
+/// A position on a well-formed state, with a list to work in. A refusal leaves the words as they were.
+pub fn step(tables: &Tables, chart: &mut Chart, summands: &mut Vec<Entry>, state: State, kinds: &[u16]) -> Result<State, Refusal> {
+    let is_token = |kind: &u16| usize::from(*kind) < tables.grammar.tokens;
+    if kinds.is_empty() || !kinds.iter().all(is_token) || !kinds.is_sorted_by(|a, b| a < b) {
         return Err(Refusal::NoToken);
     }
-    if !holds(&chart.rows[state.set], token) {
+    let row = &chart.rows[state.set];
+    if !kinds.iter().any(|&kind| holds(row, usize::from(kind))) {
         return Err(Refusal::NotPredicted);
     }
-    let mut pass = Pass { grammar, by_first, chart, stored: state.items, queued: 0, used: state.used };
-    let completed = pass.complete_token(state.set, token).and_then(|()| pass.complete_sums());
+    let mut pass = Pass { tables, chart, stored: state.items, queued: 0, used: state.used, summands };
+    let completed = pass.complete_position(state.set, kinds).and_then(|()| pass.complete_sums());
     let Pass { stored, queued, used, .. } = pass;
-    let advanced = completed.and_then(|()| advance(grammar, table, chart, State { used, ..state }, stored));
+    let advanced = completed.and_then(|()| advance(tables, chart, State { used, ..state }, stored));
     if advanced.is_err() {
         chart.items[state.items..stored].fill([0; 3]);
         chart.queue[..queued].fill([0; 2]);
@@ -34,12 +42,13 @@ pub fn step(
 
 /// Steps 2 and 3: items are stored behind those of the sets, completed ones queued, and nodes written behind the used units.
 struct Pass<'p, 'c> {
-    grammar: &'p Grammar,
-    by_first: &'p ByFirst,
+    tables: &'p Tables<'p>,
     chart: &'p mut Chart<'c>,
     stored: usize,
     queued: usize,
     used: usize,
+    /// The entries of the sum that is being completed.
+    summands: &'p mut Vec<Entry>,
 }
 
 impl Pass<'_, '_> {
@@ -66,9 +75,15 @@ impl Pass<'_, '_> {
         Ok(())
     }
 
-    fn complete_token(&mut self, k: usize, token: usize) -> Result<(), Refusal> {
-        let link = self.append(nodes::evaluated(token as u16))?;
-        self.complete(k, token, link)
+    /// Each kind that is predicted, in rising order, behind its node. The others leave no trace.
+    fn complete_position(&mut self, k: usize, kinds: &[u16]) -> Result<(), Refusal> {
+        for &kind in kinds {
+            if holds(&self.chart.rows[k], usize::from(kind)) {
+                let link = self.append(nodes::evaluated(kind))?;
+                self.complete(k, usize::from(kind), link)?;
+            }
+        }
+        Ok(())
     }
 
     /// Completes a symbol whose node is `link`.
@@ -77,7 +92,7 @@ impl Pass<'_, '_> {
         if !holds(&row, symbol) {
             return Ok(());
         }
-        let second = |item: &Item| usize::from(self.grammar.rules[item[1] as usize].second);
+        let second = |item: &Item| usize::from(self.tables.grammar.rules[item[1] as usize].second);
         let places = self.chart.places(k);
         let set = self.chart.set(k);
         let from = set.partition_point(|item| second(item) < symbol);
@@ -86,14 +101,14 @@ impl Pass<'_, '_> {
         for place in first..first + count {
             self.enqueue(place, link)?;
         }
-        let predicted = |number: u16| holds(&row, usize::from(self.grammar.rules[usize::from(number)].left));
-        for &number in self.by_first.unary(symbol) {
+        let predicted = |number: u16| holds(&row, usize::from(self.tables.grammar.rules[usize::from(number)].left));
+        for &number in self.tables.by_first.unary(symbol) {
             if predicted(number) {
                 self.store([k as u32, u32::from(number), link])?;
                 self.enqueue(self.stored - 1, NO_FACTOR)?;
             }
         }
-        for &number in self.by_first.binary(symbol) {
+        for &number in self.tables.by_first.binary(symbol) {
             if predicted(number) {
                 self.store([k as u32, u32::from(number), link])?;
             }
@@ -103,27 +118,24 @@ impl Pass<'_, '_> {
 
     /// The origin and the left side of the greatest entry.
     fn next_sum(&self) -> Option<(u32, u16)> {
-        if self.queued == 0 {
-            return None;
-        }
-        Some(self.sum_of(self.chart.queue[0]))
-    }
-
-    fn sum_of(&self, [place, _]: Entry) -> (u32, u16) {
+        let [place, _] = *self.chart.queue[..self.queued].first()?;
         let [origin, rule, _] = self.chart.items[place as usize];
-        (origin, self.grammar.rules[rule as usize].left)
+        Some((origin, self.tables.grammar.rules[rule as usize].left))
     }
 
     fn complete_sums(&mut self) -> Result<(), Refusal> {
         while let Some(sum) = self.next_sum() {
-            let (origin, left) = sum;
-            let summands = self.chart.queue[..self.queued].iter().filter(|&&entry| self.sum_of(entry) == sum).count();
-            let link = self.append(nodes::sum(summands as u32, u32::from(left)))?;
-            for _ in 0..summands {
-                let [place, right] = self.chart.queue[0];
-                let [_, rule, handle] = self.chart.items[place as usize];
+            self.summands.clear();
+            while self.next_sum() == Some(sum) {
+                self.summands.push(self.chart.queue[0]);
                 queue::pop(self.chart.queue, self.queued, self.chart.items);
                 self.queued -= 1;
+            }
+            let (origin, left) = sum;
+            let link = self.append(nodes::sum(self.summands.len() as u32, u32::from(left)))?;
+            for k in 0..self.summands.len() {
+                let [place, right] = self.summands[k];
+                let [_, rule, handle] = self.chart.items[place as usize];
                 self.append(nodes::product(self.used as u32, rule, handle, right))?;
             }
             self.complete(origin as usize, usize::from(left), link)?;
@@ -133,16 +145,11 @@ impl Pass<'_, '_> {
 }
 
 /// Steps 4 to 6, where the items behind those of the state, up to `stored`, are new.
-fn advance(
-    grammar: &Grammar,
-    table: &[Row; MAX_SYMBOLS],
-    chart: &mut Chart,
-    state: State,
-    stored: usize,
-) -> Result<State, Refusal> {
+fn advance(tables: &Tables, chart: &mut Chart, state: State, stored: usize) -> Result<State, Refusal> {
+    let grammar = tables.grammar;
     let new = &mut chart.items[state.items..stored];
-    new.sort_unstable_by_key(|&item| set_order(grammar, item));
-    let count = new.partition_point(|&[_, rule, _]| grammar.rules[rule as usize].second != NONE);
+    let count = keep_binary(grammar, new);
+    new[..count].sort_unstable_by_key(|&item| set_order(grammar, item));
     let greatest = new[..count].iter().map(|&[origin, ..]| origin as usize).max().unwrap_or(state.set);
     let pruned = state.set - greatest > 1;
     let kept = if pruned { greatest + 1 } else { state.set };
@@ -159,8 +166,25 @@ fn advance(
     let end = begin + count;
     chart.items[end..stored].fill([0; 3]);
     chart.starts[kept + 2] = end as u32;
+    let row = &mut chart.rows[kept + 1];
     for &[_, rule, _] in &chart.items[begin..end] {
-        unite(&mut chart.rows[kept + 1], &table[usize::from(grammar.rules[rule as usize].second)]);
+        let second = usize::from(grammar.rules[rule as usize].second);
+        // A row that holds a symbol holds all that it leads to.
+        if !holds(row, second) {
+            unite(row, &tables.predicted[second]);
+        }
     }
     Ok(State { set: kept + 1, items: end, used: state.used })
+}
+
+/// Moves the items whose rule has a second symbol to the front, and answers how many they are.
+fn keep_binary(grammar: &Grammar, items: &mut [Item]) -> usize {
+    let mut count = 0;
+    for at in 0..items.len() {
+        if grammar.rules[items[at][1] as usize].second != NONE {
+            items[count] = items[at];
+            count += 1;
+        }
+    }
+    count
 }

@@ -1,42 +1,49 @@
-//! Stand-in for the crate `bit_matrix`: rows of bits. Symbol s is bit s % 64, from the low end, of block s / 64 of a row.
+//! Stand-in for the crate `bit_matrix`: rows of bits, one behind the other. Symbol s is bit s % 64, from the low end, of block s / 64 of a row.
 
-use std::ops::{Deref, DerefMut, Index, IndexMut};
+use std::ops::{Deref, DerefMut, Index, IndexMut, Range};
 
 const BITS: usize = 64;
 
 #[derive(Clone)]
 pub struct BitMatrix {
-    rows: Vec<BitRow>,
+    blocks: Vec<u64>,
     columns: usize,
 }
 
-#[derive(Clone)]
+#[repr(transparent)]
 pub struct BitRow {
-    blocks: Vec<u64>,
+    blocks: [u64],
 }
 
 impl BitMatrix {
     pub fn new(rows: usize, columns: usize) -> Self {
-        let mut matrix = BitMatrix { rows: vec![], columns };
+        let mut matrix = BitMatrix { blocks: vec![], columns };
         matrix.grow(rows, false);
         matrix
     }
 
+    fn row_blocks(&self) -> usize {
+        (self.columns + BITS - 1) / BITS
+    }
+
+    fn place(&self, row: usize) -> Range<usize> {
+        row * self.row_blocks()..(row + 1) * self.row_blocks()
+    }
+
     pub fn grow(&mut self, more_rows: usize, value: bool) {
         assert!(!value, "the recognizer grows by zero rows only");
-        let blocks = (self.columns + BITS - 1) / BITS;
-        for _ in 0..more_rows {
-            self.rows.push(BitRow { blocks: vec![0; blocks] });
-        }
+        let length = self.blocks.len() + more_rows * self.row_blocks();
+        self.blocks.resize(length, 0);
     }
 
     pub fn truncate(&mut self, rows: usize) {
-        self.rows.truncate(rows);
+        let length = rows * self.row_blocks();
+        self.blocks.truncate(length);
     }
 
     pub fn set(&mut self, row: usize, column: usize, value: bool) {
         assert!(column < self.columns);
-        let block = &mut self.rows[row].blocks[column / BITS];
+        let block = &mut self[row].blocks[column / BITS];
         let bit = 1 << (column % BITS);
         if value {
             *block |= bit;
@@ -46,11 +53,12 @@ impl BitMatrix {
     }
 
     pub fn transitive_closure(&mut self) {
-        for middle in 0..self.rows.len() {
-            let reached = self.rows[middle].clone();
-            for row in &mut self.rows {
-                if row.get(middle) {
-                    for (to, from) in row.blocks.iter_mut().zip(&reached.blocks) {
+        let rows = self.columns;
+        for middle in 0..rows {
+            let reached = self[middle].to_vec();
+            for row in 0..rows {
+                if self[row].get(middle) {
+                    for (to, from) in self[row].iter_mut().zip(&reached) {
                         *to |= *from;
                     }
                 }
@@ -59,7 +67,7 @@ impl BitMatrix {
     }
 
     pub fn iter_row(&self, row: usize) -> row::Iter {
-        row::Iter::new(&self.rows[row], self.columns)
+        row::Iter::new(&self[row], self.columns)
     }
 }
 
@@ -67,13 +75,15 @@ impl Index<usize> for BitMatrix {
     type Output = BitRow;
 
     fn index(&self, row: usize) -> &BitRow {
-        &self.rows[row]
+        // A row is laid out as its blocks.
+        unsafe { &*(&self.blocks[self.place(row)] as *const [u64] as *const BitRow) }
     }
 }
 
 impl IndexMut<usize> for BitMatrix {
     fn index_mut(&mut self, row: usize) -> &mut BitRow {
-        &mut self.rows[row]
+        let place = self.place(row);
+        unsafe { &mut *(&mut self.blocks[place] as *mut [u64] as *mut BitRow) }
     }
 }
 
