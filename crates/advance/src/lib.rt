@@ -1,4 +1,6 @@
 // Steps 4 to 6: the new items become a set.
+#![tactic(auto)]
+
 ghost use Rattle.std.specs.Prelude.{◌-◌};
 ghost use Rattle.grammar.specs.inner.Decoded.{rules_in};
 ghost use Rattle.advance.specs.NewItems.{items_from};
@@ -22,7 +24,7 @@ pub mod sort;
 pub mod unary;
 
 // What the steps answer: the new set would have no room (9), or the state with it.
-#[derive(Drop)]
+#[derive(Clone, Copy)]
 pub enum Advanced {
     Refused,
     Done(State),

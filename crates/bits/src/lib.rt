@@ -1,5 +1,7 @@
 // Rows of symbols, as bits in words: test one symbol, add one, join two rows.
 // Symbol s is bit s % 64, from the low end, of word s / 64 of its row.
+#![tactic(auto)]
+
 ghost use Rattle.std.specs.Prelude.{◌≡◌, ℕ, ◌+◌, ◌*◌, ◌≤◌, ◌<◌, length};
 ghost use Rattle.laws.specs.Bits.{word_bits, holds, union, adding, row_of, with_row};
 ghost use Rattle.bits.specs.Width.{row_words};

@@ -18,7 +18,7 @@ const SETS_FULL: u32 = 9;
 const STORE_FULL: u32 = 14;
 
 // Where the engines part: nowhere, or which of the two says yes.
-#[derive(Drop)]
+#[derive(Clone, Copy)]
 pub enum Parting {
     Nowhere,
     MainYes,
@@ -26,7 +26,7 @@ pub enum Parting {
 }
 
 // On how many beginnings they agreed; the main engine's refusal, 0 where there is none; and where they part, on the beginning behind those.
-#[derive(Drop)]
+#[derive(Clone, Copy)]
 pub struct Compared {
     pub agreed: usize,
     pub stopped: u32,

@@ -28,7 +28,7 @@ const STORE: usize = parse::room::UNITS;
 const TABLE: usize = bits::WIDTH * (TOKENS * (TOKENS + 1) / 2);
 
 // What the main engine makes of a token string: its refusal's number, 0 where there is none, and whether all tokens are taken and finished.
-#[derive(Drop)]
+#[derive(Clone, Copy)]
 pub struct Said {
     pub number: u32,
     pub yes: bool,

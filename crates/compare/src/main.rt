@@ -1,5 +1,7 @@
 // Standard input is a grammar file, then two bytes a token, at most 32 tokens. Both engines read every beginning of them; the answer is where they
 // first part, or one line on a grammar or on tokens that are refused.
+#![tactic(auto)]
+
 mod beginnings;
 mod engines;
 mod text;

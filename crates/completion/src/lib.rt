@@ -1,4 +1,6 @@
 // Steps 2 and 3: completing pairs of a set and a symbol.
+#![tactic(auto)]
+
 pub mod medial;
 pub mod pass;
 pub mod predictions;
@@ -17,7 +19,7 @@ use grammar::rules::Rules;
 
 // How far a completion pass has come: the refusal that it met, or 0; the items stored so far, those of the sets included; the entries of the
 // queue; the used units of the store.
-#[derive(Drop)]
+#[derive(Clone, Copy)]
 pub struct Progress {
     pub stopped: u32,
     pub items: usize,

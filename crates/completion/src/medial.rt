@@ -13,7 +13,7 @@ use grammar::rules::Rules;
 use item::wide;
 
 // The items of a set whose second is a symbol: their first place, and their number.
-#[derive(Drop)]
+#[derive(Clone, Copy)]
 pub struct Range {
     pub first: usize,
     pub number: usize,

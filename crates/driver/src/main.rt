@@ -1,4 +1,6 @@
 // Standard input is a grammar file, then two bytes a token. The answer is four lines, or one on a grammar that is refused.
+#![tactic(auto)]
+
 mod text;
 mod tokens;
 

@@ -1,4 +1,6 @@
 // The grammar file, version 1: its header, its rules decoded into words, and its check.
+#![tactic(auto)]
+
 ghost use Rattle.laws.specs.Decides.{Decides};
 ghost use Rattle.grammar.specs.Accepted as asked;
 ghost use Rattle.grammar.specs.Answers.{Verdict, number_of};
@@ -25,7 +27,7 @@ use crate::reachable::all_reachable;
 use crate::rules::{Rules, decode};
 
 // What the check answers.
-#[derive(Drop)]
+#[derive(Clone, Copy)]
 pub enum Checked {
     Accepted,
     Malformed,

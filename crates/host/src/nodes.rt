@@ -15,7 +15,7 @@ const NULLING_LEAF: u32 = 2;
 const EVALUATED: u32 = 3;
 
 // What five numbers tell: a node, or nothing where the first is no kind of a node.
-#[derive(Drop)]
+#[derive(Clone, Copy)]
 pub enum Told {
     Node(Node),
     Nothing,

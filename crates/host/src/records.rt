@@ -15,7 +15,7 @@ pub const RECORD_WORDS: usize = 5;
 pub const SET_WORDS: usize = 20480;
 
 // What is left to do of a report of records: the number to answer, and how many records to fill.
-#[derive(Drop)]
+#[derive(Clone, Copy)]
 pub struct Filling {
     pub number: u32,
     pub fill: usize,

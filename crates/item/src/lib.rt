@@ -1,5 +1,7 @@
 // An item is three words of a lent slice: its origin, its rule, and the handle of its first symbol's node. The library tells, stores and
 // compares items through this crate alone; elsewhere their words are only cleared, tested for 0, and lent on.
+#![tactic(auto)]
+
 ghost use Rattle.std.specs.Prelude.{◌≡◌, length, ltb};
 ghost use Rattle.item.specs.Item.{HasPlace, origin_at, rule_at, handle_at, key_at, stored};
 

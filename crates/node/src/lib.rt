@@ -1,4 +1,6 @@
 // The node store: nodes of a parse forest in u16 units, one node behind another. Write one, read one, walk.
+#![tactic(auto)]
+
 ghost use Rattle.std.specs.Prelude.{◌≡◌};
 ghost use Rattle.node.specs.Answers.{written, found, walked};
 ghost use Rattle.node.specs.Writing.{StoreOutcome, write_at, usable};
@@ -12,14 +14,14 @@ mod rows;
 mod spelling;
 
 // The right factor of a Product: a node's position, or none.
-#[derive(Drop)]
+#[derive(Clone, Copy)]
 pub enum Right {
     At(u32),
     Nothing,
 }
 
 // A node. Factors are positions of nodes in the same store.
-#[derive(Drop)]
+#[derive(Clone, Copy)]
 pub enum Node {
     Sum {
         count: u32,
@@ -39,7 +41,7 @@ pub enum Node {
 }
 
 // The units of a node at a position, one behind another.
-#[derive(Drop)]
+#[derive(Clone, Copy)]
 pub enum Units {
     Unfit,
     One(u16),
@@ -49,14 +51,14 @@ pub enum Units {
 }
 
 // The node that units spell by their head, before they are compared with the node's own units.
-#[derive(Drop)]
+#[derive(Clone, Copy)]
 pub enum Spelt {
     Like(Node),
     Unknown,
 }
 
 // What a write answers: the position behind the node; or 10 or 11, with the position asked for.
-#[derive(Drop)]
+#[derive(Clone, Copy)]
 pub enum Written {
     Behind(usize),
     Unfit(usize),
@@ -64,7 +66,7 @@ pub enum Written {
 }
 
 // What a read answers: a node and the position behind it; the end; or 12, with the unit at which the fault was seen.
-#[derive(Drop)]
+#[derive(Clone, Copy)]
 pub enum Found {
     Whole(Node, usize),
     End,
@@ -72,7 +74,7 @@ pub enum Found {
 }
 
 // What a walk answers: how many nodes it read and the position behind the last, to the end or to a 12, with the unit of its fault.
-#[derive(Drop)]
+#[derive(Clone, Copy)]
 pub enum Walked {
     ToEnd(usize, usize),
     ToFault(usize, usize, usize),

@@ -1,7 +1,8 @@
 // Reads decimal numbers from text, for the programs that replay recorded answers.
+#![tactic(auto)]
 
 // A number, and the place behind its digits.
-#[derive(Drop)]
+#[derive(Clone, Copy)]
 pub struct Number {
     pub value: u64,
     pub next: usize,

@@ -1,4 +1,6 @@
 // The words of a parse, and whether they are well formed.
+#![tactic(auto)]
+
 ghost use Rattle.std.specs.Prelude.{◌≡◌, ◌+◌, ◌/◌, ◌≤◌, length};
 ghost use Rattle.bits.specs.Width.{row_words};
 ghost use Rattle.grammar.specs.Accepted.{max_rules};
@@ -21,7 +23,7 @@ pub mod spare;
 pub mod words;
 
 // A parse by value: the number of the latest set, the number of items in all sets, and the number of used units of the store.
-#[derive(Drop)]
+#[derive(Clone, Copy)]
 pub struct State {
     pub set: usize,
     pub items: usize,

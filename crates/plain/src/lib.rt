@@ -1,4 +1,6 @@
 // A second engine, for auditors: up to 64 tokens, and a table of which symbol derives which stretch of them. No sets, no queue, no prediction.
+#![tactic(auto)]
+
 ghost use Rattle.std.specs.Prelude.{◌≤◌, length};
 ghost use Rattle.laws.specs.Decides.{Decides};
 ghost use Rattle.grammar.specs.Accepted.{Accepted};
@@ -19,7 +21,7 @@ use grammar::limits::WORDS;
 use grammar::rules::{Rules, first, wide};
 
 // The numbers of symbols, ordinary tokens and rules of a grammar.
-#[derive(Drop)]
+#[derive(Clone, Copy)]
 pub struct Sizes {
     pub symbols: usize,
     pub tokens: usize,
@@ -27,7 +29,7 @@ pub struct Sizes {
 }
 
 // Why the call is refused.
-#[derive(Drop)]
+#[derive(Clone, Copy)]
 pub enum Refusal {
     Malformed,
     Broken,
@@ -36,7 +38,7 @@ pub enum Refusal {
 }
 
 // What the call answers: whether the tokens are a sentence, with the words of the table; how many words it would need; or why it is refused.
-#[derive(Drop)]
+#[derive(Clone, Copy)]
 pub enum Told {
     Yes(usize),
     No(usize),

@@ -1,4 +1,6 @@
 // The prediction table: row X below N holds X and every symbol reached from X by first symbols. And the follow table.
+#![tactic(auto)]
+
 ghost use Rattle.std.specs.Prelude.{◌≡◌, ℕ, ◌≤◌, ◌<◌};
 ghost use Rattle.bits.specs.Width.{row_words};
 ghost use Rattle.grammar.specs.Accepted.{max_symbols, max_rules};

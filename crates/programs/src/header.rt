@@ -11,7 +11,7 @@ use libc::STDIN_FILENO;
 pub const LONGEST: usize = HEADER + RULE * RULES;
 
 // A refusal by the header alone, or the length of the whole file.
-#[derive(Drop)]
+#[derive(Clone, Copy)]
 pub enum Header {
     Malformed,
     Broken,

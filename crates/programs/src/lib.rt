@@ -1,4 +1,6 @@
 // What the programs share that read a grammar and then tokens: the grammar read and judged by its header, bytes as tokens, lines of text.
+#![tactic(auto)]
+
 ghost use Rattle.std.specs.Prelude.{◌≡◌};
 
 pub mod header;

@@ -6,7 +6,7 @@ use grammar::Checked;
 use grammar::rules::Rules;
 
 // What a call learns of its file: why it is refused, or the numbers of an accepted grammar.
-#[derive(Drop)]
+#[derive(Clone, Copy)]
 pub enum Opened {
     Refused(Refusal),
     Sound(Sizes),

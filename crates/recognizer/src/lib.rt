@@ -1,4 +1,5 @@
 // The calls on a parse: start; token and run; kinds and run_kinds, where a position may have several kinds; finished, latest set.
+#![tactic(auto)]
 
 mod file;
 pub mod ready;
@@ -20,7 +21,7 @@ use grammar::limits::WORDS;
 use parse::State;
 
 // The numbers of symbols, ordinary tokens and rules of a grammar.
-#[derive(Drop)]
+#[derive(Clone, Copy)]
 pub struct Sizes {
     pub symbols: usize,
     pub tokens: usize,
@@ -28,7 +29,7 @@ pub struct Sizes {
 }
 
 // Why a call is refused.
-#[derive(Drop)]
+#[derive(Clone, Copy)]
 pub enum Refusal {
     Malformed,
     Broken,
@@ -43,21 +44,21 @@ pub enum Refusal {
 }
 
 // What start, token and kinds answer: the state as it is now.
-#[derive(Drop)]
+#[derive(Clone, Copy)]
 pub enum Answer {
     Done(State),
     Refused(Refusal, State),
 }
 
 // What a run answers: the first refusal or done, and the number of positions taken.
-#[derive(Drop)]
+#[derive(Clone, Copy)]
 pub struct Ran {
     pub answer: Answer,
     pub taken: usize,
 }
 
 // What finished answers: yes with the handle of the start symbol's node.
-#[derive(Drop)]
+#[derive(Clone, Copy)]
 pub enum Whether {
     Yes(u32),
     No,

@@ -9,7 +9,7 @@ use grammar::rules::Rules;
 use parse::State;
 
 // What a call learns of its file and state: why it is refused, or the numbers of the grammar that it goes on with.
-#[derive(Drop)]
+#[derive(Clone, Copy)]
 pub enum Readied {
     Refused(Refusal),
     Formed(Sizes),

@@ -2,6 +2,8 @@
 // A record is a length of a label (one byte), a length of a file (two bytes), the label and the file. A labelled record gets a
 // line of its own and, where the file is accepted, the rows of its prediction table, their words in hexadecimal; of the others
 // only the number is printed.
+#![tactic(auto)]
+
 ghost use Rattle.std.specs.Prelude.{◌≤◌, ◌<◌};
 ghost use Rattle.grammar.specs.Accepted.{max_symbols};
 

@@ -1,6 +1,8 @@
 // Replays recorded pop orders of the Rust, entries with equal keys included: standard input is oracle/vectors/heap.txt. Tells how many
 // records and pops there were, how many pops gave another entry than the Rust, and how many words of the queue were left uncleared. The
 // Rust's entries are places alone; here each is pushed with a right factor of its place, and must come out with it.
+#![tactic(auto)]
+
 ghost use Rattle.std.specs.Prelude.{◌≡◌};
 ghost use Rattle.binary_heap.specs.Entry.{entries_in};
 ghost use Rattle.binary_heap.specs.Queue.{Places};
@@ -20,7 +22,7 @@ const QUEUE: usize = 2048;
 
 // Where the replay stands: the places in the text of the next operation and of the next recorded answer, the number of entries in the
 // queue, the pops so far, and how many of them went otherwise than recorded.
-#[derive(Drop)]
+#[derive(Clone, Copy)]
 struct Replay {
     operation: usize,
     answer: usize,

@@ -10,6 +10,8 @@
 // 3 Evaluated (symbol). Answers: a write tells its number and the halves of the position behind, or of the place where it is refused; a read
 // its number, the node, where 4 is the end and 5 nothing, and the halves of the position behind, or of the place; a walk its number, the count
 // and the halves of the position behind, and those of the place.
+#![tactic(auto)]
+
 mod words;
 
 use libc::{STDIN_FILENO, STDOUT_FILENO};

@@ -1,4 +1,5 @@
 // Reports on a running parse, which only read it: what could stand next, and the latest set as text, as words and as records.
+#![tactic(auto)]
 
 mod decimal;
 mod text;
@@ -21,7 +22,7 @@ use recognizer::Refusal;
 use recognizer::ready::{Readied, ready};
 
 // What a report answers: how many elements it wrote into its place, how many the place would need, or why it is refused.
-#[derive(Drop)]
+#[derive(Clone, Copy)]
 pub enum Filled {
     Wrote(usize),
     TooShort(usize),
@@ -30,7 +31,7 @@ pub enum Filled {
 
 // An item of the latest set, with the symbols of its rule.
 #[repr(C)]
-#[derive(Drop)]
+#[derive(Clone, Copy)]
 pub struct Record {
     pub rule: u32,
     pub left: u32,

@@ -26,7 +26,7 @@ const NEWLINE: [u8; 1] = *b"\n";
 const SIGNS: usize = 5 + 3 + 3 + 1;
 
 // The numbers of a line.
-#[derive(Drop)]
+#[derive(Clone, Copy)]
 struct Shown {
     left: usize,
     first: usize,

@@ -1,4 +1,6 @@
 // Standard input is a written grammar. Standard output is its grammar file, or nothing where it is refused; a line on standard error says which.
+#![tactic(auto)]
+
 ghost use Rattle.std.specs.Prelude.{◌≡◌, ◌≤◌, length as length_of, take};
 ghost use Rattle.io.specs.Counts.{IsPrefixLen};
 ghost use Rattle.translate.specs.Lines.{line_room, empty_line, line_of, file_of, Answered};
@@ -18,7 +20,7 @@ const LONGEST: usize = HEADER + RULE * RULES;
 const ROOM: usize = 11;
 
 // How long the file and the line on standard error are.
-#[derive(Drop)]
+#[derive(Clone, Copy)]
 struct Lengths {
     file: usize,
     line: usize,

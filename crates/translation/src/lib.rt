@@ -1,4 +1,6 @@
 // The translator of written grammars to grammar files, as docs/TRANSLATION.md says it.
+#![tactic(auto)]
+
 ghost use Rattle.std.specs.Prelude.{◌≤◌};
 ghost use Rattle.written.specs.Written.{MayBeEmpty};
 ghost use Rattle.written.specs.Form.{Formed, end_in, written_of};
@@ -31,7 +33,7 @@ use grammar::file::{HEADER, RULE};
 use grammar::limits::{RULES, SYMBOLS, WORDS};
 
 // What the translator answers: the length of the file and whether the empty sentence was there, or a refusal.
-#[derive(Drop)]
+#[derive(Clone, Copy)]
 pub enum Translated {
     Done(usize, bool),
     Malformed,

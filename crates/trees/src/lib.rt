@@ -1,4 +1,6 @@
 // Every tree of a forest, each once: how many there are under a handle of a node store, and each by its number.
+#![tactic(auto)]
+
 ghost use Rattle.std.specs.Prelude.{◌≡◌};
 ghost use Rattle.trees.specs.Answers.{Counts, counted, Tells, told};
 ghost use Rattle.trees.specs.inner.Heads.{SumAt};
@@ -16,7 +18,7 @@ mod walking;
 mod weights;
 
 // What count answers: the number of trees, the position of a 12, or that the number exceeds 64 bits.
-#[derive(Drop)]
+#[derive(Clone, Copy)]
 pub enum Counted {
     Trees(u64),
     Faulty(usize),
@@ -24,7 +26,7 @@ pub enum Counted {
 }
 
 // What tree tells: how many words were written, the position of a 12, that there is no such tree, or how many words are needed.
-#[derive(Drop)]
+#[derive(Clone, Copy)]
 pub enum Told {
     Words(usize),
     Faulty(usize),
@@ -33,7 +35,7 @@ pub enum Told {
 }
 
 // What stands at a position: a Sum, with the number of its Products and the position behind it, an Evaluated with its symbol, or neither.
-#[derive(Drop)]
+#[derive(Clone, Copy)]
 pub enum Head {
     SumOf(u32, usize),
     Leaf(u32),
@@ -41,14 +43,14 @@ pub enum Head {
 }
 
 // What is read behind a Sum: a Product's action, left and right factor and the position behind it; or no Product.
-#[derive(Drop)]
+#[derive(Clone, Copy)]
 pub enum Step {
     ProductOf(u32, u32, Right, usize),
     Ended,
 }
 
 // What stands below a position: its lowest fault, or the number of its trees, or too many of them.
-#[derive(Drop)]
+#[derive(Clone, Copy)]
 pub enum Weight {
     Fault(u16),
     Number(u64),
@@ -56,21 +58,21 @@ pub enum Weight {
 }
 
 // What the table tells of a position: that neither Sum nor Evaluated is there, or what it weighs.
-#[derive(Drop)]
+#[derive(Clone, Copy)]
 pub enum Entry {
     Nothing,
     Weighed(Weight),
 }
 
 // What is walked of a Product before its last factor: nothing, or the tree of its left factor with a number.
-#[derive(Drop)]
+#[derive(Clone, Copy)]
 pub enum Front {
     Empty,
     Left(usize, u64),
 }
 
 // What a tree is chosen by at a position: a leaf's symbol; or a Product's action, what is in front, and the last factor with the number of its tree.
-#[derive(Drop)]
+#[derive(Clone, Copy)]
 pub enum Choice {
     Word(u32),
     Chosen(u32, Front, usize, u64),

@@ -1,1 +1,2 @@
 // Written grammars and their translation: definitions and laws alone, in specs/ and proofs/.
+#![tactic(auto)]

@@ -1,0 +1,39 @@
+-- `read` meets its contract: the usable part of the store is read, and the answer is exact.
+use mathlib.Core.Path.{◌≡◌, sym, ap, subst, ◌∙◌}
+use native.Mathlib.Omega.{arith}
+use lib.ListN.{length-take}
+use borrow.Author.Rules.{rules}
+use Rattle.node.specs.Answers.{found}
+use Rattle.node.specs.Writing.{usable}
+use Rattle.node.specs.Reading.{read_at, read_units, Exactly}
+use Rattle.node.proofs.Runs.{usable-part}
+use Rattle.node.proofs.Almost.{Narrow}
+use Rattle.node.proofs.Puts.{usable-narrow}
+use Rattle.node.proofs.Exact.{reads-exactly}
+use Rattle.node.proofs.read.Goals as goal
+
+pub slice_bounds-read_units-end : goal.slice_bounds-read_units-end
+slice_bounds-read_units-end c =
+    omega (
+      arith,
+      c.usable-end.ensures,
+      length-take c.usable-end.result c.args.store.now,
+    )
+
+pub read_units-requires : goal.read_units-requires
+read_units-requires c =
+    omega (
+      arith,
+      c.usable-end.ensures,
+      length-take c.usable-end.result c.args.store.now,
+    )
+
+pub returns : goal.returns
+returns c =
+    let a = c.args in
+    let is : found c.read_units.result ≡ read_at a.store.now a.p =
+    c.read_units.ensures ∙ ap (λ s. read_units s a.p) (usable-part _ _ c.usable-end.ensures) in
+    let narrow : Narrow a.store.now = record { fits = λ i. omega (arith, c.type_inv.store i) } in record {
+      answers = is;
+      exactly = subst (Exactly (usable a.store.now) a.p) (sym is) (reads-exactly (usable a.store.now) a.p (usable-narrow _ narrow));
+    }

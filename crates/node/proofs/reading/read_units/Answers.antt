@@ -1,0 +1,14 @@
+-- `reading::read_units` meets its contract: the node at the head, or the end.
+use mathlib.Core.Path.{sym, ◌∙◌}
+use borrow.Author.Tests.{lt-ltb, le-ltb}
+use borrow.Author.Rules.{rules}
+use Rattle.node.specs.Reading.{read_units}
+use Rattle.node.proofs.reading.read_units.Goals as goal
+
+pub returns-then-q-s : goal.returns-then-q-s
+unfolding read_units
+returns-then-q-s c = c.read_here.ensures ∙ simp (sym c.head_from-q.ensures, lt-ltb _ _ c.if-q-s.true)
+
+pub returns : goal.returns
+unfolding read_units
+returns c = simp (sym c.head_from-q.ensures, le-ltb _ _ c.if-q-s.false)
