@@ -51,12 +51,15 @@ reached {y = y} (by_first h p) = by_rule (λ a b c. Begins b y → Begins a y) o
     outer : Begins 2 y → Begins 4 y
     outer (inl e) = inr (later (first e))
     outer (inr (first e)) = inr (first e)
+    outer (inr (later m)) = elim m [ ]
 
     number : Begins 0 y → Begins 2 y
     number (inl e) = inr (first e)
+    number (inr m) = elim m [ ]
 
     plus : Begins 1 y → Begins 3 y
     plus (inl e) = inr (first e)
+    plus (inr m) = elim m [ ]
 
 abbrev Listed : ℕ → ℕ → Type 0
 Listed x y = Member y (get_or followers_a x [])
@@ -67,14 +70,17 @@ no_more {y = y} (beside h n p) = by_rule (λ a x z. (z ≡ none → ⊥) → Beg
   where
     end : (5 ≡ none → ⊥) → Begins 5 y → Listed 2 y
     end n (inl e) = later (later (first e))
+    end n (inr m) = elim m [ ]
 
     more : (3 ≡ none → ⊥) → Begins 3 y → Listed 2 y
     more n (inl e) = later (first e)
     more n (inr (first e)) = first e
+    more n (inr (later m)) = elim m [ ]
 
     sum : (2 ≡ none → ⊥) → Begins 2 y → Listed 1 y
     sum n (inl e) = later (first e)
     sum n (inr (first e)) = first e
+    sum n (inr (later m)) = elim m [ ]
 no_more {y = y} (last h n p) = by_rule (λ a b x. (x ≡ none → ⊥) → Listed a y → Listed x y) end (λ n m. m) (λ n m. absurd (n refl)) (λ n m. m) h n (no_more p)
   where
     end : (5 ≡ none → ⊥) → Listed 4 y → Listed 5 y
@@ -99,6 +105,7 @@ behind_sum : {y : ℕ} → Member y (1 ∷ 3 ∷ 5 ∷ []) → Follows grammar_a
 behind_sum (first e) = subst (Follows grammar_a 2) (sym e) (beside sum_more (omega arith) (by_first plus-sum here))
 behind_sum (later (first e)) = subst (Follows grammar_a 2) (sym e) (beside sum_more (omega arith) here)
 behind_sum (later (later (first e))) = subst (Follows grammar_a 2) (sym e) (beside sum-end (omega arith) here)
+behind_sum (later (later (later m))) = elim m [ ]
 
 nobody : {y : ℕ} → Member y [] → ⊥
 nobody m = elim m [ ]
@@ -112,6 +119,7 @@ all : (x : ℕ) {y : ℕ} → Listed x y → Follows grammar_a x y
 all zero m = only number (behind_sum m)
 all (suc zero) (first e) = subst (Follows grammar_a 1) (sym e) (beside plus-sum (omega arith) (by_first number here))
 all (suc zero) (later (first e)) = subst (Follows grammar_a 1) (sym e) (beside plus-sum (omega arith) here)
+all (suc zero) (later (later m)) = elim m [ ]
 all (suc (suc zero)) m = behind_sum m
 all (suc (suc (suc zero))) m = last sum_more (omega arith) (behind_sum m)
 all (suc (suc (suc (suc x)))) {y} m = absurd (nobody (subst (Member y) (behind_none x) m))

@@ -52,7 +52,7 @@ all_reachable-requires c =
       search rules,
       search rules,
       search rules,
-      low _ _ _ _ required (wrapper-checked.ensures.if_yes (not-false _ wrapper-tested.false)) (rules-checked.ensures.if_yes (not-false _ rules-tested.false)),
+      low _ _ _ _ required (wrapper-checked.ensures.if_yes (wrapper-tested.false)) (rules-checked.ensures.if_yes (rules-tested.false)),
     )
 
 pub returns : goal.returns
@@ -68,9 +68,9 @@ returns c =
     let productivity-tested = c.if-not-all_productive in
     decides_map
     (judged _ _ _ _ required
-    (wrapper-checked.ensures.if_yes (not-false _ wrapper-tested.false))
-    (rules-checked.ensures.if_yes (not-false _ rules-tested.false))
+    (wrapper-checked.ensures.if_yes (wrapper-tested.false))
+    (rules-checked.ensures.if_yes (rules-tested.false))
     (pairs-searched.ensures.if_no pairs-tested.false)
-    (productivity-checked.ensures.if_yes (not-false _ productivity-tested.false)))
+    (productivity-checked.ensures.if_yes (productivity-tested.false)))
     (accepted-reachable _ _ _ _ required)
     c.all_reachable.ensures

@@ -21,4 +21,4 @@ pub returns : goal.returns
 returns c =
     let first_read = c.first in
     let first-tested = c.if-not-marks-first in
-    right-last _ _ _ _ _ first_read.ensures.0 (not-false _ first-tested.false) c.last.ensures
+    right-last _ _ _ _ _ first_read.ensures.0 (first-tested.false) c.last.ensures

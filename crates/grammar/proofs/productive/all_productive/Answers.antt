@@ -52,4 +52,4 @@ returns c =
     let rules-looped = c.loop-r-2 in
     let mark-tested = c.if-not-marked in
     decided _ _ _ _ _ _ required.0 rules-looped.invariant.right
-    (λ q l. rules-looped.invariant.quiet (not-true _ mark-tested.true) q (omega arith)) c.all_marked.ensures
+    (λ q l. rules-looped.invariant.quiet (mark-tested.true) q (omega arith)) c.all_marked.ensures

@@ -47,7 +47,7 @@ loop-r-2-preserved c =
     let spread-tested = c.if-not-spreads in
     let first_read = c.first-in-loop-r-2 in
     spreading_marks _ _ _ _ _ _ _ _ _ _ rules-looped.invariant rule-entered.true
-    (spread-asked.ensures.if_yes (not-false _ spread-tested.false))
+    (spread-asked.ensures.if_yes (spread-tested.false))
     first_read.ensures.0 (omega (arith, required.4.first rules-looped.r rule-entered.true))
     c.last.ensures (low-last _ _ _ (low-less _ _ _ required.4 (omega arith)) c.last.ensures)
 
@@ -63,4 +63,4 @@ returns c =
     let rules-looped = c.loop-r-2 in
     let mark-tested = c.if-not-marked in
     decided _ _ _ _ _ rules-looped.invariant.right
-    (λ q l. rules-looped.invariant.quiet (not-true _ mark-tested.true) q (omega arith)) _ required.2 c.all_marked.ensures
+    (λ q l. rules-looped.invariant.quiet (mark-tested.true) q (omega arith)) _ required.2 c.all_marked.ensures

@@ -16,4 +16,4 @@ pub returns : goal.returns
 returns c =
     let left-read = c.left in
     let left-tested = c.if-not-marks-left in
-    spreads_right _ _ _ _ _ left-read.ensures.0 (not-false _ left-tested.false) c.right_marked.ensures
+    spreads_right _ _ _ _ _ left-read.ensures.0 (left-tested.false) c.right_marked.ensures
