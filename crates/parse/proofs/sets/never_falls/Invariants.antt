@@ -1,0 +1,15 @@
+-- `sets::never_falls` meets its contract. The loop's invariant: no start passed is above the next.
+use Prim.Native.Nat.{◌+◌, ◌-◌, ◌≤◌}
+use native.Mathlib.Omega.{arith}
+use borrow.Author.Rules.{rules}
+use Rattle.parse.specs.inner.Parts.{NeverFalls}
+use Rattle.laws.proofs.Decides.{says_yes_lem, says_no}
+use Rattle.parse.proofs.Fitting.{Up}
+use Rattle.parse.proofs.Passing.{Passed, none_passed, one_passed}
+use Rattle.parse.proofs.sets.never_falls.Given as goal
+
+abbrev pub invariant-loop-k : goal.invariant-loop-k
+invariant-loop-k l = Passed (Up l.starts) 0 l.k × (l.k ≤ l.e + 1)
+
+abbrev pub decreases-loop-k : goal.decreases-loop-k
+decreases-loop-k l = l.e + 1 - l.k

@@ -1,0 +1,20 @@
+-- `parse::words::is_filled_block` meets its contract: it counts the units that are no fillers.
+use mathlib.Core.Path.{◌≡◌, refl, ◌∙◌}
+use mathlib.Core.Bool.{not}
+use Prim.Native.Nat.{◌+◌, ◌-◌, ◌≤◌, ◌<◌}
+use native.Mathlib.Omega.{arith}
+use lib.ListN.{length, get_or}
+use lib.Dec.{eqb}
+use borrow.Author.Rules.{rules}
+use borrow.Author.Tests.{eqb-true, not-false}
+use Rattle.node.specs.Reading.{filler}
+use Rattle.parse.specs.inner.Parts.{block_words}
+use Rattle.parse.proofs.Clearing.{Filler, unit-there}
+use Rattle.parse.proofs.Passing.{Counted, at_most, none_counted, one_counted}
+use Rattle.parse.proofs.words.is_filled_block.Given as goal
+
+abbrev pub invariant-loop-i : goal.invariant-loop-i
+invariant-loop-i l = (l.i ≤ l.i-end) × (l.i-end ≡ l.from + block_words) × Counted (Filler l.units) l.from l.i l.others
+
+abbrev pub decreases-loop-i : goal.decreases-loop-i
+decreases-loop-i l = l.i-end - l.i

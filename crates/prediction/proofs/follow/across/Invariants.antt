@@ -1,0 +1,23 @@
+-- `prediction::follow::across` meets its contract. The invariant, `Passed`: what the rows passed lead to, and in a row what the symbols passed do.
+use Rattle.bits.specs.Width.{row_words}
+use Rattle.laws.proofs.Bits.{holds_true, holds_false}
+use Rattle.prediction.specs.inner.Tables.{Tells}
+use Rattle.prediction.proofs.Across.{Passed, across_none, across_passed, across_joined, across_row, across_all}
+use borrow.Author.Tests.{not-true, not-false}
+use borrow.Author.Rules.{rules}
+use native.Mathlib.Omega.{arith}
+use mathlib.Core.Path.{sym, ◌∙◌}
+use Prim.Native.Nat.{◌-◌}
+use Rattle.prediction.proofs.follow.across.Given as goal
+
+abbrev pub invariant-loop-m : goal.invariant-loop-m
+invariant-loop-m l = Tells row_words (Passed l.to l.on l.n l.x l.m) l.table
+
+abbrev pub decreases-loop-m : goal.decreases-loop-m
+decreases-loop-m l = l.n - l.m
+
+abbrev pub invariant-loop-x : goal.invariant-loop-x
+invariant-loop-x l = Tells row_words (Passed l.to l.on l.n l.x 0) l.table
+
+abbrev pub decreases-loop-x : goal.decreases-loop-x
+decreases-loop-x l = l.n - l.x

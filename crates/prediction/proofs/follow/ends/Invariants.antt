@@ -1,0 +1,17 @@
+-- `prediction::follow::ends` meets its contract. The invariant, `Seeded`: the table of the symbols and of the rules passed.
+use Rattle.bits.specs.Width.{row_words}
+use Rattle.grammar.specs.inner.Decoded.{left_in}
+use Rattle.prediction.specs.inner.Tables.{last_in, Seeded}
+use Rattle.prediction.proofs.Cells.{seeded-rule, seeded_at}
+use Rattle.prediction.proofs.Following.{last_is, last-low}
+use borrow.Author.Rules.{rules}
+use native.Mathlib.Omega.{arith}
+use mathlib.Core.Path.{refl}
+use Prim.Native.Nat.{◌-◌, ◌≤◌}
+use Rattle.prediction.proofs.follow.ends.Given as goal
+
+abbrev pub invariant-loop-r : goal.invariant-loop-r
+invariant-loop-r l = (l.r ≤ l.count) × Seeded (last_in l.rules) (left_in l.rules) row_words l.n l.r l.table
+
+abbrev pub decreases-loop-r : goal.decreases-loop-r
+decreases-loop-r l = l.count - l.r

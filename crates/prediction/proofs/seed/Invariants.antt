@@ -1,0 +1,16 @@
+-- `prediction::seed` meets its contract. The invariant, `Seeded`: the table of the symbols and of the rules passed.
+use Rattle.bits.specs.Width.{row_words}
+use Rattle.grammar.specs.inner.Decoded.{left_in, first_in}
+use Rattle.prediction.specs.inner.Tables.{Seeded}
+use Rattle.prediction.proofs.Cells.{seeded-rule, seeded_at}
+use borrow.Author.Rules.{rules}
+use native.Mathlib.Omega.{arith}
+use mathlib.Core.Path.{refl}
+use Prim.Native.Nat.{◌-◌, ◌≤◌}
+use Rattle.prediction.proofs.seed.Given as goal
+
+abbrev pub invariant-loop-r : goal.invariant-loop-r
+invariant-loop-r l = (l.r ≤ l.count) × Seeded (left_in l.rules) (first_in l.rules) row_words l.n l.r l.table
+
+abbrev pub decreases-loop-r : goal.decreases-loop-r
+decreases-loop-r l = l.count - l.r
