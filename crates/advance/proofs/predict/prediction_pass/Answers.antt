@@ -22,13 +22,12 @@ second-symbol-requires c =
       required.held.few,
     )
 
--- LOST bounds-1-join-at
-index-1-join-at : tie.Need-bounds-1-join-at invariant-loop decreases-loop
-index-1-join-at c =
-    let required = c.before.before.before.before.before.before.before.before.requires in
+pub bounds-table-symbol : goal.bounds-table-symbol
+bounds-table-symbol c =
+    let required = c.requires in
     predicting_symbol _ _ _ _ _ _ _ _ required _ _
-    c.before.before.before.before.before.loop.invariant c.before.before.before.before.loop-test.true _ _ _
-    c.before.before.before.rule.ensures c.before.before.wide.ensures c.before.second.ensures.0
+    c.loop-p.invariant c.loop-p-test.true _ _ _
+    c.rule.ensures c.wide.ensures c.second-symbol.ensures.0
 
 pub join_at-requires : goal.join_at-requires
 join_at-requires c =
