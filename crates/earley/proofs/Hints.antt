@@ -56,7 +56,7 @@ sieve_all v two (DoneFor.closed h d z i m) p =
     DoneFor.closed h (sieve_all v two d (v.by_last h (λ e. two _ _ _ i (h.second ∙ e)) p)) z i p
 
 -- A sieve only leaves out.
-sieved_any : {g : Grammar} {c : Chart} {ks : List ℕ} {k x : ℕ} {passes : ℕ → Type 0} → DoneFor g c ks passes k x → Done g c ks k x
+sieved_any : {g : Grammar} {c : Chart} {ks : List ℕ} {passes : ℕ → Type 0} {k x : ℕ} → DoneFor g c ks passes k x → Done g c ks k x
 sieved_any (DoneFor.scanned m r) = DoneFor.scanned m r
 sieved_any (DoneFor.unary h d y x p) = DoneFor.unary h (sieved_any d) y x any
 sieved_any (DoneFor.closed h d z i p) = DoneFor.closed h (sieved_any d) z i any

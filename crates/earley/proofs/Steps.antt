@@ -35,14 +35,14 @@ abbrev pub Pass : Grammar → Chart → List ℕ → (ℕ → ℕ → Type 0) �
 Pass g c ks done = PassFor g c ks Any done
 
 -- A pass completes everything.
-pub pass_all : {g : Grammar} {c : Chart} {ks : List ℕ} {k x : ℕ} {passes : ℕ → Type 0} {done : ℕ → ℕ → Type 0} → PassFor g c ks passes done
+pub pass_all : {g : Grammar} {c : Chart} {ks : List ℕ} {passes : ℕ → Type 0} {k x : ℕ} {done : ℕ → ℕ → Type 0} → PassFor g c ks passes done
     → DoneFor g c ks passes k x → done k x
 pass_all p (DoneFor.scanned m r) = p.scanned m r
 pass_all p (DoneFor.unary h d y x o) = p.unary h (pass_all p d) y x o
 pass_all p (DoneFor.closed h d z i o) = p.closed h (pass_all p d) z i o
 
 -- Only live sets are met.
-pub done_live : {g : Grammar} {c : Chart} {ks : List ℕ} {k x : ℕ} {passes : ℕ → Type 0} → DoneFor g c ks passes k x → Live c k
+pub done_live : {g : Grammar} {c : Chart} {ks : List ℕ} {passes : ℕ → Type 0} {k x : ℕ} → DoneFor g c ks passes k x → Live c k
 done_live (DoneFor.scanned m r) = Live.latest
 done_live (DoneFor.unary h d y x o) = done_live d
 done_live (DoneFor.closed h d z i o) = Live.origin (done_live d) i

@@ -62,7 +62,7 @@ module _ {A : Type 0} where
     unfolding gathered
     gathered_from zero m = absurd (no_member m)
     gathered_from {a} (suc n) m =
-        let further : Member a (gathered test make n) → Gathered test make n a = gathered_from n in
+        let further : Member a (gathered test make n) → Gathered test make n a = λ k. gathered_from n k in
         ⊎_elim
         (λ l. let f = further l in record { number = f.number; below = omega (arith, f.below); passes = f.passes; is = f.is })
         (λ r. let f = made (test n) (make n) r in record { number = n; below = omega arith; passes = f.passes; is = f.is })

@@ -203,6 +203,7 @@ module _ {Entry Pair : Type 0} where
       -- A turn's products are some of those popped.
       part : (l : List (Turn Entry Pair)) (t : Turn Entry Pair) → Member t l → (test : Entry → Bool) → count test t.products ≤ count test (taken l)
       unfolding flat_map
+      part [] t m test = elim m [ ]
       part (u ∷ l) t (here is) test =
           omega (arith, ap (λ (v : Turn Entry Pair). count test v.products) is, count-append test u.products (taken l))
       part (u ∷ l) t (there m) test = omega (arith, count-append test u.products (taken l), part l t m test)

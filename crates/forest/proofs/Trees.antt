@@ -80,7 +80,7 @@ grows_more {a} b (token {t = t} {i = i} h l m s) =
 grows_more b (unary r d) = unary r (grows_more b d)
 grows_more b (binary r n d e) = binary r n (grows_more b d) (grows_more b e)
 
-pub grows_less : {g : Grammar} {d : Tree} {x i j : ℕ} (a b : Positions) → Grows g (a ++ b) d x i j → j ≤ length a → Grows g a d x i j
+pub grows_less : {g : Grammar} (a b : Positions) {d : Tree} {x i j : ℕ} → Grows g (a ++ b) d x i j → j ≤ length a → Grows g a d x i j
 grows_less a b (token {t = t} {i = i} h l m s) n =
     let k : i < length a = omega arith in
     token h k (subst (Member t) (get_or-append a b [] i k) m) s

@@ -5,7 +5,7 @@ use mathlib.Core.List.{List, [], ◌∷◌, ◌++◌}
 use Prim.Native.Nat.{ℕ, ◌+◌, ◌≤◌, ◌<◌}
 use native.Mathlib.Decide.{ℕ_discrete}
 use native.Mathlib.Omega.{arith}
-use Rattle.grammar.specs.Rules.{Grammar, Says, none, rule_count, rule_at}
+use Rattle.grammar.specs.Rules.{Grammar, none, rule_count, rule_at}
 use Rattle.grammar.specs.Accepted.{Accepted}
 use Rattle.grammar.specs.Sentences.{Derives}
 

@@ -1,6 +1,6 @@
 -- The numbers of the table's layout.
 use mathlib.Core.Path.{◌≡◌, refl, ap}
-use Prim.Native.Nat.{ℕ, ◌+◌, ◌-◌, ◌*◌, ◌/◌, ◌≤◌, ◌<◌}
+use Prim.Native.Nat.{ℕ, ◌+◌, ◌-◌, ◌*◌, ◌/◌, ◌≤◌}
 use native.Mathlib.Nat.{mul-sub, mul-one, le-mul_of_pos_right}
 use native.Mathlib.Decide.{dec_lt}
 use native.Mathlib.Omega.{arith}

@@ -1,22 +1,21 @@
 -- One stretch, its rules falling by number.
 use mathlib.Core.Path.{◌≡◌, refl, sym, ap, subst, ◌∙◌}
-use mathlib.Core.Logic.{◌↔◌, ◌⊎◌, ⊎_elim}
+use mathlib.Core.Logic.{◌↔◌, ⊎_elim}
 use mathlib.Core.List.{List, [], ◌∷◌, ◌++◌}
-use Prim.Native.Nat.{ℕ, ◌+◌, ◌-◌, ◌*◌, ◌^◌, ◌≤◌, ◌<◌}
+use Prim.Native.Nat.{ℕ, ◌+◌, ◌-◌, ◌^◌, ◌≤◌, ◌<◌}
 use native.Mathlib.Decide.{dec_lt}
 use native.Mathlib.Omega.{arith}
 use lib.ListN.{length, get_or, take, drop, length-append}
 use lib.Seq.{take-add, drop-drop, take_at, drop_at}
 use Rattle.laws.specs.Bits.{word_bits, Holds, row_of}
-use Rattle.grammar.specs.Rules.{Grammar, none, rule_count, rule_at}
-use Rattle.grammar.specs.Accepted.{Accepted}
+use Rattle.grammar.specs.Rules.{Grammar, rule_count, rule_at}
 use Rattle.grammar.specs.Sentences.{Derives}
 use Rattle.grammar.proofs.Facts.{derives-some}
-use Rattle.plain.specs.Table.{row_words, Stretch, stretch, stretches_up_to, place, needed}
+use Rattle.plain.specs.Table.{row_words, Stretch, stretch, place, needed}
 use Rattle.plain.specs.Calls.{Ordinary}
-use Rattle.plain.specs.inner.Filling.{Held, Room, Splits, Filling, Given, Kept}
+use Rattle.plain.specs.inner.Filling.{Held, Room, Splits, Filling, Kept}
 use Rattle.plain.proofs.Standing.{place_inside, place_shorter, place_same, row_inside}
-use Rattle.plain.proofs.Derivations.{Right, From, from_derives, derives_from, from_none, from_more, from_new, from_one, alone-later}
+use Rattle.plain.proofs.Derivations.{Right, From, from_derives, derives_from, from_none, from_more, from_new, from_one}
 use Rattle.plain.proofs.Marking.{Marked}
 use Rattle.plain.proofs.Seeding.{stretch-long, stretch-first}
 

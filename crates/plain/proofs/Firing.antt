@@ -2,12 +2,12 @@
 use mathlib.Core.Path.{◌≡◌, sym, subst, ◌∙◌}
 use mathlib.Core.List.{List}
 use mathlib.Core.Bool.{Bool, true, false}
-use Prim.Native.Nat.{ℕ, ◌+◌, ◌-◌, ◌*◌, ◌≤◌, ◌<◌}
+use Prim.Native.Nat.{ℕ, ◌+◌, ◌-◌, ◌*◌, ◌<◌}
 use native.Mathlib.Omega.{arith}
 use lib.ListN.{length}
 use Rattle.laws.specs.Bits.{word_bits, adding, row_of, with_row}
 use Rattle.laws.specs.Decides.{Decides}
-use Rattle.grammar.specs.Rules.{Grammar, none, rule_count, rule_at, wrapper, end_mark}
+use Rattle.grammar.specs.Rules.{rule_count, rule_at}
 use Rattle.grammar.specs.Accepted.{Accepted}
 use Rattle.grammar.specs.Sentences.{Derives}
 use Rattle.grammar.specs.inner.Decoded.{left_in, first_in, second_in}
@@ -16,7 +16,7 @@ use Rattle.grammar.proofs.Facts.{wrapper-first, second-low, left-low}
 use Rattle.plain.specs.declared.Sizes.{Sizes}
 use Rattle.plain.specs.Table.{row_words, Stretch, stretch, place}
 use Rattle.plain.specs.inner.Filling.{grammar_from, Held, BitThere, Splits, Fires, Narrow, Filling, Given}
-use Rattle.plain.proofs.Derivations.{Right, From, from_derives, alone-later}
+use Rattle.plain.proofs.Derivations.{Right, from_derives, alone-later}
 use Rattle.plain.proofs.Marking.{Marked, is_marked}
 use Rattle.plain.proofs.Splitting.{bit-there}
 use Rattle.plain.proofs.Falling.{Falling, falling_starts, falling_passes, falling_marks, splits_derived, derived_splits}

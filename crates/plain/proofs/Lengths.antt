@@ -1,17 +1,16 @@
 -- Length after length.
-use mathlib.Core.Path.{◌≡◌, refl, sym, ap, subst, ◌∙◌}
+use mathlib.Core.Path.{◌≡◌, refl, ap, subst, ◌∙◌}
 use mathlib.Core.List.{List}
 use Prim.Native.Nat.{ℕ, ◌+◌, ◌-◌, ◌*◌, ◌≤◌, ◌<◌}
 use native.Mathlib.Omega.{arith}
-use lib.ListN.{length, get_or}
+use lib.ListN.{length}
 use Rattle.laws.specs.Bits.{word_bits}
 use Rattle.grammar.specs.Rules.{Grammar}
 use Rattle.plain.specs.Table.{row_words, Stretch, stretches_up_to, place, needed}
 use Rattle.plain.specs.Calls.{Ordinary}
-use Rattle.plain.specs.inner.Filling.{Cleared, Seeded, Filling, Given, Kept}
+use Rattle.plain.specs.inner.Filling.{Cleared, Seeded, Filling, Given}
 use Rattle.plain.proofs.Standing.{place-next}
-use Rattle.plain.proofs.Keeping.{kept_cleared}
-use Rattle.plain.proofs.Seeding.{cleared_seeded, seeded_filling}
+use Rattle.plain.proofs.Seeding.{seeded_filling}
 
 -- Settled up to a row is settled up to its equal.
 pub filling_at : {g : Grammar} {ts table : List ℕ} {p q : ℕ} → Filling g ts table p → p ≡ q → Filling g ts table q

@@ -2,14 +2,14 @@
 use mathlib.Core.Path.{◌≡◌, refl, sym, ap, subst, subst⁻¹, ◌∙◌}
 use mathlib.Core.Bool.{Bool, true, false}
 use mathlib.Core.Logic.{◌↔◌}
-use mathlib.Core.List.{List, [], ◌∷◌, ◌++◌}
+use mathlib.Core.List.{List, [], ◌++◌}
 use Prim.Native.Nat.{ℕ, ◌+◌, ◌-◌, ◌*◌, ◌/◌, ◌%◌, ◌^◌, ◌≤◌, ◌<◌}
 use native.Mathlib.Decide.{ℕ_discrete, dec_lt}
 use native.Mathlib.Omega.{arith}
 use lib.ListN.{length, get_or, take, drop, take-append-drop, length-drop, get_or-eq_default}
 use lib.Seq.{ext_get_or, length-take-le, take-length, get_or-take, get_or-drop}
 use lib.Pow.{pow_pos}
-use Rattle.laws.specs.Bits.{word_bits, Holds, holds, Row, row_of}
+use Rattle.laws.specs.Bits.{word_bits, Holds, holds, row_of}
 use Rattle.laws.specs.Decides.{Decides}
 use Rattle.laws.specs.Fills.{too_short}
 use Rattle.laws.proofs.Bits.{row_ext, holds_true, true_holds}

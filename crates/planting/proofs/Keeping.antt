@@ -45,7 +45,7 @@ onward_both : {s t u : Store} {a b c : ℕ} → Onward s a t b → Onward t b u 
 onward_both one two = record { more = omega (arith, one.more, two.more); stays = λ st le. two.stays (one.stays st le) (omega (arith, one.more)) }
 
 -- What a pass writes leads onward.
-writing_onward : {g : Grammar} {is : Items} {s₀ s : Store} {used₀ used : ℕ} {past : List (Turn Entry Pair)} → Writing g is s₀ used₀ past s used
+writing_onward : {g : Grammar} {is : Items} {s₀ : Store} {used₀ : ℕ} {s : Store} {used : ℕ} {past : List (Turn Entry Pair)} → Writing g is s₀ used₀ past s used
     → Onward s₀ used₀ s used
 writing_onward {s₀ = s₀} {used₀ = used₀} Writing.start = onward_none s₀ used₀
 writing_onward (Writing.writes before is_node at on stands) = onward_both (writing_onward before) on
@@ -138,7 +138,7 @@ module _ {file : List ℕ} {s : State} {w : Words} where
   refused_adds (Starts.done sound room) n = absurd (n refl)
 
 -- NODES ARE ONLY ADDED, until the next start.
-pub later_adds : {file : List ℕ} {s s' : State} {w w' : Words} → Later file s w s' w' → Adds s w s' w'
+pub later_adds : {file : List ℕ} {s : State} {w : Words} {s' : State} {w' : Words} → Later file s w s' w' → Adds s w s' w'
 later_adds {s = s} {w = w} itself = adds_none s w
 later_adds (position l takes) = onward_both (later_adds l) (takes_adds takes)
 later_adds (run l runs) = onward_both (later_adds l) (runs_adds runs)

@@ -70,29 +70,15 @@ put_then {place} {mid} {left} {a} {b} {at} {m} p q = record {
 put_byte : (place : List ℕ) (at b : ℕ) → at < length place → PutAt place at (b ∷ []) (at + 1) (set place at b)
 put_byte place at b l = record { fits = omega arith; ends = refl; leaves = written_one place at b l }
 
--- Words copied over the front of what stands from `at` on.
-pub put_copied : (place words copied : List ℕ) (at count : ℕ) → at + length words ≤ length place → count ≡ length words
-    → copied ≡ take (length words) words ++ drop (length words) (take (length place - at) (drop at place))
-    → PutAt place at words (at + count) (take at place ++ (copied ++ drop (length place - at) (drop at place)))
-put_copied place words copied at count fits counts is = record {
+-- Words copied over as many words from `at` on.
+pub put_over : (place words copied : List ℕ) (at size : ℕ) → at + length words ≤ length place → size ≡ length words → copied ≡ words
+    → PutAt place at words (at + length words) (take at place ++ (copied ++ drop size (drop at place)))
+put_over place words copied at size fits counts is = record {
   fits = fits;
-  ends = ap (λ (n : ℕ). at + n) counts;
-  leaves = ap (λ (x : List ℕ). take at place ++ x) (ap (λ (x : List ℕ). x ++ drop size rest) is ∙ split);
+  ends = refl;
+  leaves = ap (λ (x : List ℕ). take at place ++ x)
+      (ap₂ (λ (x : List ℕ) (n : ℕ). x ++ drop n (drop at place)) is counts ∙ ap (λ (x : List ℕ). words ++ x) (drop-drop (length words) at place));
 }
-  where
-    rest : List ℕ
-    rest = drop at place
-
-    size : ℕ
-    size = length place - at
-
-    split : (take (length words) words ++ drop (length words) (take size rest)) ++ drop size rest ≡ words ++ drop (at + length words) place
-    split =
-        append_assoc (take (length words) words) (drop (length words) (take size rest)) (drop size rest)
-        ∙ ap₂ (λ (x y : List ℕ). x ++ y) (take-length words)
-        (sym (drop-append-le (length words) (take size rest) (drop size rest) (omega (arith, length-take-le size rest (omega (arith, length-drop at place)))))
-        ∙ ap (drop (length words)) (take-append-drop size rest)
-        ∙ drop-drop (length words) at place)
 
 -- A number below ten is put by its one digit.
 pub put-digit : {place : List ℕ} {at n b : ℕ} → at + length (decimal n) ≤ length place → n < 10 → b ≡ digit n → PutAt place at (decimal n) (at + 1) (set place at b)

@@ -75,7 +75,9 @@ fn put(out: &mut [u8], at: usize, bytes: &[u8]) -> usize
     requires { at + length bytes.now ≤ length out.old }
     ensures { PutAt out.old at bytes.now result out.new }
 {
-    at + bytes::copy(bytes, &mut out[at..])
+    let end = at + bytes.len();
+    out[at..end].copy_from_slice(bytes);
+    end
 }
 
 // Puts a number, and what stands behind it, at `at`; answers the place behind both.

@@ -149,6 +149,7 @@ module _ (w : Written) (lawful : Lawful w) (fruit : (a : ℕ) → Nonterminal w 
     where
       one : {a x : ℕ} → In x (a ∷ []) → marked marks x ≡ true → marked marks a ≡ true
       one here m = m
+      one (there i) m = elim i [ ]
 
   pub staying-exact : MarksAre (Stays w) marks
   staying-exact = record {

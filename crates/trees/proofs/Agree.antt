@@ -1,14 +1,13 @@
 -- Two answers that meet a statement are one, and so are the places that they leave.
-use mathlib.Core.Path.{◌≡◌, refl, sym, ap, ◌∙◌}
+use mathlib.Core.Path.{◌≡◌, refl, ap}
 use mathlib.Core.List.{List, ◌++◌}
-use Prim.Native.Nat.{ℕ, ◌≤◌, ◌<◌}
+use Prim.Native.Nat.{ℕ, ◌<◌}
 use native.Mathlib.Omega.{arith}
 use lib.ListN.{length, drop}
 use Rattle.node.specs.Answers.{done, no_node}
 use Rattle.laws.specs.Fills.{too_short}
 use Rattle.forest.specs.Trees.{Tree, preorder}
 use Rattle.forest.specs.Lists.{At, first, later}
-use Rattle.forest.specs.Stores.{trees_at}
 use Rattle.trees.specs.Faults.{LowestFault, Sound}
 use Rattle.trees.specs.Answers.{Answer, answer, position, words, needed, Counts, Tells}
 

@@ -1,5 +1,5 @@
 -- What is below what is below, and the first step down.
-use mathlib.Core.Path.{◌≡◌, refl, sym, subst}
+use mathlib.Core.Path.{◌≡◌, sym, subst}
 use mathlib.Core.List.{List, Memᴰ as Member}
 use Prim.Native.Nat.{ℕ, ◌≤◌, ◌<◌}
 use native.Mathlib.Omega.{arith}

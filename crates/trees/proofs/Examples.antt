@@ -9,15 +9,15 @@ use Rattle.node.specs.Rows.{units_of, row_of, sum_row, long_product, alone_row, 
 use Rattle.node.specs.Reading.{fillers, holds, stand_all, stand, factor_at, long_right, value_at, near_spelt, leaf_spelt, long_spelt}
 use Rattle.node.specs.Reading.{alone as alone-spelt, paired as paired-spelt}
 use Rattle.node.specs.Answers.{done}
-use Rattle.forest.specs.Trees.{Tree, leaf, one}
-use Rattle.forest.specs.Lists.{At, first}
-use Rattle.forest.specs.Forests.{Product, alone, sum, other}
+use Rattle.forest.specs.Trees.{leaf, one}
+use Rattle.forest.specs.Lists.{first}
+use Rattle.forest.specs.Forests.{alone}
 use Rattle.forest.specs.Stores.{products_at, node_at, trees_at}
 use Rattle.trees.specs.Faults.{asked_at, Sound}
 use Rattle.trees.specs.Answers.{answer, nothing, words, no_such_tree, counted, Counts, Tells}
 use Rattle.trees.specs.inner.Weights.{limited, lower, plus, often, times, of_entry, factor_weight, product_weight, sum_from, closed, weigh_node, weights}
 use Rattle.trees.specs.declared.Counted.{Counted}
-use Rattle.trees.specs.declared.Counted.TheVariants.{Trees, Faulty, TooMany}
+use Rattle.trees.specs.declared.Counted.TheVariants.{Trees, Faulty}
 use Rattle.trees.specs.declared.Weight.TheVariants.{Fault, Number}
 use Rattle.trees.proofs.Counting.{no_sum-counts, weight_counts, counted-sound}
 

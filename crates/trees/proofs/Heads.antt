@@ -3,17 +3,16 @@ use mathlib.Core.Path.{◌≡◌, refl, sym, ap, subst, ◌∙◌}
 use mathlib.Core.Bool.{Bool, true, false}
 use mathlib.Core.List.{List, [], ◌∷◌}
 use mathlib.Core.Logic.{◌≢◌}
-use Prim.Native.Nat.{ℕ, suc, ◌+◌, ◌≤◌, ◌<◌}
+use Prim.Native.Nat.{ℕ, suc, ◌+◌, ◌<◌}
 use native.Mathlib.Decide.{dec_lt}
 use native.Mathlib.Omega.{arith}
-use lib.ListN.{length, get_or, take}
+use lib.ListN.{length, get_or}
 use lib.Seq.{get_or-take}
 use Rattle.node.specs.Choice.{pick}
 use Rattle.node.specs.Rows.{units_at}
 use Rattle.node.specs.Writing.{usable_units, usable}
-use Rattle.node.specs.Reading.{filler, head_from, holds, stand, spelt, read_units, read_at}
+use Rattle.node.specs.Reading.{filler, head_from, holds, stand, spelt, read_at}
 use Rattle.node.specs.Answers.{Answer, answer, refused, done, node, end, nothing, no_node}
-use Rattle.node.specs.declared.Right.{Right}
 use Rattle.node.specs.declared.Right.TheVariants.{At, Nothing as Single}
 use Rattle.node.specs.declared.Node.{Node as Written}
 use Rattle.node.specs.declared.Node.TheVariants.{Sum, Product as Factors, NullingLeaf, Evaluated}
@@ -28,7 +27,7 @@ use Rattle.forest.specs.Forests.{Product, Node, token, sum, other}
 use Rattle.forest.specs.Stores.{standing, with_product, products_at, as_node, node_at}
 use Rattle.forest.proofs.Units.{standing_is}
 use Rattle.trees.specs.Faults.{asked, asked_at}
-use Rattle.trees.specs.inner.Heads.{head_of, head_at, step_of, step_here, step_at, product_of, SumAt}
+use Rattle.trees.specs.inner.Heads.{head_of, head_at, step_of, step_at, product_of, SumAt}
 use Rattle.trees.specs.inner.Weights.{sum_weight, weigh_node}
 use Rattle.trees.specs.declared.Head.{Head}
 use Rattle.trees.specs.declared.Head.TheVariants.{SumOf, Leaf, Neither}

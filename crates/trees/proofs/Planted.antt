@@ -1,12 +1,12 @@
 -- Where a forest was planted nothing is faulty: each Sum below a handle has its Products behind it, and factors before it.
-use mathlib.Core.Path.{◌≡◌, refl, sym, ap, subst, ◌∙◌}
+use mathlib.Core.Path.{◌≡◌, sym, ap, subst, ◌∙◌}
 use mathlib.Core.List.{List, ◌∷◌, map}
-use Prim.Native.Nat.{ℕ, ◌≤◌, ◌<◌}
+use Prim.Native.Nat.{ℕ, ◌<◌}
 use native.Mathlib.Omega.{arith}
 use lib.ListN.{length}
 use Rattle.node.specs.Writing.{usable}
 use Rattle.node.specs.declared.Node.TheVariants.{Sum}
-use Rattle.forest.specs.Forests.{Product, Node, token, sum, other, Under}
+use Rattle.forest.specs.Forests.{Product, Node, sum, other, Under}
 use Rattle.forest.specs.Stores.{node_at}
 use Rattle.forest.proofs.Rooted.{Rooted}
 use Rattle.forest.proofs.Units.{Row, spell, Standing, standing_is, standing-read, unit_store}

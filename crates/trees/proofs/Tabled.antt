@@ -16,7 +16,7 @@ use Rattle.forest.specs.Forests.{Product, alone, paired, Node, token, sum, other
 use Rattle.forest.specs.Stores.{products_at, node_at}
 use Rattle.trees.specs.Faults.{asked_at}
 use Rattle.trees.specs.inner.Heads.{step_at, product_of}
-use Rattle.trees.specs.inner.Weights.{plus, times, of_entry, factor_weight, product_weight, sum_from, closed, sum_weight, weigh_node, entry_in, weights, entry_at}
+use Rattle.trees.specs.inner.Weights.{plus, times, of_entry, factor_weight, product_weight, sum_from, closed, weigh_node, entry_in, weights, entry_at}
 use Rattle.trees.specs.inner.Tables.{entry_of, tabled, kind_of, count_of, low_of}
 use Rattle.trees.specs.declared.Step.TheVariants.{ProductOf, Ended}
 use Rattle.trees.specs.declared.Weight.{Weight}

@@ -1,5 +1,5 @@
 -- What count and tree answer: the number of a refusal or 0, and what comes with it.
-use Rattle.std.specs.Prelude.{List, ◌++◌, Bool, ℕ, ◌≤◌, ◌<◌, length, drop, leb}
+use Rattle.std.specs.Prelude.{List, ◌++◌, ℕ, ◌≤◌, ◌<◌, length, drop, leb}
 use Rattle.laws.specs.Fills.{too_short}
 use Rattle.node.specs.Choice.{pick}
 use Rattle.node.specs.Writing.{usable_units}

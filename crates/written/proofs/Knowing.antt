@@ -123,6 +123,7 @@ module _ (w : Written) (fruit : (x : ℕ) → x < symbol_count w → Fruitful w 
     pub filled : strung.string ≡ [] → ⊥
 
   pub all-filled : {α : List ℕ} {x : ℕ} → Each (λ (y : ℕ). y < symbol_count w) α → In x α → Stays w x → Filled α
+  all-filled end i s = elim i [ ]
   all-filled (and h p) here s =
       let r = all_strung p in
       record {

@@ -150,7 +150,7 @@ pairwise_map : {A : Type 0} {P Q : A → A → Type 0} {l : List A} → ((x y : 
 pairwise_map f Pairwise.empty = Pairwise.empty
 pairwise_map f (Pairwise.more {x = x} e p) = Pairwise.more (each_of f x e) (pairwise_map f p)
   where
-    each_of : {A : Type 0} {P Q : A → A → Type 0} {l : List A} → ((x y : A) → P x y → Q x y) → (x : A) → Each (P x) l → Each (Q x) l
+    each_of : {A : Type 0} {P Q : A → A → Type 0} → ((x y : A) → P x y → Q x y) → (x : A) → {l : List A} → Each (P x) l → Each (Q x) l
     each_of g x end = end
     each_of g x (and {x = y} h e) = and (g x y h) (each_of g x e)
 

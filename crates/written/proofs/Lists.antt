@@ -23,6 +23,7 @@ each_map f (and {x = x} p q) = and (f x p) (each_map f q)
 
 -- What holds of all holds of each that is there; and the other way round.
 pub each_in : {A : Type 0} {P : A → Type 0} {l : List A} {x : A} → Each P l → In x l → P x
+each_in end i = elim i [ ]
 each_in (and p q) here = p
 each_in (and p q) (there i) = each_in q i
 

@@ -1,5 +1,5 @@
 -- A finite set in which everything has a predecessor has a loop.
-use mathlib.Core.List.{List, ◌∷◌}
+use mathlib.Core.List.{List, [], ◌∷◌}
 use Prim.Native.Nat.{ℕ}
 use Rattle.written.specs.Lists.{In}
 use Rattle.written.specs.Lists.In.{here, there}
@@ -27,4 +27,5 @@ module _ (R : ℕ → ℕ → Type 0) where
 
     -- A list in which everything is led to by something of the list has a loop.
     pub has_loop : (l : List ℕ) (x : ℕ) → In x l → ((b : ℕ) → In b l → Led l b) → Loop
+    has_loop [] x i led = elim i [ ]
     has_loop (y ∷ l) x i led = step y l (λ b k. led b (there k)) (λ f j h. has_loop l f j h) (led y here).from (led y here).within (led y here).leads

@@ -30,6 +30,7 @@ passed_more test y p = record { within = there p.within; passes = p.passes }
 
 pub passing_in : {x : ℕ} (test : ℕ → Bool) (l : List ℕ) → In x (passing test l) → Passed test l x
 unfolding passing
+passing_in test [] i = elim i [ ]
 passing_in {x} test (y ∷ l) i = either_way (test y)
     (λ k. head_or_tail (rw (k, passing) at i)
     (λ e. record { within = subst (λ (z : ℕ). In x (z ∷ l)) (sym e) here; passes = ap test (sym e) ∙ k })

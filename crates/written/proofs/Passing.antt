@@ -17,7 +17,7 @@ use Rattle.written.specs.Written.{WrittenRule, Tokens, symbol_count}
 use Rattle.written.specs.Written.Tokens.{one_more}
 use Rattle.written.specs.Refusals.{Stays, Reachable}
 use Rattle.written.specs.Split.{pair, joined, split}
-use Rattle.written.specs.Translation.{number, places, new_symbols, all_new, splits, blocks}
+use Rattle.written.specs.Translation.{places, new_symbols, all_new, splits, blocks}
 use Rattle.written.proofs.Lists.{each_in, each_part, at_in, no_twice_at, Before, before_one_way}
 use Rattle.written.proofs.Splitting.{Has}
 use Rattle.written.proofs.Listing.{blocks-once, in_blocks, rules_parts}

@@ -13,7 +13,7 @@ use Rattle.grammar.specs.Sentences.{Derives, Sentence}
 use Rattle.written.specs.Lists.{In, Each}
 use Rattle.written.specs.Lists.In.{here, there}
 use Rattle.written.specs.Written.{WrittenRule, Writes, Becomes, Gives, symbol_count, no_written}
-use Rattle.written.specs.Split.{rule, split}
+use Rattle.written.specs.Split.{split}
 use Rattle.written.specs.Translation.{number, places, new_symbols, splits, list_of, order_of, up_from, blocks, translated}
 use Rattle.written.proofs.Lists.{each_in, in_each, each_part, none_there, in_at, at_in, NoTwice, Before}
 use Rattle.written.proofs.Becoming.{becomes-same, becomes_on}

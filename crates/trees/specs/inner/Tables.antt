@@ -1,5 +1,5 @@
 -- The table as three rows of numbers.
-use Rattle.std.specs.Prelude.{◌≡◌, List, Bool, ℕ, ◌<◌, get_or, eqb}
+use Rattle.std.specs.Prelude.{◌≡◌, List, ℕ, ◌<◌, get_or, eqb}
 use Rattle.node.specs.Choice.{pick}
 use Rattle.trees.specs.inner.Weights.{entry_at}
 use Rattle.trees.specs.declared.Weight.TheVariants.{Fault, Number, Many}

@@ -1,5 +1,5 @@
 -- The table: what each position of a store weighs, from the entries before it.
-use Rattle.std.specs.Prelude.{List, [], ◌∷◌, ◌++◌, Bool, ℕ, zero, suc, ◌+◌, ◌*◌, length, get_or, ltb, eqb}
+use Rattle.std.specs.Prelude.{List, [], ◌∷◌, ◌++◌, ℕ, zero, suc, ◌+◌, ◌*◌, length, get_or, ltb, eqb}
 use Rattle.node.specs.Choice.{pick}
 use Rattle.forest.specs.Forests.{Product, alone, paired, Node, token, sum, other}
 use Rattle.forest.specs.Stores.{node_at}

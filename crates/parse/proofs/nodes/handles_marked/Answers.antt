@@ -13,22 +13,16 @@ use Rattle.parse.proofs.Marking.{mark_told}
 use Rattle.parse.proofs.Passing.{Passed, none_passed, one_passed}
 use Rattle.parse.proofs.nodes.handles_marked.Goals as goal
 
--- The handle at this place was looked up.
-told : (c : goal.After-is_marked)
-    → let given = c.args in
-    Decides c.is_marked.result (Holds given.heads.now (handle_at given.items.now c.loop-p.p))
-told c = mark_told _ _ _ c.is_marked.ensures (c.wide.ensures ∙ c.handle.ensures)
-
 pub loop-p-init : goal.loop-p-init
 loop-p-init c = none_passed _ _
 
 pub returns-then-not-is_marked : goal.returns-then-not-is_marked
 returns-then-not-is_marked c =
     let looped = c.loop-p in
-    part_fails (told c) (ap not c.if-not-is_marked.true) (λ (h : HandlesMarked _ _ _). h.each looped.p c.loop-p-test.true)
+    part_fails (mark_told _ _ _ c.is_marked.ensures (c.wide.ensures ∙ c.handle.ensures)) (ap not c.if-not-is_marked.true) (λ (h : HandlesMarked _ _ _). h.each looped.p c.loop-p-test.true)
 
 pub loop-p-preserved : goal.loop-p-preserved
-loop-p-preserved c = one_passed _ _ _ c.loop-p.invariant (passes (told c) (ap not c.if-not-is_marked.false))
+loop-p-preserved c = one_passed _ _ _ c.loop-p.invariant (passes (mark_told _ _ _ c.is_marked.ensures (c.wide.ensures ∙ c.handle.ensures)) (ap not c.if-not-is_marked.false))
 
 pub returns : goal.returns
 returns c = says_yes_lem (record { each = λ p l. c.loop-p.invariant.each p (omega arith) (omega arith) })

@@ -8,21 +8,15 @@ use Rattle.parse.proofs.Fitting.{fit_among, among_more}
 use Rattle.laws.proofs.Decides.{part_fails, passes, decides_map}
 use Rattle.parse.proofs.sets.set_fits.Goals as goal
 
--- Past the first test the items fit.
-fit : (c : goal.Else-not-all_fit)
-    → let args = c.args in
-    AllFit (rules_in args.rules.now args.count) args.items.now args.k args.from args.to
-fit c = passes c.all_fit.ensures (ap not c.if-not-all_fit.false)
-
 pub returns-then-not-all_fit : goal.returns-then-not-all_fit
 returns-then-not-all_fit c = part_fails c.all_fit.ensures (ap not c.if-not-all_fit.true) (λ (h : SetFits _ _ _ _ _). h.fit)
 
 pub rises-requires : goal.rises-requires
 rises-requires c =
-    ((c.requires.0.1, c.requires.1), among_more _ _ _ _ _ (fit_among _ _ c.args.count _ _ _ (fit c)) c.requires.0.0)
+    ((c.requires.0.1, c.requires.1), among_more _ _ _ _ _ (fit_among _ _ c.args.count _ _ _ (passes c.all_fit.ensures (ap not c.if-not-all_fit.false))) c.requires.0.0)
 
 pub returns : goal.returns
 returns c =
     let count = c.args.count in
-    decides_map (λ rise. record { fit = fit c; rise = rise }) (λ (h : SetFits _ _ _ _ _). h.rise)
-    (c.rises.ensures count (fit_among _ _ count _ _ _ (fit c)))
+    decides_map (λ rise. record { fit = passes c.all_fit.ensures (ap not c.if-not-all_fit.false); rise = rise }) (λ (h : SetFits _ _ _ _ _). h.rise)
+    (c.rises.ensures count (fit_among _ _ count _ _ _ (passes c.all_fit.ensures (ap not c.if-not-all_fit.false))))

@@ -12,14 +12,6 @@ use Rattle.laws.proofs.Decides.{says_yes_lem, part_fails, passes, decides_of}
 use Rattle.parse.proofs.Passing.{Passed, none_passed, one_passed}
 use Rattle.parse.proofs.sets.sets_fit.Goals as goal
 
--- What `set_fits` tells of the set between two starts.
-told : (c : goal.After-set_fits)
-    → let given = c.args in
-    let looped = c.loop-k in
-    Decides c.set_fits.result (SetFits (rules_in given.rules.now given.count) given.items.now looped.k (get_or given.starts.now looped.k 0)
-    (get_or given.starts.now (looped.k + 1) 0))
-told c = decides_of (SetFits _ _ _) c.wide.ensures c.wide-in-loop-k.ensures c.set_fits.ensures
-
 pub loop-k-init : goal.loop-k-init
 loop-k-init c = (none_passed _ 0, search rules)
 
@@ -36,12 +28,12 @@ set_fits-requires c =
     ((required.0.0, omega (arith, from, to, up)), omega (arith, to, last, required.1.0))
 
 pub returns-then-not-set_fits : goal.returns-then-not-set_fits
-returns-then-not-set_fits c = part_fails (told c) (ap not c.if-not-set_fits.true) (λ (h : SetsFit _ _ _ _). h.each _ (omega arith))
+returns-then-not-set_fits c = part_fails (decides_of (SetFits _ _ _) c.wide.ensures c.wide-in-loop-k.ensures c.set_fits.ensures) (ap not c.if-not-set_fits.true) (λ (h : SetsFit _ _ _ _). h.each _ (omega arith))
 
 pub loop-k-preserved : goal.loop-k-preserved
 loop-k-preserved c =
     let looped = c.loop-k in
-    (one_passed _ 0 _ looped.invariant.0 (passes (told c) (ap not c.if-not-set_fits.false)), search rules)
+    (one_passed _ 0 _ looped.invariant.0 (passes (decides_of (SetFits _ _ _) c.wide.ensures c.wide-in-loop-k.ensures c.set_fits.ensures) (ap not c.if-not-set_fits.false)), search rules)
 
 pub returns : goal.returns
 returns c = says_yes_lem (record { each = λ k l. c.loop-k.invariant.0.each k (omega arith) (omega arith) })

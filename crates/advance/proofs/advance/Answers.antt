@@ -1,0 +1,86 @@
+-- `advance::advance` meets its contract.
+use mathlib.Core.Path.{◌∙◌}
+use native.Mathlib.Omega.{arith}
+use Rattle.advance.proofs.Advancing.{reach_asks, clear_asks, reaches, kept-below, refuses, next_asks, advances}
+use Rattle.advance.proofs.advance.Goals as goal
+
+pub new_items-end-requires : goal.new_items-end-requires
+new_items-end-requires c =
+    let required = c.requires in
+    (required.new, required.spare_items)
+
+pub greatest_origin-m-requires : goal.greatest_origin-m-requires
+greatest_origin-m-requires c =
+    let required = c.requires in
+    let items-made = c.new_items-end in
+    reach_asks _ _ _ _ _ _ required _ _ items-made.ensures.end items-made.ensures.words
+
+pub last_kept-requires : goal.last_kept-requires
+last_kept-requires c =
+    let required = c.requires in
+    let items-made = c.new_items-end in
+    reaches _ _ _ _ _ _ required _ _ items-made.ensures.end items-made.ensures.words _ c.greatest_origin-m.ensures
+
+pub overflow_add-last_kept : goal.overflow_add-last_kept
+overflow_add-last_kept c =
+    let required = c.requires in
+    let items-made = c.new_items-end in
+    omega (
+      arith,
+      kept-below _ _ _ _ _ _ required _ _ items-made.ensures.end items-made.ensures.words _
+          c.greatest_origin-m.ensures _
+          c.last_kept.ensures,
+      required.set_fits,
+    )
+
+pub overflow_mul-from : goal.overflow_mul-from
+overflow_mul-from c =
+    let required = c.requires in
+    let items-made = c.new_items-end in
+    omega (
+      arith,
+      (clear_asks _ _ _ _ _ _ required _ _ items-made.ensures.end items-made.ensures.words).0,
+    )
+
+pub overflow_mul-end : goal.overflow_mul-end
+overflow_mul-end c =
+    let required = c.requires in
+    let items-made = c.new_items-end in
+    omega (
+      arith,
+      (clear_asks _ _ _ _ _ _ required _ _ items-made.ensures.end items-made.ensures.words).1,
+    )
+
+pub clear-requires : goal.clear-requires
+clear-requires c =
+    let required = c.requires in
+    let items-made = c.new_items-end in
+    clear_asks _ _ _ _ _ _ required _ _ items-made.ensures.end items-made.ensures.words
+
+pub returns-then-last_kept-rows : goal.returns-then-last_kept-rows
+returns-then-last_kept-rows c =
+    let required = c.requires in
+    let items-made = c.new_items-end in
+    let origin-found = c.greatest_origin-m in
+    refuses _ _ _ _ _ _ required _ _ items-made.ensures.end items-made.ensures.words _
+    origin-found.ensures _ c.last_kept.ensures
+    c.if-last_kept-rows.true c.clear.ensures
+
+pub next_set-requires : goal.next_set-requires
+next_set-requires c =
+    let required = c.requires in
+    let items-made = c.new_items-end in
+    next_asks _ _ _ _ _ _ required _ _ items-made.ensures.end items-made.ensures.words _
+    c.greatest_origin-m.ensures _ c.last_kept.ensures
+    c.if-last_kept-rows.false
+
+pub returns : goal.returns
+returns c =
+    let required = c.requires in
+    let items-made = c.new_items-end in
+    let origin-found = c.greatest_origin-m in
+    let kept-found = c.last_kept in
+    let room-tested = c.if-last_kept-rows in
+    let set-made = c.next_set in
+    advances _ _ _ _ _ _ required _ _ items-made.ensures.end items-made.ensures.words _ origin-found.ensures _
+    kept-found.ensures room-tested.false set-made.ensures

@@ -1,0 +1,12 @@
+-- `advance::predict::prediction_pass` meets its contract. The invariant: the rows of the items from place `p` on are joined.
+use Prim.Native.Nat.{◌-◌}
+use native.Mathlib.Omega.{arith}
+use borrow.Author.Rules.{rules}
+use Rattle.advance.proofs.Predicting.{Predicting, predicting_start, predicting_length, predicting_symbol, predicting_wide, predicting_next, predicting_ends}
+use Rattle.advance.proofs.predict.prediction_pass.Given as goal
+
+abbrev pub invariant-loop-p : goal.invariant-loop-p
+invariant-loop-p l = Predicting l.rules l.count l.table l.items l.initial.rows l.from l.to l.k l.p l.rows
+
+abbrev pub decreases-loop-p : goal.decreases-loop-p
+decreases-loop-p l = l.p

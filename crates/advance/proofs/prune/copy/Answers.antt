@@ -1,0 +1,6 @@
+-- `advance::prune::copy` meets its contract.
+use borrow.Author.Rules.{rules}
+use Rattle.advance.proofs.prune.copy.Goals as goal
+
+pub returns : goal.returns
+returns c = cc

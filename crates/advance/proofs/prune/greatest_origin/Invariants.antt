@@ -1,0 +1,13 @@
+-- `advance::prune::greatest_origin` meets its contract. The invariant: `m` is the greatest origin from place `p` on, or 0.
+use mathlib.Core.Path.{ap, ◌∙◌}
+use Prim.Native.Nat.{ℕ, max}
+use native.Mathlib.Omega.{arith}
+use borrow.Author.Rules.{rules}
+use Rattle.advance.proofs.Pruning.{Reaching, reaching-start, reaching-next, reaching-ends, reaching_none}
+use Rattle.advance.proofs.prune.greatest_origin.Given as goal
+
+abbrev pub invariant-loop-p : goal.invariant-loop-p
+invariant-loop-p l = Reaching l.items l.from l.to l.p l.m
+
+abbrev pub decreases-loop-p : goal.decreases-loop-p
+decreases-loop-p l = l.p

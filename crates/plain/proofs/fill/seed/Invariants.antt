@@ -1,0 +1,11 @@
+-- `plain::fill::seed` meets its contract. The invariant: the tokens passed stand in their rows, and nothing else does.
+use Prim.Native.Nat.{◌-◌, ◌≤◌}
+use lib.ListN.{length}
+use Rattle.plain.specs.inner.Filling.{Seeded, Kept}
+use Rattle.plain.proofs.fill.seed.Given as goal
+
+abbrev pub invariant-loop-i : goal.invariant-loop-i
+invariant-loop-i l = (l.i ≤ length l.tokens) × Kept (length l.tokens) l.initial.table l.table × Seeded l.tokens l.table l.i
+
+abbrev pub decreases-loop-i : goal.decreases-loop-i
+decreases-loop-i l = l.i-end - l.i

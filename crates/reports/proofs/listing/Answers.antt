@@ -1,0 +1,40 @@
+-- `reports::listing` meets its contract.
+use borrow.Author.Rules.{rules}
+use native.Mathlib.Omega.{arith}
+use Rattle.laws.specs.Fills.{Fills}
+use Rattle.parse.specs.Words.{words_of}
+use Rattle.recognizer.proofs.Readying.{readied_fault, readied_formed}
+use Rattle.reports.specs.Lists.{line}
+use Rattle.reports.proofs.Latest.{in_room, start-there, rules_listable}
+use Rattle.reports.proofs.Telling.{puts_items}
+use Rattle.reports.proofs.listing.Goals as goal
+
+pub returns-in-Refused : goal.returns-in-Refused
+returns-in-Refused c = record {
+      calls = Fills.refused (readied_fault _ _ _ _ _ c.ready.ensures _ c.in-Refused.is);
+    }
+
+pub offset_bounds-starts-e : goal.offset_bounds-starts-e
+offset_bounds-starts-e c =
+    let given = c.args in
+    let formed = readied_formed _ _ _ _ _ c.ready.ensures _ c.in-Formed.is in
+    omega (arith, in_room _ _ given.state (words_of given.items.now given.starts.now given.rows.now given.queue.now given.store.now) formed.well_formed)
+
+pub bounds-starts-e : goal.bounds-starts-e
+bounds-starts-e c =
+    let given = c.args in
+    let formed = readied_formed _ _ _ _ _ c.ready.ensures _ c.in-Formed.is in
+    start-there _ _ given.state (words_of given.items.now given.starts.now given.rows.now given.queue.now given.store.now) formed.well_formed
+
+pub list_text-requires : goal.list_text-requires
+list_text-requires c =
+    let given = c.args in
+    let readied = c.ready in
+    rules_listable _ given.state (words_of given.items.now given.starts.now given.rows.now given.queue.now given.store.now) _ _ readied.ensures _ c.in-Formed.is c.wide-from.ensures
+
+pub returns : goal.returns
+returns c =
+    let readied = c.ready in
+    let formed = readied_formed _ _ _ _ _ readied.ensures _ c.in-Formed.is in record {
+      calls = puts_items line formed c.wide-from.ensures c.list_text.ensures;
+    }

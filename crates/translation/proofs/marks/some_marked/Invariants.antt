@@ -1,0 +1,10 @@
+-- `translation::marks::some_marked` meets its contract. The invariant: the symbols that are left decide.
+use Rattle.translation.proofs.Testing.{Testing}
+use Rattle.translation.specs.inner.Marks.{marked, some_is}
+use Rattle.translation.proofs.marks.some_marked.Given as goal
+
+abbrev pub invariant-loop-left : goal.invariant-loop-left
+invariant-loop-left l = Testing (marked l.marks) (some_is (marked l.marks)) l.written l.at l.n l.here l.left
+
+abbrev pub decreases-loop-left : goal.decreases-loop-left
+decreases-loop-left l = l.left

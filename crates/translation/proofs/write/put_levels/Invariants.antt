@@ -1,0 +1,16 @@
+-- `translation::write::put_levels` meets its contract. The invariant: the bytes put so far and those of the levels to come are all.
+use Prim.Native.Nat.{◌-◌}
+use Rattle.laws.specs.Records.{flat}
+use Rattle.grammar.specs.inner.Decoded.{rules_in}
+use Rattle.written.specs.Order.{ordered}
+use Rattle.written.specs.Translation.{blocks, up_from}
+use Rattle.written.specs.Bytes.{bytes_of_rule}
+use Rattle.translation.proofs.Siding.{Levels}
+use Rattle.translation.proofs.write.put_levels.Given as goal
+
+abbrev pub invariant-loop-rounds : goal.invariant-loop-rounds
+invariant-loop-rounds l =
+    Levels l.rules l.count l.from l.to l.initial.file l.at (flat bytes_of_rule (blocks (rules_in l.rules l.count) (ordered (l.to - l.from) (rules_in l.rules l.count) (up_from l.from (l.to - l.from))))) l.file l.left l.here l.rounds
+
+abbrev pub decreases-loop-rounds : goal.decreases-loop-rounds
+decreases-loop-rounds l = l.rounds
