@@ -2,13 +2,12 @@
 use mathlib.Core.Path.{◌≡◌, refl, sym, ap, ◌∙◌}
 use mathlib.Core.Bool.{Bool, true, false, ◌&&◌, not}
 use mathlib.Core.List.{List}
-use Prim.Native.Nat.{ℕ, zero, suc, ◌+◌, ◌-◌, ◌/◌, ◌<◌}
+use Prim.Native.Nat.{ℕ, zero, suc, ◌+◌, ◌-◌, ◌/◌}
 use native.Mathlib.Decide.{dec_lt, ℕ_discrete}
 use native.Mathlib.Omega.{arith}
 use lib.ListN.{length, get_or}
 use lib.Dec.{eqb}
 use Rattle.laws.specs.Turns.{over}
-use Rattle.laws.proofs.Tests.{either_way}
 use Rattle.item.specs.Item.{item_words, item_at}
 use Rattle.node.specs.Rows.{all_ones}
 use Rattle.grammar.specs.Rules.{Rule, none, no_rule}

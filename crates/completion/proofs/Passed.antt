@@ -4,7 +4,7 @@ use mathlib.Core.List.{List}
 use Prim.Native.Nat.{ℕ, ◌*◌, ◌≤◌, ◌<◌}
 use native.Mathlib.Omega.{arith}
 use lib.ListN.{length, get_or}
-use Rattle.item.specs.Item.{Item, item_words, item_at, origin_at, rule_at}
+use Rattle.item.specs.Item.{item_words, item_at, origin_at, rule_at}
 use Rattle.binary_heap.specs.Entry.{no_entry, entry_words}
 use Rattle.binary_heap.specs.Sift.{entry_at}
 use Rattle.grammar.specs.Rules.{Rule, Grammar}

@@ -1,10 +1,10 @@
 -- What a filled place is settles the number, the count and the place.
-use mathlib.Core.Path.{◌≡◌, refl, sym, ap, subst}
+use mathlib.Core.Path.{◌≡◌, refl, ap}
 use mathlib.Core.List.{List, ◌++◌}
-use Prim.Native.Nat.{ℕ, ◌≤◌, ◌<◌}
+use Prim.Native.Nat.{ℕ}
 use native.Mathlib.Omega.{arith}
 use lib.ListN.{length, drop}
-use Rattle.laws.specs.Fills.{too_short, Fills}
+use Rattle.laws.specs.Fills.{Fills}
 use Rattle.laws.specs.Fills.Fills.{refused, short, done}
 
 pub record SameFill {A : Type 0} (n c : ℕ) (out : List A) (m d : ℕ) (other : List A) : Type 0 where

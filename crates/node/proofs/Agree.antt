@@ -2,7 +2,7 @@
 use mathlib.Core.Path.{◌≡◌, refl, sym, ap, ◌∙◌}
 use mathlib.Core.List.{List}
 use Prim.Native.Nat.{ℕ}
-use Rattle.node.specs.Answers.{answer, written, found, walked}
+use Rattle.node.specs.Answers.{written, found, walked}
 use Rattle.node.specs.Writing.{StoreOutcome}
 use Rattle.node.specs.declared.Written.{Written}
 use Rattle.node.specs.declared.Written.TheVariants.{Behind, Unfit, NoRoom}

@@ -1,5 +1,5 @@
 -- What count and tree tell under a handle that finished has told.
-use mathlib.Core.Path.{◌≡◌, refl, sym, ap, subst, ◌∙◌}
+use mathlib.Core.Path.{◌≡◌, refl, sym, ap, subst}
 use mathlib.Core.Bool.{Bool, true, false≢true}
 use mathlib.Core.List.Memᴰ.{head as here}
 use mathlib.Core.List.{List, ◌∷◌, [], ◌++◌, Memᴰ as Member}

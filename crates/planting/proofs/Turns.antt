@@ -52,7 +52,7 @@ use Rattle.completion.proofs.Beginning.{beginning}
 use Rattle.demands.proofs.Positions.{place_member}
 use Rattle.demands.proofs.Chart.{chart_of}
 use Rattle.earley.proofs.Steps.{Kinds}
-use Rattle.forest.specs.Forests.{Product, sum}
+use Rattle.forest.specs.Forests.{Product}
 use Rattle.forest.proofs.Counted.{member_counted, counted_member}
 use Rattle.forest.proofs.Tied.{Turn, Terms, Summed, Scanned, Run}
 use Rattle.forest.proofs.Entries.{Pair, same-pair, Items, product_of, terms, Linked, Read, Fed}

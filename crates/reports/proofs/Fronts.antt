@@ -3,8 +3,8 @@ use mathlib.Core.Path.{◌≡◌, refl, sym, ap, subst, subst₂, ◌∙◌}
 use mathlib.Core.List.{List, [], ◌∷◌, ◌++◌, append_assoc}
 use Prim.Native.Nat.{ℕ, suc, ◌+◌, ◌≤◌, ◌<◌}
 use native.Mathlib.Omega.{arith}
-use lib.ListN.{length, set, take, drop, length-append, length-drop}
-use lib.Seq.{take_at, drop-append-add, drop-drop, set_split, set-append_seam, drop-cons}
+use lib.ListN.{length, set, drop, length-append, length-drop}
+use lib.Seq.{take_at, drop-append-add, drop-drop, set-append_seam, drop-cons}
 use Rattle.reports.specs.declared.Filled.TheVariants.{Wrote, TooShort}
 use Rattle.reports.specs.inner.Puts.{Puts, written}
 

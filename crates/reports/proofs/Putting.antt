@@ -1,10 +1,10 @@
 -- Words put into a place, one stretch behind the other.
 use mathlib.Core.Path.{◌≡◌, refl, sym, ap, ap₂, subst, ◌∙◌}
 use mathlib.Core.List.{List, [], ◌∷◌, ◌++◌, append_assoc}
-use Prim.Native.Nat.{ℕ, suc, ◌+◌, ◌-◌, ◌/◌, ◌%◌, ◌≤◌, ◌<◌}
+use Prim.Native.Nat.{ℕ, suc, ◌+◌, ◌/◌, ◌%◌, ◌≤◌, ◌<◌}
 use native.Mathlib.Omega.{arith}
 use lib.ListN.{length, take, drop, set, length-append, length-drop, take-append-drop}
-use lib.Seq.{length-take-le, take-length, take_at, drop-append-le, drop-append-add, drop-drop, set_split}
+use lib.Seq.{length-take-le, take_at, drop-append-add, drop-drop, set_split}
 use Rattle.reports.specs.Decimal.{digit, decimal}
 use Rattle.reports.specs.declared.Filled.TheVariants.{Wrote, TooShort}
 use Rattle.reports.specs.inner.Puts.{Puts, written}

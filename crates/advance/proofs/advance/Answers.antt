@@ -1,5 +1,4 @@
 -- `advance::advance` meets its contract.
-use mathlib.Core.Path.{◌∙◌}
 use native.Mathlib.Omega.{arith}
 use Rattle.advance.proofs.Advancing.{reach_asks, clear_asks, reaches, kept-below, refuses, next_asks, advances}
 use Rattle.advance.proofs.advance.Goals as goal

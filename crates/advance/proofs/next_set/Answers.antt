@@ -1,8 +1,5 @@
 -- `advance::next_set` meets its contract.
-use mathlib.Core.Path.{◌∙◌}
 use native.Mathlib.Omega.{arith}
-use lib.ListN.{length-set}
-use borrow.Author.Rules.{rules}
 use Rattle.advance.proofs.Following.{end_fits, starts-long, follows_asks, follows}
 use Rattle.advance.proofs.next_set.Goals as goal
 

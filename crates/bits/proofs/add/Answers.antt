@@ -5,7 +5,6 @@ use Rattle.laws.proofs.Bits.{one_shifted}
 use mathlib.Core.Path.{ap}
 use Prim.Native.Nat.{ℕ, ◌/◌, ◌%◌}
 use native.Mathlib.Omega.{arith}
-use borrow.Author.Rules.{rules}
 use Rattle.bits.proofs.add.Goals as goal
 
 pub returns : goal.returns

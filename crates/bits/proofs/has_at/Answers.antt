@@ -6,7 +6,6 @@ use Rattle.laws.proofs.Rows.{row_word}
 use mathlib.Core.Path.{sym, ap}
 use Prim.Native.Nat.{ℕ, ◌/◌, ◌%◌}
 use native.Mathlib.Omega.{arith}
-use borrow.Author.Rules.{rules}
 use Rattle.bits.proofs.has_at.Goals as goal
 
 pub returns : goal.returns

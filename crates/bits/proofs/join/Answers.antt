@@ -4,11 +4,9 @@ use Rattle.laws.specs.Bits.{union}
 use Rattle.laws.proofs.Bits.{union_wide, union-word}
 use Rattle.laws.proofs.Filled.{filled_more}
 use lib.Bits.{bit_or}
-use borrow.Author.Rules.{rules}
 use native.Mathlib.Omega.{arith}
-use mathlib.Core.Path.{◌≡◌, refl, sym, ◌∙◌}
-use Prim.Native.Nat.{ℕ, ◌-◌, ◌≤◌, ◌<◌}
-use lib.ListN.{length, get_or, length-set}
+use mathlib.Core.Path.{refl, sym, ◌∙◌}
+use lib.ListN.{get_or, length-set}
 use Rattle.bits.proofs.join.Goals as goal
 
 pub loop-i-preserved : goal.loop-i-preserved

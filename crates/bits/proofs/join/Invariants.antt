@@ -1,15 +1,9 @@
 -- `bits::join` meets its contract. The invariant: the words passed are the or of the two rows' words.
 use Rattle.bits.specs.Width.{row_words}
-use lib.Seq.{ext_get_or}
-use Rattle.laws.specs.Bits.{union}
-use Rattle.laws.proofs.Bits.{union_wide, union-word}
-use Rattle.laws.proofs.Filled.{filled_more}
 use lib.Bits.{bit_or}
-use borrow.Author.Rules.{rules}
-use native.Mathlib.Omega.{arith}
-use mathlib.Core.Path.{◌≡◌, refl, sym, ◌∙◌}
+use mathlib.Core.Path.{◌≡◌}
 use Prim.Native.Nat.{ℕ, ◌-◌, ◌≤◌, ◌<◌}
-use lib.ListN.{length, get_or, length-set}
+use lib.ListN.{length, get_or}
 use Rattle.bits.proofs.join.Given as goal
 
 abbrev pub invariant-loop-i : goal.invariant-loop-i

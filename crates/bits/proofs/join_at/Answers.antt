@@ -1,7 +1,5 @@
 use Rattle.bits.specs.Width.{row_words}
-use Rattle.bits.proofs.Rewriting.{Rewritten, none_rewritten, more_rewritten, all-joined, joined_word, still_old}
-use borrow.Author.Rules.{rules}
-use Prim.Native.Nat.{◌-◌}
+use Rattle.bits.proofs.Rewriting.{none_rewritten, more_rewritten, all-joined, still_old}
 use Rattle.bits.proofs.join_at.Goals as goal
 
 pub loop-i-init : goal.loop-i-init

@@ -1,7 +1,6 @@
 -- `bits::join_at` meets its contract. The invariant, `Rewritten`: the words passed are joined, and every other word is as it was.
 use Rattle.bits.specs.Width.{row_words}
-use Rattle.bits.proofs.Rewriting.{Rewritten, none_rewritten, more_rewritten, all-joined, joined_word, still_old}
-use borrow.Author.Rules.{rules}
+use Rattle.bits.proofs.Rewriting.{Rewritten, joined_word}
 use Prim.Native.Nat.{◌-◌}
 use Rattle.bits.proofs.join_at.Given as goal
 

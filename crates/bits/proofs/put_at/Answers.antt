@@ -1,8 +1,6 @@
 use Rattle.bits.specs.Width.{row_words}
-use Rattle.bits.proofs.Rewriting.{Rewritten, none_rewritten, more_rewritten, all_rewritten}
-use borrow.Author.Rules.{rules}
+use Rattle.bits.proofs.Rewriting.{none_rewritten, more_rewritten, all_rewritten}
 use mathlib.Core.Path.{refl}
-use Prim.Native.Nat.{◌-◌}
 use lib.ListN.{get_or}
 use Rattle.bits.proofs.put_at.Goals as goal
 

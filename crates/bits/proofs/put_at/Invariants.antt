@@ -1,8 +1,6 @@
 -- `bits::put_at` meets its contract. The invariant, `Rewritten`: the words passed are the row's, and every other word is as it was.
 use Rattle.bits.specs.Width.{row_words}
-use Rattle.bits.proofs.Rewriting.{Rewritten, none_rewritten, more_rewritten, all_rewritten}
-use borrow.Author.Rules.{rules}
-use mathlib.Core.Path.{refl}
+use Rattle.bits.proofs.Rewriting.{Rewritten}
 use Prim.Native.Nat.{◌-◌}
 use lib.ListN.{get_or}
 use Rattle.bits.proofs.put_at.Given as goal

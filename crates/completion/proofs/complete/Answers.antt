@@ -3,13 +3,10 @@ use Rattle.completion.proofs.Waiting.{rules-length}
 use Rattle.completion.specs.inner.Ready.{PassFits}
 use Rattle.completion.specs.Complete.{complete_unary_predictions, complete_binary_predictions}
 use Rattle.completion.specs.Pass.{Pass}
-use borrow.Author.Tests.{not-true, not-false}
 use Rattle.completion.specs.Pass.{pass_of}
 use Rattle.grammar.specs.inner.Decoded.{rules_in}
 use native.Mathlib.Omega.{arith}
-use Prim.Native.Nat.{◌-◌}
 use mathlib.Core.Path.{sym, ap, ◌∙◌, subst}
-use borrow.Author.Rules.{rules}
 use Rattle.completion.proofs.complete.Goals as goal
 
 -- src/lib.rt:42:9

@@ -1,5 +1,4 @@
 -- `grammar::accepted` meets its contract. One condition a return.
-use borrow.Author.Tests.{not-true, not-false}
 use Rattle.laws.proofs.Decides.{says_no, decides_map}
 use Rattle.grammar.proofs.Judging.{accepted-wraps, accepted-ruled, accepted-distinct, accepted-productive, accepted-reachable, low, judged}
 use native.Mathlib.Omega.{arith}

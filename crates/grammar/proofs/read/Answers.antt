@@ -1,19 +1,17 @@
 -- `grammar::read` meets its contract. One verdict a return.
-use borrow.Author.Tests.{not-true, not-false}
 use Rattle.grammar.proofs.Judging.{formed, accepted-low}
 use Rattle.grammar.proofs.Decoding.{linked_holds}
 use Rattle.grammar.specs.Accepted.{Accepted}
 use Rattle.grammar.proofs.Verdicts.{verdict_one, verdict_two, verdict_zero, readable, not_sized, read_grammar}
 use mathlib.Core.Path.{refl, subst, subst⁻¹}
 use native.Mathlib.Omega.{arith}
-use borrow.Author.Rules.{rules}
 use Rattle.grammar.proofs.read.Goals as goal
 
 pub returns-then-malformed : goal.returns-then-malformed
 returns-then-malformed c = record {
-      verdict = verdict_one _ (c.malformed.ensures.if_yes c.if-malformed.true);
-      decoded = record { accepted = λ zero. absurd (omega arith); refused = λ other. refl };
-    }
+  verdict = verdict_one _ (c.malformed.ensures.if_yes c.if-malformed.true);
+  decoded = record { accepted = λ zero. absurd (omega arith); refused = λ other. refl };
+}
 
 pub symbols-n-requires : goal.symbols-n-requires
 symbols-n-requires c = (formed _ (c.malformed.ensures.if_no c.if-malformed.false)).header

@@ -2,7 +2,6 @@
 use mathlib.Core.Path.{◌≡◌, sym, ap, subst, ◌∙◌}
 use native.Mathlib.Omega.{arith}
 use lib.ListN.{length-take}
-use borrow.Author.Rules.{rules}
 use Rattle.node.specs.Answers.{found}
 use Rattle.node.specs.Writing.{usable}
 use Rattle.node.specs.Reading.{read_at, read_units, Exactly}

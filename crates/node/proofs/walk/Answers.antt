@@ -2,7 +2,6 @@
 use mathlib.Core.Path.{ap, ◌∙◌}
 use native.Mathlib.Omega.{arith}
 use lib.ListN.{length-take}
-use borrow.Author.Rules.{rules}
 use Rattle.node.specs.Walking.{walk_from}
 use Rattle.node.proofs.Runs.{usable-part}
 use Rattle.node.proofs.walk.Goals as goal

@@ -1,6 +1,5 @@
 -- `write` meets its contract: the units of the node are placed.
 use mathlib.Core.Path.{ap, ◌∙◌}
-use borrow.Author.Rules.{rules}
 use Rattle.node.specs.Rows.{list_of}
 use Rattle.node.specs.Writing.{write_units}
 use Rattle.node.proofs.write.Goals as goal

@@ -5,7 +5,6 @@ use mathlib.Core.Path.{sym}
 use native.Mathlib.Omega.{arith}
 use lib.ListN.{length-take}
 use lib.Seq.{length-take-le}
-use borrow.Author.Rules.{rules}
 use Rattle.parse.specs.WellFormed.{WellFormed}
 use Rattle.parse.proofs.Whole.{whole, its_starts, its_sets, its_rows, its_spare, its_store}
 use Rattle.laws.proofs.Decides.{says_no, part_fails, passes, decides_map}

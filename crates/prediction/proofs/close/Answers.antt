@@ -1,13 +1,7 @@
-use mathlib.Core.List.{List}
-use borrow.Author.Tests.{not-true, not-false}
 use Rattle.laws.proofs.Bits.{holds_true, holds_false}
-use Rattle.bits.specs.Width.{row_words}
-use Rattle.prediction.specs.inner.Tables.{Lone}
-use Rattle.prediction.proofs.Warshall.{Level, InTurn, level_seed, turn-begins, turn-ends, row_passed, row-joined, closed}
-use borrow.Author.Rules.{rules}
+use Rattle.prediction.proofs.Warshall.{level_seed, turn-begins, turn-ends, row_passed, row-joined, closed}
 use native.Mathlib.Omega.{arith}
 use mathlib.Core.Path.{sym, ◌∙◌}
-use Prim.Native.Nat.{ℕ, ◌-◌}
 use Rattle.prediction.proofs.close.Goals as goal
 
 pub loop-k-init : goal.loop-k-init

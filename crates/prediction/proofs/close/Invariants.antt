@@ -1,13 +1,8 @@
 -- `prediction::close` meets its contract. The invariants: `Level` before a turn, and `InTurn` within it, whatever the seed was, if its rows below `from` are lone.
 use mathlib.Core.List.{List}
-use borrow.Author.Tests.{not-true, not-false}
-use Rattle.laws.proofs.Bits.{holds_true, holds_false}
 use Rattle.bits.specs.Width.{row_words}
 use Rattle.prediction.specs.inner.Tables.{Lone}
-use Rattle.prediction.proofs.Warshall.{Level, InTurn, level_seed, turn-begins, turn-ends, row_passed, row-joined, closed}
-use borrow.Author.Rules.{rules}
-use native.Mathlib.Omega.{arith}
-use mathlib.Core.Path.{sym, ◌∙◌}
+use Rattle.prediction.proofs.Warshall.{Level, InTurn}
 use Prim.Native.Nat.{ℕ, ◌-◌}
 use Rattle.prediction.proofs.close.Given as goal
 

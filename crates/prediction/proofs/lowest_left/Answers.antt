@@ -1,9 +1,8 @@
 use native.Mathlib.Decide.{ℕ_discrete}
 use native.Mathlib.Omega.{arith}
-use mathlib.Core.Path.{◌≡◌, ap}
-use Prim.Native.Nat.{ℕ, ◌+◌, ◌-◌, ◌≤◌, ◌<◌}
+use mathlib.Core.Path.{ap}
+use Prim.Native.Nat.{ℕ, ◌+◌, ◌≤◌}
 use mathlib.Core.List.{List}
-use borrow.Author.Rules.{rules}
 use Rattle.grammar.specs.inner.Decoded.{left_in}
 use Rattle.prediction.specs.inner.Tables.{NotAbove}
 use Rattle.prediction.proofs.lowest_left.Goals as goal

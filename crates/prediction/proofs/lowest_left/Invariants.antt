@@ -1,11 +1,5 @@
 -- `prediction::lowest_left` meets its contract. The invariant: no left side passed is below `low`.
-use native.Mathlib.Decide.{ℕ_discrete}
-use native.Mathlib.Omega.{arith}
-use mathlib.Core.Path.{◌≡◌, ap}
-use Prim.Native.Nat.{ℕ, ◌+◌, ◌-◌, ◌≤◌, ◌<◌}
-use mathlib.Core.List.{List}
-use borrow.Author.Rules.{rules}
-use Rattle.grammar.specs.inner.Decoded.{left_in}
+use Prim.Native.Nat.{◌-◌, ◌≤◌}
 use Rattle.prediction.specs.inner.Tables.{NotAbove}
 use Rattle.prediction.proofs.lowest_left.Given as goal
 

@@ -1,10 +1,6 @@
-use Rattle.bits.specs.Width.{row_words}
-use Rattle.prediction.specs.inner.Tables.{Seeded}
 use Rattle.prediction.proofs.Cells.{seeded_none, seeded-own, seeded_at}
-use borrow.Author.Rules.{rules}
 use native.Mathlib.Omega.{arith}
 use mathlib.Core.Path.{refl}
-use Prim.Native.Nat.{ℕ, ◌-◌, ◌≤◌}
 use Rattle.prediction.proofs.own.Goals as goal
 
 pub loop-x-init : goal.loop-x-init

@@ -1,10 +1,6 @@
 -- `prediction::own` meets its contract. The invariant, `Seeded`: the table of the symbols passed, whatever the rules are asked for.
 use Rattle.bits.specs.Width.{row_words}
 use Rattle.prediction.specs.inner.Tables.{Seeded}
-use Rattle.prediction.proofs.Cells.{seeded_none, seeded-own, seeded_at}
-use borrow.Author.Rules.{rules}
-use native.Mathlib.Omega.{arith}
-use mathlib.Core.Path.{refl}
 use Prim.Native.Nat.{ℕ, ◌-◌, ◌≤◌}
 use Rattle.prediction.proofs.own.Given as goal
 

@@ -2,10 +2,6 @@
 use Rattle.bits.specs.Width.{row_words}
 use Rattle.grammar.specs.inner.Decoded.{left_in, first_in}
 use Rattle.prediction.specs.inner.Tables.{Seeded}
-use Rattle.prediction.proofs.Cells.{seeded-rule, seeded_at}
-use borrow.Author.Rules.{rules}
-use native.Mathlib.Omega.{arith}
-use mathlib.Core.Path.{refl}
 use Prim.Native.Nat.{◌-◌, ◌≤◌}
 use Rattle.prediction.proofs.seed.Given as goal
 

@@ -1,6 +1,5 @@
 -- `prediction::table` meets its contract. The closed table of the steps predicts.
 use Rattle.prediction.proofs.Reaching.{seed_low, seed_lone, predicts}
-use borrow.Author.Rules.{rules}
 use Rattle.prediction.proofs.table.Goals as goal
 
 pub close-requires : goal.close-requires

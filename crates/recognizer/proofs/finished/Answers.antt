@@ -2,7 +2,6 @@
 use mathlib.Core.Path.{ap}
 use mathlib.Core.Bool.{not}
 use native.Mathlib.Omega.{arith}
-use borrow.Author.Rules.{rules}
 use Rattle.parse.specs.Words.{words_of}
 use Rattle.demands.specs.Calls.{Finishes}
 use Rattle.demands.proofs.Telling.{finished_means}

@@ -1,6 +1,4 @@
 -- `recognizer::kinds` meets its contract.
-use mathlib.Core.Path.{refl}
-use borrow.Author.Rules.{rules}
 use Rattle.prediction.proofs.Reaching.{accepted-within}
 use Rattle.demands.specs.Calls.{Takes}
 use Rattle.demands.proofs.Telling.{position_means}

@@ -1,5 +1,4 @@
 -- `recognizer::latest_set` meets its contract.
-use borrow.Author.Rules.{rules}
 use Rattle.parse.specs.Words.{words_of}
 use Rattle.recognizer.proofs.Readying.{readied_fault, readied_formed, reports_with, reports_refused}
 use Rattle.recognizer.proofs.Cutting.{latest_there}
@@ -9,7 +8,7 @@ pub returns-in-Refused : goal.returns-in-Refused
 returns-in-Refused c =
     let given = c.args in record {
       calls = reports_refused _ given.state (words_of given.items.now given.starts.now given.rows.now given.queue.now given.store.now)
-    (readied_fault _ _ _ _ _ c.ready.ensures _ c.in-Refused.is) _ c.refusal_number.ensures;
+          (readied_fault _ _ _ _ _ c.ready.ensures _ c.in-Refused.is) _ c.refusal_number.ensures;
     }
 
 pub latest_part-requires : goal.latest_part-requires

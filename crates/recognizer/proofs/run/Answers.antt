@@ -1,6 +1,4 @@
 -- `recognizer::run` meets its contract.
-use mathlib.Core.Path.{refl}
-use borrow.Author.Rules.{rules}
 use Rattle.prediction.proofs.Reaching.{accepted-within}
 use Rattle.earley.specs.Positions.{plain}
 use Rattle.demands.specs.Calls.{Runs}

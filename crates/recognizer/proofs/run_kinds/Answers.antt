@@ -1,6 +1,4 @@
 -- `recognizer::run_kinds` meets its contract.
-use mathlib.Core.Path.{refl}
-use borrow.Author.Rules.{rules}
 use Rattle.prediction.proofs.Reaching.{accepted-within}
 use Rattle.demands.specs.Positions.{positions_in}
 use Rattle.demands.specs.Calls.{Runs}

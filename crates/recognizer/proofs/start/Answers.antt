@@ -1,7 +1,6 @@
 -- `recognizer::start` meets its contract.
 use mathlib.Core.Path.{refl, sym, ◌∙◌}
 use native.Mathlib.Omega.{arith}
-use borrow.Author.Rules.{rules}
 use Rattle.prediction.proofs.Reaching.{accepted-within}
 use Rattle.demands.specs.Calls.{Starts, StartFault}
 use Rattle.parse.specs.Words.{words_of}
@@ -11,15 +10,15 @@ use Rattle.recognizer.proofs.start.Goals as goal
 
 pub returns-in-Refused : goal.returns-in-Refused
 returns-in-Refused c = record {
-      calls = Starts.refused (StartFault.file_fault (opened-fault _ _ _ c.open.ensures _ c.in-Refused.is));
-    }
+  calls = Starts.refused (StartFault.file_fault (opened-fault _ _ _ c.open.ensures _ c.in-Refused.is));
+}
 
 pub returns-then-set_room-eq0 : goal.returns-then-set_room-eq0
 returns-then-set_room-eq0 c =
     let opened = c.open in
     let sound = opened-sound _ _ _ opened.ensures _ c.in-Sound.is in record {
       calls = Starts.refused
-    (StartFault.no_sets (record { whole = sound.whole; is = refl; accepted = sound.accepted }) (sym c.set_room.ensures ∙ c.if-set_room-eq0.true));
+          (StartFault.no_sets (record { whole = sound.whole; is = refl; accepted = sound.accepted }) (sym c.set_room.ensures ∙ c.if-set_room-eq0.true));
     }
 
 pub table-table-requires : goal.table-table-requires
@@ -72,5 +71,5 @@ returns c =
     let sound = opened-sound _ _ _ opened.ensures _ c.in-Sound.is in
     let checked = sound-checked _ _ _ sound in record {
       calls = starts_done _ _ words _ _ _ (record { checked = checked; predicts = predicted.ensures _ })
-    (omega (arith, sets-measured.ensures, room-tested.false)) begun.ensures;
+          (omega (arith, sets-measured.ensures, room-tested.false)) begun.ensures;
     }

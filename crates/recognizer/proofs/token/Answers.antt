@@ -1,7 +1,5 @@
 -- `recognizer::token` meets its contract.
-use mathlib.Core.Path.{refl}
 use mathlib.Core.List.{[], ◌∷◌}
-use borrow.Author.Rules.{rules}
 use Rattle.prediction.proofs.Reaching.{accepted-within}
 use Rattle.demands.specs.Calls.{Takes}
 use Rattle.demands.proofs.Telling.{position_means}

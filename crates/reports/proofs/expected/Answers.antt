@@ -1,8 +1,7 @@
 -- `reports::expected` meets its contract.
-use mathlib.Core.Path.{sym, ap}
+use mathlib.Core.Path.{ap}
 use mathlib.Core.List.{List}
 use Prim.Native.Nat.{ℕ}
-use borrow.Author.Rules.{rules}
 use Rattle.laws.specs.Fills.{Fills}
 use Rattle.parse.specs.Words.{words_of}
 use Rattle.recognizer.proofs.Readying.{readied_fault, readied_formed}

@@ -1,5 +1,4 @@
 -- `reports::latest_words` meets its contract.
-use borrow.Author.Rules.{rules}
 use native.Mathlib.Omega.{arith}
 use Rattle.laws.specs.Fills.{Fills}
 use Rattle.parse.specs.Words.{words_of}
@@ -11,8 +10,8 @@ use Rattle.reports.proofs.latest_words.Goals as goal
 
 pub returns-in-Refused : goal.returns-in-Refused
 returns-in-Refused c = record {
-      calls = Fills.refused (readied_fault _ _ _ _ _ c.ready.ensures _ c.in-Refused.is);
-    }
+  calls = Fills.refused (readied_fault _ _ _ _ _ c.ready.ensures _ c.in-Refused.is);
+}
 
 pub offset_bounds-starts-e : goal.offset_bounds-starts-e
 offset_bounds-starts-e c =

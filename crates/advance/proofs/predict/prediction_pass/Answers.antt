@@ -1,7 +1,6 @@
 use Prim.Native.Nat.{◌-◌}
 use native.Mathlib.Omega.{arith}
-use borrow.Author.Rules.{rules}
-use Rattle.advance.proofs.Predicting.{Predicting, predicting_start, predicting_length, predicting_symbol, predicting_wide, predicting_next, predicting_ends}
+use Rattle.advance.proofs.Predicting.{predicting_start, predicting_length, predicting_symbol, predicting_wide, predicting_next, predicting_ends}
 use Rattle.advance.proofs.predict.prediction_pass.Goals as goal
 
 pub loop-p-init : goal.loop-p-init

@@ -1,8 +1,5 @@
 -- `advance::predict::prediction_pass` meets its contract. The invariant: the rows of the items from place `p` on are joined.
-use Prim.Native.Nat.{◌-◌}
-use native.Mathlib.Omega.{arith}
-use borrow.Author.Rules.{rules}
-use Rattle.advance.proofs.Predicting.{Predicting, predicting_start, predicting_length, predicting_symbol, predicting_wide, predicting_next, predicting_ends}
+use Rattle.advance.proofs.Predicting.{Predicting}
 use Rattle.advance.proofs.predict.prediction_pass.Given as goal
 
 abbrev pub invariant-loop-p : goal.invariant-loop-p

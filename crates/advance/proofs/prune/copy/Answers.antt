@@ -1,5 +1,4 @@
 -- `advance::prune::copy` meets its contract.
-use borrow.Author.Rules.{rules}
 use Rattle.advance.proofs.prune.copy.Goals as goal
 
 pub returns : goal.returns

@@ -1,8 +1,7 @@
 use mathlib.Core.Path.{ap, ◌∙◌}
 use Prim.Native.Nat.{ℕ, max}
 use native.Mathlib.Omega.{arith}
-use borrow.Author.Rules.{rules}
-use Rattle.advance.proofs.Pruning.{Reaching, reaching-start, reaching-next, reaching-ends, reaching_none}
+use Rattle.advance.proofs.Pruning.{reaching-start, reaching-next, reaching-ends, reaching_none}
 use Rattle.advance.proofs.prune.greatest_origin.Goals as goal
 
 pub returns-then-from-to : goal.returns-then-from-to

@@ -1,9 +1,5 @@
 -- `advance::prune::greatest_origin` meets its contract. The invariant: `m` is the greatest origin from place `p` on, or 0.
-use mathlib.Core.Path.{ap, ◌∙◌}
-use Prim.Native.Nat.{ℕ, max}
-use native.Mathlib.Omega.{arith}
-use borrow.Author.Rules.{rules}
-use Rattle.advance.proofs.Pruning.{Reaching, reaching-start, reaching-next, reaching-ends, reaching_none}
+use Rattle.advance.proofs.Pruning.{Reaching}
 use Rattle.advance.proofs.prune.greatest_origin.Given as goal
 
 abbrev pub invariant-loop-p : goal.invariant-loop-p

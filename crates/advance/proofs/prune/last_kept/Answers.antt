@@ -1,6 +1,5 @@
 -- `advance::prune::last_kept` meets its contract.
 use mathlib.Core.Path.{sym}
-use borrow.Author.Rules.{rules}
 use Rattle.advance.proofs.Pruning.{kept_pruned, kept-all}
 use Rattle.advance.proofs.prune.last_kept.Goals as goal
 

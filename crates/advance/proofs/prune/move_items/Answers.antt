@@ -1,8 +1,5 @@
-use mathlib.Core.Path.{◌∙◌}
-use Prim.Native.Nat.{◌-◌}
 use native.Mathlib.Omega.{arith}
-use borrow.Author.Rules.{rules}
-use Rattle.advance.proofs.Pruning.{Moving, moving_start, moving_length, moving_next, moving_clear, moving_ends}
+use Rattle.advance.proofs.Pruning.{moving_start, moving_length, moving_next, moving_clear, moving_ends}
 use Rattle.advance.proofs.prune.move_items.Goals as goal
 
 pub loop-q-init : goal.loop-q-init

@@ -1,9 +1,6 @@
 -- `advance::prune::move_items` meets its contract. The invariant: the first `q` items are copied.
-use mathlib.Core.Path.{◌∙◌}
 use Prim.Native.Nat.{◌-◌}
-use native.Mathlib.Omega.{arith}
-use borrow.Author.Rules.{rules}
-use Rattle.advance.proofs.Pruning.{Moving, moving_start, moving_length, moving_next, moving_clear, moving_ends}
+use Rattle.advance.proofs.Pruning.{Moving}
 use Rattle.advance.proofs.prune.move_items.Given as goal
 
 abbrev pub invariant-loop-q : goal.invariant-loop-q

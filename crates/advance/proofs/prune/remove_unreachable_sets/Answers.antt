@@ -1,5 +1,4 @@
 -- `advance::prune::remove_unreachable_sets` meets its contract.
-use borrow.Author.Rules.{rules}
 use Rattle.advance.proofs.Pruning.{all-kept, base_below, sets_dropped}
 use Rattle.advance.proofs.prune.remove_unreachable_sets.Goals as goal
 

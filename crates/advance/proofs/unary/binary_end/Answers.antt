@@ -1,12 +1,11 @@
 use mathlib.Core.Path.{◌≡◌, ◌∙◌}
 use Prim.Native.Nat.{◌-◌}
 use native.Mathlib.Omega.{arith}
-use borrow.Author.Rules.{rules}
 use Rattle.item.specs.Item.{item_at}
 use Rattle.grammar.specs.inner.Decoded.{rules_in}
 use Rattle.parse.specs.WellFormed.{second_of}
 use Rattle.advance.proofs.Placing.{Narrow}
-use Rattle.advance.proofs.Dropping.{Dropping, dropping_start, dropping_next, dropping_ends, second-read}
+use Rattle.advance.proofs.Dropping.{dropping_start, dropping_next, dropping_ends, second-read}
 use Rattle.advance.proofs.unary.binary_end.Goals as goal
 
 pub loop-end-init : goal.loop-end-init

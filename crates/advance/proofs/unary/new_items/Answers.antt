@@ -3,7 +3,6 @@ use mathlib.Core.Path.{ap, ◌∙◌}
 use mathlib.Core.List.{List}
 use Prim.Native.Nat.{◌+◌}
 use lib.ListN.{length}
-use borrow.Author.Rules.{rules}
 use Rattle.item.specs.Item.{Item}
 use Rattle.advance.proofs.Dropping.{sorted_asks, sorted-new, sorted-ending}
 use Rattle.advance.proofs.unary.new_items.Goals as goal

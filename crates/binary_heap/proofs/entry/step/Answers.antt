@@ -2,7 +2,6 @@
 use mathlib.Core.Path.{ap₂, ◌∙◌}
 use Prim.Native.Nat.{ℕ}
 use lib.ListN.{set}
-use borrow.Author.Rules.{rules}
 use Rattle.binary_heap.specs.Entry.{entries_in}
 use Rattle.binary_heap.proofs.entry.step.Goals as goal
 

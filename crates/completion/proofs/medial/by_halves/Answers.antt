@@ -1,8 +1,6 @@
 use Prim.Native.Nat.{ℕ, ◌+◌, ◌-◌, ◌/◌, ◌≤◌, ◌<◌}
 use native.Mathlib.Omega.{arith}
-use borrow.Author.Rules.{rules}
-use Rattle.grammar.specs.inner.Decoded.{rules_in}
-use Rattle.completion.proofs.Searching.{Halving, halving_starts, halving_up, halving_down, halving_ends}
+use Rattle.completion.proofs.Searching.{halving_starts, halving_up, halving_down, halving_ends}
 use Rattle.completion.proofs.medial.by_halves.Goals as goal
 
 pub loop-low-init : goal.loop-low-init

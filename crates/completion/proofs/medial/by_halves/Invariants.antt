@@ -1,9 +1,7 @@
 -- `completion::medial::by_halves` meets its contract. The invariant, `Halving`: what is left stands between `low` and `high`.
-use Prim.Native.Nat.{ℕ, ◌+◌, ◌-◌, ◌/◌, ◌≤◌, ◌<◌}
-use native.Mathlib.Omega.{arith}
-use borrow.Author.Rules.{rules}
+use Prim.Native.Nat.{◌-◌}
 use Rattle.grammar.specs.inner.Decoded.{rules_in}
-use Rattle.completion.proofs.Searching.{Halving, halving_starts, halving_up, halving_down, halving_ends}
+use Rattle.completion.proofs.Searching.{Halving}
 use Rattle.completion.proofs.medial.by_halves.Given as goal
 
 abbrev pub invariant-loop-low : goal.invariant-loop-low

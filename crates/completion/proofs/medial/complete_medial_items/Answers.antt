@@ -7,8 +7,7 @@ use Rattle.completion.specs.Pass.{pass_of}
 use Rattle.grammar.specs.inner.Decoded.{rules_in}
 use borrow.Author.Rules.{rules}
 use native.Mathlib.Omega.{arith}
-use lib.ListN.{length}
-use Prim.Native.Nat.{ℕ, ◌+◌, ◌-◌, ◌≤◌, ◌<◌}
+use Prim.Native.Nat.{ℕ, ◌+◌, ◌<◌}
 use mathlib.Core.Path.{◌≡◌, refl, sym, ap, ◌∙◌, subst}
 use Rattle.completion.proofs.medial.complete_medial_items.Goals as goal
 

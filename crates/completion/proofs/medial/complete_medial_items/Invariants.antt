@@ -1,15 +1,9 @@
-use Rattle.completion.proofs.Searching.{queueing, set_searchable, medial_found, queueing_sound}
-use Rattle.completion.specs.inner.Ready.{PassFits}
-use Rattle.completion.specs.Pass.{Pass}
-use Rattle.laws.proofs.Turns.{over-next, over_none}
+use Rattle.completion.proofs.Searching.{queueing}
 use Rattle.laws.specs.Turns.{over}
 use Rattle.completion.specs.Pass.{pass_of}
-use Rattle.grammar.specs.inner.Decoded.{rules_in}
-use borrow.Author.Rules.{rules}
-use native.Mathlib.Omega.{arith}
 use lib.ListN.{length}
-use Prim.Native.Nat.{ℕ, ◌+◌, ◌-◌, ◌≤◌, ◌<◌}
-use mathlib.Core.Path.{◌≡◌, refl, sym, ap, ◌∙◌, subst}
+use Prim.Native.Nat.{◌-◌, ◌≤◌}
+use mathlib.Core.Path.{◌≡◌}
 use Rattle.completion.proofs.medial.complete_medial_items.Given as goal
 
 abbrev pub invariant-loop-i : goal.invariant-loop-i

@@ -1,8 +1,6 @@
 use Prim.Native.Nat.{ℕ, ◌+◌, ◌-◌, ◌≤◌, ◌<◌}
 use native.Mathlib.Omega.{arith}
-use borrow.Author.Rules.{rules}
-use Rattle.grammar.specs.inner.Decoded.{rules_in}
-use Rattle.completion.proofs.Searching.{searchable_within, Passed, passed_none, passed_on, first_passed}
+use Rattle.completion.proofs.Searching.{searchable_within, passed_none, passed_on, first_passed}
 use Rattle.completion.proofs.medial.first_not_below.Goals as goal
 
 pub loop-low-init : goal.loop-low-init

@@ -1,9 +1,7 @@
 -- `completion::medial::first_not_below` meets its contract. The invariant, `Passed`: all before `low` are below.
-use Prim.Native.Nat.{ℕ, ◌+◌, ◌-◌, ◌≤◌, ◌<◌}
-use native.Mathlib.Omega.{arith}
-use borrow.Author.Rules.{rules}
+use Prim.Native.Nat.{◌-◌}
 use Rattle.grammar.specs.inner.Decoded.{rules_in}
-use Rattle.completion.proofs.Searching.{searchable_within, Passed, passed_none, passed_on, first_passed}
+use Rattle.completion.proofs.Searching.{Passed}
 use Rattle.completion.proofs.medial.first_not_below.Given as goal
 
 abbrev pub invariant-loop-low : goal.invariant-loop-low

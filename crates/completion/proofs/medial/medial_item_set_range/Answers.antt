@@ -1,8 +1,6 @@
 use Rattle.completion.proofs.Searching.{found, searchable_within}
 use Rattle.grammar.specs.inner.Decoded.{rules_in}
-use Prim.Native.Nat.{◌-◌}
 use native.Mathlib.Omega.{arith}
-use borrow.Author.Rules.{rules}
 use Rattle.completion.proofs.medial.medial_item_set_range.Goals as goal
 
 -- src/medial.rt:55:9

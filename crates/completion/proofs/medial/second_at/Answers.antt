@@ -1,7 +1,6 @@
 -- `completion::medial::second_at` meets its contract.
 use mathlib.Core.Path.{◌∙◌}
 use native.Mathlib.Omega.{arith}
-use borrow.Author.Rules.{rules}
 use Rattle.completion.proofs.Searching.{second-read}
 use Rattle.completion.proofs.Waiting.{rules-length}
 use Rattle.completion.proofs.medial.second_at.Goals as goal

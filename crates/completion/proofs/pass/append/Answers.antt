@@ -1,6 +1,5 @@
 -- `completion::pass::append` meets its contract: each answer of the node writer is one case of the rule.
 use mathlib.Core.Path.{sym, ap}
-use borrow.Author.Rules.{rules}
 use Rattle.node.specs.Answers.{values_of, written}
 use Rattle.node.specs.declared.Written.{Written}
 use Rattle.completion.specs.Pass.{pass_with}

@@ -1,7 +1,6 @@
 use mathlib.Core.Path.{sym, ◌∙◌}
 use Prim.Native.Nat.{◌<◌}
 use native.Mathlib.Omega.{arith}
-use borrow.Author.Rules.{rules}
 use Rattle.binary_heap.specs.Entry.{entries_in}
 use Rattle.binary_heap.proofs.Held.{held-length}
 use Rattle.completion.specs.Pass.{pass_of}

@@ -1,7 +1,6 @@
 use mathlib.Core.Path.{sym, ap, ◌∙◌}
 use mathlib.Core.List.{List}
 use Prim.Native.Nat.{ℕ, ◌+◌}
-use borrow.Author.Rules.{rules}
 use Rattle.completion.specs.Pass.{pass_of}
 use Rattle.completion.proofs.Pushes.{store_done, store-refused}
 use Rattle.completion.proofs.pass.store.Goals as goal

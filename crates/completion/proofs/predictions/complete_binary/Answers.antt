@@ -1,11 +1,8 @@
-use borrow.Author.Tests.{not-true, not-false}
 use Rattle.completion.proofs.Waiting.{rules-length, rule-second, binary-stopped, binary_one, binary_passed, binary-waits}
 use Rattle.completion.specs.Pass.{pass_of}
 use Rattle.grammar.specs.inner.Decoded.{rules_in}
 use native.Mathlib.Omega.{arith}
-use Prim.Native.Nat.{◌-◌}
 use mathlib.Core.Path.{sym, ◌∙◌}
-use borrow.Author.Rules.{rules}
 use Rattle.completion.proofs.predictions.complete_binary.Goals as goal
 
 -- src/predictions.rt:94:9

@@ -1,10 +1,9 @@
 use mathlib.Core.Path.{◌≡◌, refl, ap, ◌∙◌}
-use mathlib.Core.List.{List}
-use Prim.Native.Nat.{ℕ, ◌-◌, ◌≤◌, ◌<◌}
+use Prim.Native.Nat.{ℕ}
 use native.Mathlib.Omega.{arith}
 use lib.ListN.{length}
 use Rattle.laws.specs.Turns.{over}
-use Rattle.grammar.specs.inner.Decoded.{first_in, rules_in}
+use Rattle.grammar.specs.inner.Decoded.{rules_in}
 use Rattle.completion.specs.Pass.{pass_of}
 use Rattle.completion.specs.Complete.{complete_binary, complete_binary_predictions}
 use Rattle.completion.proofs.Waiting.{rules-length, binary-other, walk_begins, walk-next}

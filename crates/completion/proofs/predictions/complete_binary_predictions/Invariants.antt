@@ -1,14 +1,12 @@
 -- `completion::predictions::complete_binary_predictions` meets its contract: the rules up to `r`, the next of the chain, are completed.
-use mathlib.Core.Path.{◌≡◌, refl, ap, ◌∙◌}
+use mathlib.Core.Path.{◌≡◌}
 use mathlib.Core.List.{List}
 use Prim.Native.Nat.{ℕ, ◌-◌, ◌≤◌, ◌<◌}
-use native.Mathlib.Omega.{arith}
 use lib.ListN.{length}
 use Rattle.laws.specs.Turns.{over}
 use Rattle.grammar.specs.inner.Decoded.{first_in, rules_in}
 use Rattle.completion.specs.Pass.{pass_of}
-use Rattle.completion.specs.Complete.{complete_binary, complete_binary_predictions}
-use Rattle.completion.proofs.Waiting.{rules-length, binary-other, walk_begins, walk-next}
+use Rattle.completion.specs.Complete.{complete_binary}
 use Rattle.completion.proofs.predictions.complete_binary_predictions.Given as goal
 
 abbrev pub invariant-loop-r : goal.invariant-loop-r

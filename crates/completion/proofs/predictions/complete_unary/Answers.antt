@@ -1,4 +1,3 @@
-use borrow.Author.Tests.{not-true, not-false}
 use Rattle.completion.proofs.Soundness.{store-sound}
 use Rattle.completion.specs.inner.Ready.{PassFits}
 use Rattle.node.specs.Rows.{all_ones}
@@ -7,9 +6,8 @@ use Rattle.completion.proofs.Waiting.{rules-length, rule-second, store-place, un
 use Rattle.completion.specs.Pass.{pass_of}
 use Rattle.grammar.specs.inner.Decoded.{rules_in}
 use native.Mathlib.Omega.{arith}
-use Prim.Native.Nat.{◌-◌, ◌<◌}
+use Prim.Native.Nat.{◌<◌}
 use mathlib.Core.Path.{sym, ap, ◌∙◌, subst}
-use borrow.Author.Rules.{rules}
 use Rattle.completion.proofs.predictions.complete_unary.Goals as goal
 
 -- src/predictions.rt:42:9

@@ -1,9 +1,9 @@
 use mathlib.Core.Path.{◌≡◌, refl, sym, ap, ◌∙◌, subst}
-use Prim.Native.Nat.{ℕ, ◌-◌, ◌≤◌, ◌<◌}
+use Prim.Native.Nat.{ℕ}
 use native.Mathlib.Omega.{arith}
 use lib.ListN.{length}
 use Rattle.laws.specs.Turns.{over}
-use Rattle.grammar.specs.inner.Decoded.{first_in, rules_in}
+use Rattle.grammar.specs.inner.Decoded.{rules_in}
 use Rattle.completion.specs.Pass.{pass_of}
 use Rattle.completion.specs.Complete.{complete_unary, complete_unary_predictions}
 use Rattle.completion.specs.inner.Ready.{PassFits}

@@ -1,14 +1,11 @@
 -- `completion::predictions::complete_unary_predictions` meets its contract: the rules up to `r`, the next of the chain, are completed.
-use mathlib.Core.Path.{◌≡◌, refl, sym, ap, ◌∙◌, subst}
-use Prim.Native.Nat.{ℕ, ◌-◌, ◌≤◌, ◌<◌}
-use native.Mathlib.Omega.{arith}
+use mathlib.Core.Path.{◌≡◌}
+use Prim.Native.Nat.{◌-◌, ◌≤◌, ◌<◌}
 use lib.ListN.{length}
 use Rattle.laws.specs.Turns.{over}
 use Rattle.grammar.specs.inner.Decoded.{first_in, rules_in}
 use Rattle.completion.specs.Pass.{pass_of}
-use Rattle.completion.specs.Complete.{complete_unary, complete_unary_predictions}
-use Rattle.completion.specs.inner.Ready.{PassFits}
-use Rattle.completion.proofs.Waiting.{rules-length, unaries_sound, unary-other, walk_begins, walk-next}
+use Rattle.completion.specs.Complete.{complete_unary}
 use Rattle.completion.proofs.predictions.complete_unary_predictions.Given as goal
 
 abbrev pub invariant-loop-r : goal.invariant-loop-r

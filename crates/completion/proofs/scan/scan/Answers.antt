@@ -1,9 +1,6 @@
 -- `completion::scan::scan` meets its contract.
-use mathlib.Core.Path.{◌≡◌, sym, ap, ◌∙◌, subst}
+use mathlib.Core.Path.{sym, ap, ◌∙◌, subst}
 use mathlib.Core.List.{[]}
-use native.Mathlib.Omega.{arith}
-use borrow.Author.Rules.{rules}
-use borrow.Author.Tests.{not-true, not-false}
 use Rattle.binary_heap.specs.Entry.{entries_in}
 use Rattle.grammar.specs.inner.Decoded.{rules_in}
 use Rattle.completion.specs.Pass.{pass_over}

@@ -1,13 +1,10 @@
-use mathlib.Core.Path.{◌≡◌, refl, ◌∙◌}
-use Prim.Native.Nat.{◌-◌, ◌≤◌}
+use mathlib.Core.Path.{refl, ◌∙◌}
 use native.Mathlib.Omega.{arith}
-use lib.ListN.{length}
-use borrow.Author.Rules.{rules}
 use Rattle.grammar.specs.inner.Decoded.{rules_in}
 use Rattle.completion.specs.Pass.{pass_over}
 use Rattle.completion.proofs.Onward.{units_onward}
 use Rattle.completion.proofs.Charting.{steady_refl}
-use Rattle.completion.proofs.Scanning.{Scans, scans_turn, scans_end}
+use Rattle.completion.proofs.Scanning.{scans_turn, scans_end}
 use Rattle.completion.proofs.scan.scan_all.Goals as goal
 
 pub loop-i-init : goal.loop-i-init

@@ -1,14 +1,10 @@
 -- `completion::scan::scan_all` meets its contract: what is left to scan gives what the whole position gives.
-use mathlib.Core.Path.{◌≡◌, refl, ◌∙◌}
+use mathlib.Core.Path.{◌≡◌}
 use Prim.Native.Nat.{◌-◌, ◌≤◌}
-use native.Mathlib.Omega.{arith}
 use lib.ListN.{length}
-use borrow.Author.Rules.{rules}
 use Rattle.grammar.specs.inner.Decoded.{rules_in}
 use Rattle.completion.specs.Pass.{pass_over}
-use Rattle.completion.proofs.Onward.{units_onward}
-use Rattle.completion.proofs.Charting.{steady_refl}
-use Rattle.completion.proofs.Scanning.{Scans, scans_turn, scans_end}
+use Rattle.completion.proofs.Scanning.{Scans}
 use Rattle.completion.proofs.scan.scan_all.Given as goal
 
 abbrev pub invariant-loop-i : goal.invariant-loop-i

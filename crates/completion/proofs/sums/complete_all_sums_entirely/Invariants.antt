@@ -1,11 +1,9 @@
-use Rattle.completion.proofs.Remaining.{Remaining, remaining_start, remaining_turn, remaining_falls, remaining_stopped, remaining_empty}
+use Rattle.completion.proofs.Remaining.{Remaining}
 use Rattle.completion.proofs.Pending.{left}
 use Rattle.completion.specs.Pass.{pass_over}
 use Rattle.grammar.specs.inner.Decoded.{rules_in}
-use native.Mathlib.Omega.{arith}
 use lib.ListN.{length}
-use Prim.Native.Nat.{◌-◌}
-use mathlib.Core.Path.{◌≡◌, refl, ◌∙◌}
+use mathlib.Core.Path.{◌≡◌}
 use Rattle.completion.proofs.sums.complete_all_sums_entirely.Given as goal
 
 abbrev pub invariant-loop-now : goal.invariant-loop-now

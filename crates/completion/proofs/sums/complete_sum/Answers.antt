@@ -3,7 +3,6 @@ use mathlib.Core.Path.{sym, ap, ◌∙◌, subst}
 use mathlib.Core.List.{[]}
 use Prim.Native.Nat.{ℕ}
 use native.Mathlib.Omega.{arith}
-use borrow.Author.Rules.{rules}
 use Rattle.item.specs.Item.{rule_at}
 use Rattle.binary_heap.specs.Entry.{entries_in}
 use Rattle.binary_heap.specs.Sift.{entry_at}
@@ -78,9 +77,9 @@ complete-requires c =
     (steady_pop rs given.starts.now s origin-read.result left-read.result _ begun) in record {
       rules_fit = (required.0.rules_fit, required.0.rowed, required.4);
       set = (
-          subst (IsSet given.starts.now) (sym origin-read.ensures) (required.1.charted.origins top (required.1.sound.entries 0 required.3)),
-          omega (arith, left-read.ensures, required.0.rules_fit.lefts (rule_at given.items.now top)),
-        );
+        subst (IsSet given.starts.now) (sym origin-read.ensures) (required.1.charted.origins top (required.1.sound.entries 0 required.3)),
+        omega (arith, left-read.ensures, required.0.rules_fit.lefts (rule_at given.items.now top)),
+      );
       pass_fits = (fits_on [] popped.sound, charted_on [] popped.charted);
     }
 

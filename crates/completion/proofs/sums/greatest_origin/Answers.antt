@@ -1,6 +1,5 @@
 -- `completion::sums::greatest_origin` meets its contract.
 use mathlib.Core.Path.{sym, ap, ◌∙◌, subst}
-use borrow.Author.Rules.{rules}
 use Rattle.item.specs.Item.{HasPlace, origin_at}
 use Rattle.completion.specs.Pass.{pass_of}
 use Rattle.completion.proofs.Soundness.{has-place}

@@ -1,13 +1,7 @@
 -- `completion::sums::greatest_product` meets its contract.
-use mathlib.Core.Path.{◌≡◌, sym, ap, ◌∙◌, subst}
-use Prim.Native.Nat.{ℕ}
-use native.Mathlib.Omega.{arith}
-use borrow.Author.Rules.{rules}
+use mathlib.Core.Path.{sym, ap, ◌∙◌, subst}
 use Rattle.item.specs.Item.{HasPlace, rule_at, handle_at}
-use Rattle.binary_heap.specs.Entry.{entries_in}
-use Rattle.binary_heap.specs.Sift.{entry_at}
 use Rattle.node.specs.Reading.{long_right}
-use Rattle.node.specs.declared.Right.{Right}
 use Rattle.node.specs.declared.Node.TheVariants.{Product}
 use Rattle.completion.specs.Pass.{pass_of}
 use Rattle.completion.proofs.Soundness.{has-place}

@@ -2,7 +2,6 @@
 use mathlib.Core.Path.{◌≡◌, sym, ap, ◌∙◌, subst}
 use Prim.Native.Nat.{◌<◌}
 use native.Mathlib.Omega.{arith}
-use borrow.Author.Rules.{rules}
 use Rattle.item.specs.Item.{HasPlace, origin_at, rule_at, item_at}
 use Rattle.binary_heap.specs.Entry.{entries_in}
 use Rattle.binary_heap.specs.Sift.{entry_at}

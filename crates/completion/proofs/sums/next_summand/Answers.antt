@@ -1,12 +1,9 @@
 -- `completion::sums::next_summand` meets its contract.
-use mathlib.Core.Path.{◌≡◌, sym, ap, ap₂, ◌∙◌}
-use Prim.Native.Nat.{ℕ}
+use mathlib.Core.Path.{◌≡◌, sym, ap₂, ◌∙◌}
 use native.Mathlib.Omega.{arith}
-use borrow.Author.Rules.{rules}
 use Rattle.binary_heap.specs.Entry.{entries_in}
 use Rattle.binary_heap.proofs.Answers.{pop_empty_tells}
-use Rattle.node.specs.declared.Node.{Node}
-use Rattle.completion.specs.Pass.{Pass, pass_over, pass_of, append}
+use Rattle.completion.specs.Pass.{pass_over, pass_of, append}
 use Rattle.completion.specs.Sums.{next_summand}
 use Rattle.completion.proofs.Soundness.{sound-places}
 use Rattle.completion.proofs.Summing.{popped_entry}

@@ -7,13 +7,10 @@ use Rattle.completion.proofs.Charting.{next-sound, goes_on-sum}
 use Rattle.completion.specs.Sums.{sum_ends, next_summand, pop_sum}
 use Rattle.completion.specs.inner.Ready.{RulesRead}
 use Rattle.laws.proofs.Turns.{until-rests}
-use Rattle.laws.specs.Turns.{until}
-use borrow.Author.Tests.{not-true, not-false}
 use Rattle.completion.specs.Pass.{pass_over}
 use Rattle.grammar.specs.inner.Decoded.{rules_in}
 use native.Mathlib.Omega.{arith}
-use lib.ListN.{length}
-use Prim.Native.Nat.{◌-◌, ◌<◌}
+use Prim.Native.Nat.{◌<◌}
 use mathlib.Core.Path.{◌≡◌, refl, sym, ap, ◌∙◌, subst}
 use Rattle.completion.proofs.sums.pop_sum.Goals as goal
 

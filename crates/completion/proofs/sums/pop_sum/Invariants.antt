@@ -1,20 +1,10 @@
-use Rattle.completion.specs.Pass.{Pass}
-use mathlib.Core.Bool.{false}
-use mathlib.Core.List.{[]}
-use Rattle.completion.proofs.Summing.{next_queued, sum-turn, read_next}
-use Rattle.completion.proofs.Overlaid.{fits_on, read_on}
-use Rattle.completion.proofs.Charting.{next-sound, goes_on-sum}
 use Rattle.completion.specs.Sums.{sum_ends, next_summand, pop_sum}
 use Rattle.completion.specs.inner.Ready.{RulesRead}
-use Rattle.laws.proofs.Turns.{until-rests}
 use Rattle.laws.specs.Turns.{until}
-use borrow.Author.Tests.{not-true, not-false}
 use Rattle.completion.specs.Pass.{pass_over}
 use Rattle.grammar.specs.inner.Decoded.{rules_in}
-use native.Mathlib.Omega.{arith}
 use lib.ListN.{length}
-use Prim.Native.Nat.{◌-◌, ◌<◌}
-use mathlib.Core.Path.{◌≡◌, refl, sym, ap, ◌∙◌, subst}
+use mathlib.Core.Path.{◌≡◌}
 use Rattle.completion.proofs.sums.pop_sum.Given as goal
 
 abbrev pub invariant-loop-queue : goal.invariant-loop-queue

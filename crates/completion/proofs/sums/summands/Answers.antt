@@ -1,8 +1,6 @@
 use mathlib.Core.Path.{sym, ◌∙◌, subst}
-use Prim.Native.Nat.{ℕ, ◌+◌, ◌-◌, ◌≤◌}
+use Prim.Native.Nat.{ℕ, ◌+◌, ◌≤◌}
 use native.Mathlib.Omega.{arith}
-use borrow.Author.Rules.{rules}
-use borrow.Author.Tests.{not-true, not-false}
 use Rattle.binary_heap.specs.Entry.{entries_in}
 use Rattle.grammar.specs.inner.Decoded.{rules_in}
 use Rattle.completion.proofs.Summing.{counted-few}

@@ -1,13 +1,8 @@
 -- `completion::sums::summands` meets its contract. The invariant, `Counting`: the entries before `pos` are counted, and their children stand before `end`.
-use mathlib.Core.Path.{sym, ◌∙◌, subst}
-use Prim.Native.Nat.{ℕ, ◌+◌, ◌-◌, ◌≤◌}
-use native.Mathlib.Omega.{arith}
-use borrow.Author.Rules.{rules}
-use borrow.Author.Tests.{not-true, not-false}
+use Prim.Native.Nat.{◌-◌}
 use Rattle.binary_heap.specs.Entry.{entries_in}
 use Rattle.grammar.specs.inner.Decoded.{rules_in}
-use Rattle.completion.proofs.Summing.{counted-few}
-use Rattle.completion.proofs.Counting.{is_summand, Counting, counting_begins, counting_passed, counting_found, counting_done}
+use Rattle.completion.proofs.Counting.{is_summand, Counting}
 use Rattle.completion.proofs.sums.summands.Given as goal
 
 abbrev pub invariant-loop-pos : goal.invariant-loop-pos

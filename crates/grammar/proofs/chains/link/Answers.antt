@@ -1,9 +1,8 @@
 use mathlib.Core.Path.{◌≡◌, refl, ◌∙◌}
 use Prim.Native.Nat.{◌+◌, ◌-◌, ◌*◌}
 use native.Mathlib.Omega.{arith}
-use borrow.Author.Rules.{rules}
 use Rattle.grammar.specs.inner.Decoded.{rule_words, first_in}
-use Rattle.grammar.proofs.Linking.{Linked, none_linked, next_linked, all_linked}
+use Rattle.grammar.proofs.Linking.{none_linked, next_linked, all_linked}
 use Rattle.grammar.proofs.chains.link.Goals as goal
 
 pub loop-r-init : goal.loop-r-init

@@ -2,7 +2,6 @@
 use mathlib.Core.Path.{sym, subst}
 use Prim.Native.Nat.{ℕ, ◌+◌, ◌-◌}
 use native.Mathlib.Omega.{arith}
-use borrow.Author.Rules.{rules}
 use Rattle.grammar.specs.inner.Decoded.{first_in, FirstFrom}
 use Rattle.grammar.proofs.chains.next.Goals as goal
 

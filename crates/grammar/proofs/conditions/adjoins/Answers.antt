@@ -3,7 +3,6 @@ use Rattle.laws.proofs.Decides.{says_yes_lem}
 use Rattle.grammar.proofs.Asked.{adjoins-next, adjoins-met}
 use native.Mathlib.Omega.{arith}
 use mathlib.Core.Path.{sym, ◌∙◌}
-use borrow.Author.Rules.{rules}
 use Rattle.grammar.proofs.conditions.adjoins.Goals as goal
 
 pub returns-then-left-a : goal.returns-then-left-a

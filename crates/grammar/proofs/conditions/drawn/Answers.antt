@@ -4,7 +4,6 @@ use Rattle.grammar.proofs.Asked.{high-second}
 use mathlib.Core.Logic.{inl, inr}
 use native.Mathlib.Omega.{arith}
 use Prim.Native.Nat.{◌-◌}
-use borrow.Author.Rules.{rules}
 use Rattle.grammar.proofs.conditions.drawn.Goals as goal
 
 pub returns-then-a-t : goal.returns-then-a-t

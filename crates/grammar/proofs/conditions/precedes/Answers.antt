@@ -2,7 +2,6 @@
 use Rattle.laws.proofs.Decides.{says_yes_lem}
 use Rattle.grammar.proofs.Asked.{precedes_two, precedes-met}
 use native.Mathlib.Omega.{arith}
-use borrow.Author.Rules.{rules}
 use Rattle.grammar.proofs.conditions.precedes.Goals as goal
 
 pub returns-then-second-ne-NONE : goal.returns-then-second-ne-NONE

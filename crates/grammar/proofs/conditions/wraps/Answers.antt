@@ -2,7 +2,6 @@
 use Rattle.laws.proofs.Decides.{says_no, says-ltb}
 use native.Mathlib.Omega.{arith}
 use Prim.Native.Nat.{◌-◌}
-use borrow.Author.Rules.{rules}
 use Rattle.grammar.proofs.conditions.wraps.Goals as goal
 
 pub returns-then-left-n : goal.returns-then-left-n

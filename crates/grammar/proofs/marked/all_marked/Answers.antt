@@ -1,10 +1,6 @@
-use borrow.Author.Tests.{not-true, not-false}
-use Rattle.grammar.specs.inner.Checking.{AllMarked}
 use Rattle.laws.proofs.Decides.{says_yes_lem, says_no}
 use Rattle.grammar.proofs.Marks.{none_marked, more-marked, last-marked, one_unmarked}
-use borrow.Author.Rules.{rules}
 use native.Mathlib.Omega.{arith}
-use Prim.Native.Nat.{◌-◌, ◌≤◌}
 use Rattle.grammar.proofs.marked.all_marked.Goals as goal
 
 pub loop-a-init : goal.loop-a-init

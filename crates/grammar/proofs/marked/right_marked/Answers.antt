@@ -1,9 +1,7 @@
 -- `grammar::marked::right_marked` meets its contract. One symbol a return.
 use Rattle.laws.proofs.Decides.{says_no}
-use borrow.Author.Tests.{not-true, not-false}
 use Rattle.grammar.proofs.Marks.{low-last, right_not, right-last}
 use native.Mathlib.Omega.{arith}
-use borrow.Author.Rules.{rules}
 use Rattle.grammar.proofs.marked.right_marked.Goals as goal
 
 pub bounds-marks-first : goal.bounds-marks-first

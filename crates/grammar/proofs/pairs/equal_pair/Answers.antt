@@ -1,12 +1,10 @@
-use Rattle.grammar.proofs.Asked.{PairsPassed, RowPassed, no_pairs, no_row, row_more, pairs-more, pairs-all}
+use Rattle.grammar.proofs.Asked.{no_pairs, no_row, row_more, pairs-more, pairs-all}
 use Rattle.laws.proofs.Decides.{says_yes_lem, says_no}
 use Rattle.grammar.specs.inner.Checking.{EqualPair}
-use mathlib.Core.Bool.{Bool, false}
+use mathlib.Core.Bool.{Bool}
 use Rattle.laws.specs.Decides.{Decides}
-use borrow.Author.Rules.{rules}
 use native.Mathlib.Omega.{arith}
-use mathlib.Core.Path.{◌≡◌, refl, subst⁻¹}
-use Prim.Native.Nat.{◌-◌, ◌≤◌}
+use mathlib.Core.Path.{refl, subst⁻¹}
 use Rattle.grammar.proofs.pairs.equal_pair.Goals as goal
 
 pub pairs-init : goal.pairs-init

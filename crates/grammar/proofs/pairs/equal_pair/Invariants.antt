@@ -1,12 +1,7 @@
 -- `grammar::pairs::equal_pair` meets its contract. The invariants: no pair of lower rules is equal, and none of the rules passed equals this one.
-use Rattle.grammar.proofs.Asked.{PairsPassed, RowPassed, no_pairs, no_row, row_more, pairs-more, pairs-all}
-use Rattle.laws.proofs.Decides.{says_yes_lem, says_no}
-use Rattle.grammar.specs.inner.Checking.{EqualPair}
-use mathlib.Core.Bool.{Bool, false}
-use Rattle.laws.specs.Decides.{Decides}
-use borrow.Author.Rules.{rules}
-use native.Mathlib.Omega.{arith}
-use mathlib.Core.Path.{◌≡◌, refl, subst⁻¹}
+use Rattle.grammar.proofs.Asked.{PairsPassed, RowPassed}
+use mathlib.Core.Bool.{false}
+use mathlib.Core.Path.{◌≡◌}
 use Prim.Native.Nat.{◌-◌, ◌≤◌}
 use Rattle.grammar.proofs.pairs.equal_pair.Given as goal
 

@@ -1,7 +1,6 @@
 -- `grammar::pairs::same` meets its contract. One symbol a return.
 use Rattle.laws.proofs.Decides.{says_no, says-eqb}
 use native.Mathlib.Omega.{arith}
-use borrow.Author.Rules.{rules}
 use Rattle.grammar.proofs.pairs.same.Goals as goal
 
 pub returns-then-left : goal.returns-then-left

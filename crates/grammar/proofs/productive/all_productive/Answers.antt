@@ -1,10 +1,7 @@
-use borrow.Author.Tests.{not-true, not-false}
 use Rattle.grammar.proofs.Marks.{low-less}
-use Rattle.grammar.proofs.Rounds.{unmarked, round_begins, round_passes}
-use Rattle.grammar.proofs.Productivity.{Yielding, Firing, yielding_tokens, firing-marks, decided}
-use borrow.Author.Rules.{rules}
+use Rattle.grammar.proofs.Rounds.{round_begins, round_passes}
+use Rattle.grammar.proofs.Productivity.{yielding_tokens, firing-marks, decided}
 use native.Mathlib.Omega.{arith}
-use Prim.Native.Nat.{◌-◌}
 use Rattle.grammar.proofs.productive.all_productive.Goals as goal
 
 pub loop-r-init : goal.loop-r-init

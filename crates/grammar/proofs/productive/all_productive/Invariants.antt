@@ -1,10 +1,6 @@
 -- `grammar::productive::all_productive` meets its contract. The invariants: `Yielding`, that every mark is right, and `Firing`, what a round has marked so far; the number of symbols not marked falls.
-use borrow.Author.Tests.{not-true, not-false}
-use Rattle.grammar.proofs.Marks.{low-less}
-use Rattle.grammar.proofs.Rounds.{unmarked, round_begins, round_passes}
-use Rattle.grammar.proofs.Productivity.{Yielding, Firing, yielding_tokens, firing-marks, decided}
-use borrow.Author.Rules.{rules}
-use native.Mathlib.Omega.{arith}
+use Rattle.grammar.proofs.Rounds.{unmarked}
+use Rattle.grammar.proofs.Productivity.{Yielding, Firing}
 use Prim.Native.Nat.{◌-◌}
 use Rattle.grammar.proofs.productive.all_productive.Given as goal
 

@@ -2,7 +2,6 @@
 use Rattle.laws.proofs.Decides.{says_no}
 use Rattle.grammar.proofs.Marks.{fires_not, fires_right}
 use native.Mathlib.Omega.{arith}
-use borrow.Author.Rules.{rules}
 use Rattle.grammar.proofs.productive.fires.Goals as goal
 
 pub bounds-marks-left : goal.bounds-marks-left

@@ -1,8 +1,5 @@
-use Rattle.grammar.specs.inner.Checking.{TokensMarked}
 use Rattle.grammar.proofs.Marks.{no_tokens, more-tokens, last-token}
-use borrow.Author.Rules.{rules}
 use native.Mathlib.Omega.{arith}
-use Prim.Native.Nat.{◌-◌, ◌≤◌}
 use Rattle.grammar.proofs.productive.mark_tokens.Goals as goal
 
 pub loop-a-init : goal.loop-a-init

@@ -1,8 +1,5 @@
 -- `grammar::productive::mark_tokens` meets its contract. The invariant: the tokens passed are marked, and nothing else.
 use Rattle.grammar.specs.inner.Checking.{TokensMarked}
-use Rattle.grammar.proofs.Marks.{no_tokens, more-tokens, last-token}
-use borrow.Author.Rules.{rules}
-use native.Mathlib.Omega.{arith}
 use Prim.Native.Nat.{◌-◌, ◌≤◌}
 use Rattle.grammar.proofs.productive.mark_tokens.Given as goal
 

@@ -1,10 +1,7 @@
-use borrow.Author.Tests.{not-true, not-false}
 use Rattle.grammar.proofs.Marks.{low-less, low-last}
-use Rattle.grammar.proofs.Rounds.{unmarked, round_begins, round_passes}
-use Rattle.grammar.proofs.Reachability.{Reaching, Spreading, reaching-start, spreading_marks, decided}
-use borrow.Author.Rules.{rules}
+use Rattle.grammar.proofs.Rounds.{round_begins, round_passes}
+use Rattle.grammar.proofs.Reachability.{reaching-start, spreading_marks, decided}
 use native.Mathlib.Omega.{arith}
-use Prim.Native.Nat.{◌-◌}
 use Rattle.grammar.proofs.reachable.all_reachable.Goals as goal
 
 pub bounds-marks-first : goal.bounds-marks-first

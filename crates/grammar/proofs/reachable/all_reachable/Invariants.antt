@@ -1,10 +1,6 @@
 -- `grammar::reachable::all_reachable` meets its contract. The invariants: `Reaching`, that every mark is right, and `Spreading`, what a round has marked so far; the number of symbols not marked falls.
-use borrow.Author.Tests.{not-true, not-false}
-use Rattle.grammar.proofs.Marks.{low-less, low-last}
-use Rattle.grammar.proofs.Rounds.{unmarked, round_begins, round_passes}
-use Rattle.grammar.proofs.Reachability.{Reaching, Spreading, reaching-start, spreading_marks, decided}
-use borrow.Author.Rules.{rules}
-use native.Mathlib.Omega.{arith}
+use Rattle.grammar.proofs.Rounds.{unmarked}
+use Rattle.grammar.proofs.Reachability.{Reaching, Spreading}
 use Prim.Native.Nat.{◌-◌}
 use Rattle.grammar.proofs.reachable.all_reachable.Given as goal
 

@@ -1,9 +1,7 @@
 -- `grammar::reachable::spreads` meets its contract. The left side, then the right.
 use Rattle.laws.proofs.Decides.{says_no}
-use borrow.Author.Tests.{not-true, not-false}
 use Rattle.grammar.proofs.Marks.{spreads_not, spreads_right}
 use native.Mathlib.Omega.{arith}
-use borrow.Author.Rules.{rules}
 use Rattle.grammar.proofs.reachable.spreads.Goals as goal
 
 pub bounds-marks-left : goal.bounds-marks-left

@@ -1,6 +1,5 @@
-use Rattle.grammar.proofs.Decoding.{Decoding, more-decoded, all-decoded, none_decoded}
+use Rattle.grammar.proofs.Decoding.{more-decoded, all-decoded, none_decoded}
 use borrow.Author.Rules.{rules}
-use Prim.Native.Nat.{◌-◌}
 use Rattle.grammar.proofs.rules.decode.Goals as goal
 
 pub loop-r-init : goal.loop-r-init

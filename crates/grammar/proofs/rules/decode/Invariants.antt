@@ -1,6 +1,5 @@
 -- `grammar::rules::decode` meets its contract. The invariant, `Decoding`: the rules passed stand in the words.
-use Rattle.grammar.proofs.Decoding.{Decoding, more-decoded, all-decoded, none_decoded}
-use borrow.Author.Rules.{rules}
+use Rattle.grammar.proofs.Decoding.{Decoding}
 use Prim.Native.Nat.{◌-◌}
 use Rattle.grammar.proofs.rules.decode.Given as goal
 

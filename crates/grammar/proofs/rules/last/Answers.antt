@@ -1,6 +1,5 @@
 -- `grammar::rules::last` meets its contract.
 use mathlib.Core.Path.{sym, ◌∙◌}
-use borrow.Author.Rules.{rules}
 use Rattle.grammar.proofs.rules.last.Goals as goal
 
 pub returns-then-c-eq-NONE : goal.returns-then-c-eq-NONE

@@ -4,7 +4,6 @@ use mathlib.Core.Path.{sym, ◌∙◌}
 use native.Mathlib.Omega.{arith}
 use lib.ListN.{length}
 use borrow.Author.Tests.{leb-true, leb-false}
-use borrow.Author.Rules.{rules}
 use Rattle.node.specs.Writing.{usable_units}
 use Rattle.node.specs.Rows.{list_of}
 use Rattle.node.proofs.Runs.{wrote, not_wrote}

@@ -1,5 +1,4 @@
 -- `placing::put_four` meets its contract: two units, and two behind them.
-use borrow.Author.Rules.{rules}
 use Rattle.node.proofs.Runs.{more-put}
 use Rattle.node.proofs.placing.put_four.Goals as goal
 

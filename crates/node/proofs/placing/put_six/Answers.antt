@@ -1,5 +1,4 @@
 -- `placing::put_six` meets its contract: two units, and four behind them.
-use borrow.Author.Rules.{rules}
 use Rattle.node.proofs.Runs.{more-put}
 use Rattle.node.proofs.placing.put_six.Goals as goal
 

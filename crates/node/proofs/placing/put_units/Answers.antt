@@ -2,7 +2,6 @@
 use mathlib.Core.Path.{ap, ◌∙◌}
 use native.Mathlib.Omega.{arith}
 use lib.ListN.{length}
-use borrow.Author.Rules.{rules}
 use Rattle.node.specs.Writing.{put}
 use Rattle.node.specs.Rows.{list_of}
 use Rattle.node.proofs.Runs.{put_same}

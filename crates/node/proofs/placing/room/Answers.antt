@@ -3,7 +3,6 @@ use Prim.Native.Nat.{◌+◌, ◌-◌, ◌<◌, min}
 use mathlib.Core.Path.{sym}
 use native.Mathlib.Omega.{arith}
 use borrow.Author.Tests.{lt-leb}
-use borrow.Author.Rules.{rules}
 use Rattle.node.specs.Writing.{usable_units}
 use Rattle.node.proofs.Choices.{same_test}
 use Rattle.node.proofs.placing.room.Goals as goal

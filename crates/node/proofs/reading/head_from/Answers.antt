@@ -1,8 +1,4 @@
-use Prim.Native.Nat.{◌-◌}
-use mathlib.Core.Path.{◌≡◌, refl, sym, ◌∙◌}
-use lib.ListN.{length}
-use borrow.Author.Rules.{rules}
-use Rattle.node.specs.Reading.{head_from}
+use mathlib.Core.Path.{refl, sym, ◌∙◌}
 use Rattle.node.proofs.Fillers.{head_past, head-here, head_skip}
 use Rattle.node.proofs.reading.head_from.Goals as goal
 

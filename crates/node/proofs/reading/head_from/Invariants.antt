@@ -1,10 +1,8 @@
 -- `reading::head_from` meets its contract. The loop's invariant: the head from here is the head from p.
 use Prim.Native.Nat.{◌-◌}
-use mathlib.Core.Path.{◌≡◌, refl, sym, ◌∙◌}
+use mathlib.Core.Path.{◌≡◌}
 use lib.ListN.{length}
-use borrow.Author.Rules.{rules}
 use Rattle.node.specs.Reading.{head_from}
-use Rattle.node.proofs.Fillers.{head_past, head-here, head_skip}
 use Rattle.node.proofs.reading.head_from.Given as goal
 
 abbrev pub invariant-loop-q : goal.invariant-loop-q

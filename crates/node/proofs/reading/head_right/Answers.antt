@@ -4,7 +4,6 @@ use mathlib.Core.Path.{sym, ap, ◌∙◌}
 use native.Mathlib.Omega.{arith}
 use lib.ListN.{length}
 use lib.Dec.{leb}
-use borrow.Author.Rules.{rules}
 use Rattle.node.specs.Reading.{head_right}
 use Rattle.node.proofs.Fit.{few}
 use Rattle.node.proofs.reading.head_right.Goals as goal

@@ -2,7 +2,6 @@
 use mathlib.Core.Path.{◌≡◌, sym, ap, ◌∙◌}
 use mathlib.Core.List.{List}
 use Prim.Native.Nat.{ℕ}
-use borrow.Author.Rules.{rules}
 use Rattle.node.specs.Rows.{list_of}
 use Rattle.node.specs.Reading.{head_stands}
 use Rattle.node.specs.declared.Units.{Units}

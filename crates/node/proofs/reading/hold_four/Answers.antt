@@ -1,6 +1,5 @@
 -- `reading::hold_four` meets its contract, two units at a time.
 use mathlib.Core.Path.{sym, ◌∙◌}
-use borrow.Author.Rules.{rules}
 use Rattle.node.proofs.Runs.{more-stand, more_fall}
 use Rattle.node.proofs.reading.hold_four.Goals as goal
 

@@ -1,6 +1,5 @@
 -- `reading::hold_six` meets its contract, two units and then four.
 use mathlib.Core.Path.{sym, ◌∙◌}
-use borrow.Author.Rules.{rules}
 use Rattle.node.proofs.Runs.{more-stand, more_fall}
 use Rattle.node.proofs.reading.hold_six.Goals as goal
 

@@ -1,6 +1,5 @@
 -- `reading::hold_two` meets its contract, unit by unit.
 use mathlib.Core.Path.{sym, ◌∙◌}
-use borrow.Author.Rules.{rules}
 use Rattle.node.proofs.Runs.{two_stand, two_fall}
 use Rattle.node.proofs.reading.hold_two.Goals as goal
 

@@ -1,6 +1,5 @@
 -- `reading::holds` meets its contract, by its two tests.
 use borrow.Author.Tests.{lt-ltb, le-ltb}
-use borrow.Author.Rules.{rules}
 use Rattle.node.specs.Reading.{holds}
 use Rattle.node.proofs.reading.holds.Goals as goal
 

@@ -2,7 +2,6 @@
 use Prim.Native.Nat.{◌+◌}
 use mathlib.Core.Path.{sym, ap, ◌∙◌}
 use native.Mathlib.Omega.{arith}
-use borrow.Author.Rules.{rules}
 use Rattle.node.specs.Answers.{answer, done, node}
 use Rattle.node.specs.Reading.{read_here, take_node, faults, lowest}
 use Rattle.node.proofs.Exact.{take_like, take_second, take_head}

@@ -1,7 +1,6 @@
 -- `reading::read_units` meets its contract: the node at the head, or the end.
 use mathlib.Core.Path.{sym, ◌∙◌}
 use borrow.Author.Tests.{lt-ltb, le-ltb}
-use borrow.Author.Rules.{rules}
 use Rattle.node.specs.Reading.{read_units}
 use Rattle.node.proofs.reading.read_units.Goals as goal
 

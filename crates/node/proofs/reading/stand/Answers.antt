@@ -1,6 +1,5 @@
 -- `reading::stand` meets its contract: each arm is given which units it has.
 use mathlib.Core.Path.{sym, ◌∙◌}
-use borrow.Author.Rules.{rules}
 use Rattle.node.specs.Reading.{stand}
 use Rattle.node.proofs.Runs.{one_stand, stand-same}
 use Rattle.node.proofs.reading.stand.Goals as goal

@@ -1,12 +1,7 @@
-use Prim.Native.Nat.{ℕ, ◌≤◌, ◌-◌}
 use mathlib.Core.Path.{◌≡◌, refl, sym, ap, ◌∙◌}
-use mathlib.Core.List.{List}
 use native.Mathlib.Omega.{arith}
-use lib.ListN.{length}
-use borrow.Author.Rules.{rules}
 use Rattle.node.specs.Answers.{answer, done, node, found}
 use Rattle.node.specs.Reading.{read_units}
-use Rattle.node.specs.Walking.{walk_from}
 use Rattle.node.proofs.Exact.{Onward, read_onward}
 use Rattle.node.proofs.Walks.{walk-node, walk_end, walk-fault}
 use Rattle.node.proofs.reading.walk_units.Goals as goal

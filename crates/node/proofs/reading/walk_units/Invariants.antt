@@ -1,15 +1,9 @@
 -- `reading::walk_units` meets its contract. The loop's invariant: what is left to walk gives what is wanted.
 use Prim.Native.Nat.{ℕ, ◌≤◌, ◌-◌}
-use mathlib.Core.Path.{◌≡◌, refl, sym, ap, ◌∙◌}
+use mathlib.Core.Path.{◌≡◌}
 use mathlib.Core.List.{List}
-use native.Mathlib.Omega.{arith}
 use lib.ListN.{length}
-use borrow.Author.Rules.{rules}
-use Rattle.node.specs.Answers.{answer, done, node, found}
-use Rattle.node.specs.Reading.{read_units}
 use Rattle.node.specs.Walking.{walk_from}
-use Rattle.node.proofs.Exact.{Onward, read_onward}
-use Rattle.node.proofs.Walks.{walk-node, walk_end, walk-fault}
 use Rattle.node.proofs.reading.walk_units.Given as goal
 
 -- What is left to walk gives what is wanted, and each node had a unit of its own.

@@ -1,7 +1,6 @@
 -- `rows::alone_row` meets its contract: the rows in order, each behind the tests that failed before it.
 use mathlib.Core.Path.{sym, ◌∙◌}
 use native.Mathlib.Omega.{arith}
-use borrow.Author.Rules.{rules}
 use Rattle.node.specs.Rows.{alone_row}
 use Rattle.node.proofs.Choices.{below}
 use Rattle.node.proofs.rows.alone_row.Goals as goal

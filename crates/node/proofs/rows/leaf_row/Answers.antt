@@ -1,6 +1,5 @@
 -- `rows::leaf_row` meets its contract, by the test of the symbol.
 use borrow.Author.Tests.{lt-ltb, le-ltb}
-use borrow.Author.Rules.{rules}
 use Rattle.node.specs.Rows.{leaf_row}
 use Rattle.node.proofs.rows.leaf_row.Goals as goal
 

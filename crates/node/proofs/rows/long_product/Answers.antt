@@ -1,5 +1,4 @@
 -- `rows::long_product` meets its contract, half by half.
-use borrow.Author.Rules.{rules}
 use Rattle.node.specs.Rows.{long_product}
 use Rattle.node.proofs.rows.long_product.Goals as goal
 

@@ -2,7 +2,6 @@
 use mathlib.Core.Path.{sym, ◌∙◌}
 use native.Mathlib.Omega.{arith}
 use borrow.Author.Tests.{lt-ltb, le-ltb}
-use borrow.Author.Rules.{rules}
 use Rattle.node.specs.Rows.{pair_row}
 use Rattle.node.proofs.Choices.{below}
 use Rattle.node.proofs.rows.pair_row.Goals as goal

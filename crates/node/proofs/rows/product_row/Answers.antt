@@ -1,6 +1,5 @@
 -- `rows::product_row` meets its contract: each arm is given which right factor it has.
 use mathlib.Core.Path.{sym, ap, ◌∙◌}
-use borrow.Author.Rules.{rules}
 use Rattle.node.specs.Rows.{product_row, unfit_right}
 use Rattle.node.proofs.Fit.{fit-product, fit-right}
 use Rattle.node.proofs.rows.product_row.Goals as goal

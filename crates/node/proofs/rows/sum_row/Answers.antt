@@ -1,7 +1,6 @@
 -- `rows::sum_row` meets its contract: the bounds that the short row tests are what its one unit needs.
 use mathlib.Core.Path.{sym, ◌∙◌}
 use native.Mathlib.Omega.{arith}
-use borrow.Author.Rules.{rules}
 use Rattle.node.specs.Rows.{sum_row}
 use Rattle.node.proofs.Choices.{below}
 use Rattle.node.proofs.rows.sum_row.Goals as goal

@@ -1,6 +1,5 @@
 -- `rows::unfit` meets its contract: each arm is given which node it has.
 use mathlib.Core.Path.{sym, ap, ◌∙◌}
-use borrow.Author.Rules.{rules}
 use Rattle.node.specs.Rows.{unfit}
 use Rattle.node.proofs.rows.unfit.Goals as goal
 

@@ -1,7 +1,6 @@
 -- `rows::unfit_product` meets its contract: the action's limit is tested first, then the left factor, then the right one.
 use mathlib.Core.Path.{sym, ◌∙◌}
 use borrow.Author.Tests.{le-leb, lt-leb}
-use borrow.Author.Rules.{rules}
 use Rattle.node.specs.Rows.{unfit_product}
 use Rattle.node.proofs.rows.unfit_product.Goals as goal
 

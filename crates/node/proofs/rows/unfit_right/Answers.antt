@@ -1,6 +1,5 @@
 -- `rows::unfit_right` meets its contract: each arm is given which right factor it has.
 use mathlib.Core.Path.{sym, ap, ◌∙◌}
-use borrow.Author.Rules.{rules}
 use Rattle.node.specs.Rows.{unfit_right}
 use Rattle.node.proofs.rows.unfit_right.Goals as goal
 

@@ -1,6 +1,5 @@
 -- `rows::units_of` meets its contract: what is not unfit has the limits that its row asks.
 use mathlib.Core.Path.{sym, ap, ◌∙◌}
-use borrow.Author.Rules.{rules}
 use Rattle.node.specs.Rows.{units_of, row_of, unfit}
 use Rattle.node.proofs.Fit.{fit-sum, fit_row}
 use Rattle.node.proofs.rows.units_of.Goals as goal

@@ -1,6 +1,5 @@
 -- `spelling::alone` meets its contract, arm by arm.
 use mathlib.Core.Path.{sym, ap}
-use borrow.Author.Rules.{rules}
 use Rattle.node.specs.Reading.{alone}
 use Rattle.node.proofs.spelling.alone.Goals as goal
 

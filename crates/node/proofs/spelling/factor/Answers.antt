@@ -1,6 +1,5 @@
 -- `spelling::factor` meets its contract: the subtraction stands behind the test that the distance is not above the position.
 use borrow.Author.Tests.{le-leb, lt-leb}
-use borrow.Author.Rules.{rules}
 use Rattle.node.specs.Reading.{factor_at}
 use Rattle.node.proofs.spelling.factor.Goals as goal
 

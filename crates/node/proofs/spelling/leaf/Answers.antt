@@ -1,6 +1,5 @@
 -- `spelling::leaf` meets its contract: a range of the head for each row.
 use borrow.Author.Tests.{lt-ltb, le-ltb, eq-eqb, ne_eqb}
-use borrow.Author.Rules.{rules}
 use Rattle.node.specs.Reading.{leaf_spelt}
 use Rattle.node.proofs.spelling.leaf.Goals as goal
 

@@ -1,6 +1,5 @@
 -- `spelling::long` meets its contract: a range of the head for each row.
 use borrow.Author.Tests.{lt-ltb, le-ltb}
-use borrow.Author.Rules.{rules}
 use Rattle.node.specs.Reading.{long_spelt}
 use Rattle.node.proofs.spelling.long.Goals as goal
 

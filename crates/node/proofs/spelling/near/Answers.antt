@@ -1,7 +1,6 @@
 -- `spelling::near` meets its contract: a range of the head for each row.
 use mathlib.Core.Path.{◌∙◌}
 use borrow.Author.Tests.{lt-ltb, le-ltb}
-use borrow.Author.Rules.{rules}
 use Rattle.node.specs.Reading.{near_spelt}
 use Rattle.node.proofs.spelling.near.Goals as goal
 

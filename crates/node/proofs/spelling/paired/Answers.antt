@@ -1,5 +1,4 @@
 -- `spelling::paired` meets its contract, arm by arm.
-use borrow.Author.Rules.{rules}
 use Rattle.node.specs.Reading.{paired}
 use Rattle.node.proofs.spelling.paired.Goals as goal
 

@@ -1,7 +1,6 @@
 -- `spelling::spelt` meets its contract: the three parts of the table by the range of the head.
 use mathlib.Core.Path.{sym, ◌∙◌}
 use borrow.Author.Tests.{lt-ltb, le-ltb}
-use borrow.Author.Rules.{rules}
 use Rattle.node.proofs.spelling.spelt.Goals as goal
 
 pub returns-then-head-lt32768 : goal.returns-then-head-lt32768

@@ -1,5 +1,4 @@
 -- `spelling::value` meets its contract.
-use borrow.Author.Rules.{rules}
 use Rattle.node.specs.Reading.{value_at}
 use Rattle.node.proofs.spelling.value.Goals as goal
 

@@ -1,7 +1,6 @@
 -- `nodes::is_marked` meets its contract. Past the usable units there is no mark.
 use mathlib.Core.Path.{sym}
 use native.Mathlib.Omega.{arith}
-use borrow.Author.Rules.{rules}
 use Rattle.laws.proofs.Bits.{false_holds, past_end}
 use Rattle.parse.proofs.nodes.is_marked.Goals as goal
 

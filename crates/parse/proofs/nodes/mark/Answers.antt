@@ -4,7 +4,6 @@ use Prim.Native.Nat.{ℕ, ◌/◌, ◌%◌}
 use native.Mathlib.Omega.{arith}
 use lib.Bits.{bit_or}
 use lib.ListN.{get_or, set}
-use borrow.Author.Rules.{rules}
 use Rattle.laws.proofs.Bits.{one_shifted}
 use Rattle.parse.proofs.nodes.mark.Goals as goal
 

@@ -1,10 +1,7 @@
 use mathlib.Core.Path.{◌≡◌, refl, sym, ap, subst, ◌∙◌}
-use Prim.Native.Nat.{ℕ, ◌-◌}
+use Prim.Native.Nat.{ℕ}
 use native.Mathlib.Omega.{arith}
-use lib.ListN.{length}
-use borrow.Author.Rules.{rules}
 use Rattle.node.specs.Answers.{answer, done, node, found}
-use Rattle.node.specs.Reading.{read_at}
 use Rattle.node.specs.declared.Node.{Node}
 use Rattle.node.specs.declared.Found.{Found}
 use Rattle.node.specs.declared.Found.TheVariants.{Whole, End, NoNode}

@@ -3,7 +3,6 @@ use mathlib.Core.Path.{ap}
 use mathlib.Core.Bool.{not}
 use lib.ListN.{length-replicate}
 use Prim.Native.Nat.{ℕ}
-use borrow.Author.Rules.{rules}
 use Rattle.laws.proofs.Lists.{zeros_word}
 use Rattle.laws.proofs.Decides.{part_fails, passes, decides_map}
 use Rattle.parse.specs.inner.Parts.{head_words, StoreFits, HandlesMarked}

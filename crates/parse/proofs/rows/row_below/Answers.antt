@@ -1,12 +1,11 @@
 use mathlib.Core.Path.{ap}
 use mathlib.Core.Bool.{not}
-use Prim.Native.Nat.{◌-◌, ◌≤◌}
 use native.Mathlib.Omega.{arith}
 use borrow.Author.Rules.{rules}
 use Rattle.bits.specs.Width.{row_words}
 use Rattle.laws.proofs.Decides.{says_yes_lem, part_fails, passes}
-use Rattle.parse.proofs.Below.{WordIn, words-below, below-words}
-use Rattle.parse.proofs.Passing.{Passed, none_passed, one_passed}
+use Rattle.parse.proofs.Below.{words-below, below-words}
+use Rattle.parse.proofs.Passing.{none_passed, one_passed}
 use Rattle.parse.proofs.rows.row_below.Goals as goal
 
 pub loop-i-init : goal.loop-i-init

@@ -1,13 +1,8 @@
 -- `rows::row_below` meets its contract. The loop's invariant: no word passed has a bit that it may not have.
-use mathlib.Core.Path.{ap}
-use mathlib.Core.Bool.{not}
 use Prim.Native.Nat.{◌-◌, ◌≤◌}
-use native.Mathlib.Omega.{arith}
-use borrow.Author.Rules.{rules}
 use Rattle.bits.specs.Width.{row_words}
-use Rattle.laws.proofs.Decides.{says_yes_lem, part_fails, passes}
-use Rattle.parse.proofs.Below.{WordIn, words-below, below-words}
-use Rattle.parse.proofs.Passing.{Passed, none_passed, one_passed}
+use Rattle.parse.proofs.Below.{WordIn}
+use Rattle.parse.proofs.Passing.{Passed}
 use Rattle.parse.proofs.rows.row_below.Given as goal
 
 abbrev pub invariant-loop-i : goal.invariant-loop-i

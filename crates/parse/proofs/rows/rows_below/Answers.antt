@@ -1,13 +1,10 @@
 use mathlib.Core.Path.{ap}
 use mathlib.Core.Bool.{not}
-use Prim.Native.Nat.{ℕ, ◌+◌, ◌-◌, ◌≤◌}
 use native.Mathlib.Omega.{arith}
 use borrow.Author.Rules.{rules}
-use Rattle.laws.specs.Bits.{Below, row_of}
-use Rattle.bits.specs.Width.{row_words}
 use Rattle.parse.specs.inner.Parts.{RowsBelow}
 use Rattle.laws.proofs.Decides.{says_yes_lem, part_fails, passes}
-use Rattle.parse.proofs.Passing.{Passed, none_passed, one_passed}
+use Rattle.parse.proofs.Passing.{none_passed, one_passed}
 use Rattle.parse.proofs.rows.rows_below.Goals as goal
 
 pub loop-k-init : goal.loop-k-init

@@ -1,6 +1,5 @@
 -- `rows::word_below` meets its contract: a word is of symbols below, of symbols above, or has the first symbol above.
 use native.Mathlib.Omega.{arith}
-use borrow.Author.Rules.{rules}
 use Rattle.laws.proofs.Decides.{says_yes_lem, says-eqb}
 use Rattle.parse.proofs.Below.{low_word, high_word, high_word_is, mid_word, mid_word_is}
 use Rattle.parse.proofs.rows.word_below.Goals as goal

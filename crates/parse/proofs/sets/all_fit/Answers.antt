@@ -1,14 +1,9 @@
 use mathlib.Core.Path.{ap}
 use mathlib.Core.Bool.{not}
-use Prim.Native.Nat.{ℕ, ◌-◌}
 use native.Mathlib.Omega.{arith}
-use borrow.Author.Rules.{rules}
-use Rattle.grammar.specs.inner.Decoded.{rules_in}
-use Rattle.item.specs.Item.{item_at}
 use Rattle.parse.specs.inner.Parts.{AllFit}
-use Rattle.parse.specs.WellFormed.{Fits}
 use Rattle.laws.proofs.Decides.{says_yes_lem, part_fails, passes}
-use Rattle.parse.proofs.Passing.{Passed, none_passed, one_passed}
+use Rattle.parse.proofs.Passing.{none_passed, one_passed}
 use Rattle.parse.proofs.sets.all_fit.Goals as goal
 
 pub loop-p-init : goal.loop-p-init

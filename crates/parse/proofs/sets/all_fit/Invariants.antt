@@ -1,15 +1,9 @@
 -- `sets::all_fit` meets its contract. The loop's invariant: every item passed fits the set.
-use mathlib.Core.Path.{ap}
-use mathlib.Core.Bool.{not}
 use Prim.Native.Nat.{ℕ, ◌-◌}
-use native.Mathlib.Omega.{arith}
-use borrow.Author.Rules.{rules}
 use Rattle.grammar.specs.inner.Decoded.{rules_in}
 use Rattle.item.specs.Item.{item_at}
-use Rattle.parse.specs.inner.Parts.{AllFit}
 use Rattle.parse.specs.WellFormed.{Fits}
-use Rattle.laws.proofs.Decides.{says_yes_lem, part_fails, passes}
-use Rattle.parse.proofs.Passing.{Passed, none_passed, one_passed}
+use Rattle.parse.proofs.Passing.{Passed}
 use Rattle.parse.proofs.sets.all_fit.Given as goal
 
 abbrev pub invariant-loop-p : goal.invariant-loop-p

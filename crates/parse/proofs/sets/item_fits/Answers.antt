@@ -1,7 +1,6 @@
 -- `sets::item_fits` meets its contract, test by test.
 use mathlib.Core.Path.{◌∙◌}
 use native.Mathlib.Omega.{arith}
-use borrow.Author.Rules.{rules}
 use Rattle.grammar.proofs.Decoding.{in_count}
 use Rattle.parse.specs.WellFormed.{Fits}
 use Rattle.laws.proofs.Decides.{says_no}

@@ -1,10 +1,8 @@
-use Prim.Native.Nat.{◌+◌, ◌-◌, ◌≤◌}
 use native.Mathlib.Omega.{arith}
 use borrow.Author.Rules.{rules}
 use Rattle.parse.specs.inner.Parts.{NeverFalls}
 use Rattle.laws.proofs.Decides.{says_yes_lem, says_no}
-use Rattle.parse.proofs.Fitting.{Up}
-use Rattle.parse.proofs.Passing.{Passed, none_passed, one_passed}
+use Rattle.parse.proofs.Passing.{none_passed, one_passed}
 use Rattle.parse.proofs.sets.never_falls.Goals as goal
 
 pub loop-k-init : goal.loop-k-init

@@ -1,11 +1,7 @@
 -- `sets::never_falls` meets its contract. The loop's invariant: no start passed is above the next.
 use Prim.Native.Nat.{◌+◌, ◌-◌, ◌≤◌}
-use native.Mathlib.Omega.{arith}
-use borrow.Author.Rules.{rules}
-use Rattle.parse.specs.inner.Parts.{NeverFalls}
-use Rattle.laws.proofs.Decides.{says_yes_lem, says_no}
 use Rattle.parse.proofs.Fitting.{Up}
-use Rattle.parse.proofs.Passing.{Passed, none_passed, one_passed}
+use Rattle.parse.proofs.Passing.{Passed}
 use Rattle.parse.proofs.sets.never_falls.Given as goal
 
 abbrev pub invariant-loop-k : goal.invariant-loop-k

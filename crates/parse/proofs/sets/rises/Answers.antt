@@ -1,12 +1,10 @@
 use mathlib.Core.Path.{ap}
 use mathlib.Core.Bool.{not}
-use Prim.Native.Nat.{◌-◌, ◌≤◌}
 use native.Mathlib.Omega.{arith}
 use borrow.Author.Rules.{rules}
 use Rattle.parse.specs.inner.Parts.{Rises}
 use Rattle.laws.proofs.Decides.{says_yes_lem, part_fails, passes, says-lower}
-use Rattle.parse.proofs.Fitting.{Before}
-use Rattle.parse.proofs.Passing.{Passed, none_passed, one_passed}
+use Rattle.parse.proofs.Passing.{none_passed, one_passed}
 use Rattle.parse.proofs.sets.rises.Goals as goal
 
 pub loop-p-init : goal.loop-p-init

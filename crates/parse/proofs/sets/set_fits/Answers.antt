@@ -1,9 +1,7 @@
 -- `sets::set_fits` meets its contract: the items fit, and then rise.
 use mathlib.Core.Path.{ap}
 use mathlib.Core.Bool.{not}
-use borrow.Author.Rules.{rules}
-use Rattle.grammar.specs.inner.Decoded.{rules_in}
-use Rattle.parse.specs.inner.Parts.{AllFit, SetFits}
+use Rattle.parse.specs.inner.Parts.{SetFits}
 use Rattle.parse.proofs.Fitting.{fit_among, among_more}
 use Rattle.laws.proofs.Decides.{part_fails, passes, decides_map}
 use Rattle.parse.proofs.sets.set_fits.Goals as goal

@@ -1,6 +1,5 @@
 -- `sets::starts_fit` meets its contract, test by test.
 use mathlib.Core.Path.{◌∙◌, sym}
-use borrow.Author.Rules.{rules}
 use Rattle.parse.specs.inner.Parts.{StartsFit}
 use Rattle.laws.proofs.Decides.{says_no, decides_map}
 use Rattle.parse.proofs.sets.starts_fit.Goals as goal

@@ -1,7 +1,6 @@
 -- `spare::spare_clear` meets its contract: each kind of words, and the units, are told of by themselves.
 use mathlib.Core.Path.{ap}
 use mathlib.Core.Bool.{not}
-use borrow.Author.Rules.{rules}
 use Rattle.parse.specs.inner.Parts.{SpareClear}
 use Rattle.laws.proofs.Decides.{part_fails, passes, decides_map}
 use Rattle.parse.proofs.spare.spare_clear.Goals as goal

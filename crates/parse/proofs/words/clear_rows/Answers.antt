@@ -1,7 +1,5 @@
-use Prim.Native.Nat.{◌-◌}
 use native.Mathlib.Omega.{arith}
-use borrow.Author.Rules.{rules}
-use Rattle.parse.proofs.Padded.{Topping, topping_start, topping_next, clearing_ends}
+use Rattle.parse.proofs.Padded.{topping_start, topping_next, clearing_ends}
 use Rattle.parse.proofs.words.clear_rows.Goals as goal
 
 pub loop-i-init : goal.loop-i-init

@@ -1,8 +1,6 @@
 -- `parse::words::clear_rows` meets its contract. The invariant: the words from `from` up to `i` are 0.
 use Prim.Native.Nat.{◌-◌}
-use native.Mathlib.Omega.{arith}
-use borrow.Author.Rules.{rules}
-use Rattle.parse.proofs.Padded.{Topping, topping_start, topping_next, clearing_ends}
+use Rattle.parse.proofs.Padded.{Topping}
 use Rattle.parse.proofs.words.clear_rows.Given as goal
 
 abbrev pub invariant-loop-i : goal.invariant-loop-i

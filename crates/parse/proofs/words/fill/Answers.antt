@@ -1,8 +1,5 @@
-use Prim.Native.Nat.{◌-◌}
 use native.Mathlib.Omega.{arith}
-use borrow.Author.Rules.{rules}
-use Rattle.node.specs.Reading.{filler}
-use Rattle.parse.proofs.Padded.{Topping, topping_start, topping_next, filling_ends}
+use Rattle.parse.proofs.Padded.{topping_start, topping_next, filling_ends}
 use Rattle.parse.proofs.words.fill.Goals as goal
 
 pub loop-i-init : goal.loop-i-init

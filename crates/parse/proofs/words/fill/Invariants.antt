@@ -1,9 +1,7 @@
 -- `parse::words::fill` meets its contract. The invariant: the units from `from` up to `i` are fillers.
 use Prim.Native.Nat.{◌-◌}
-use native.Mathlib.Omega.{arith}
-use borrow.Author.Rules.{rules}
 use Rattle.node.specs.Reading.{filler}
-use Rattle.parse.proofs.Padded.{Topping, topping_start, topping_next, filling_ends}
+use Rattle.parse.proofs.Padded.{Topping}
 use Rattle.parse.proofs.words.fill.Given as goal
 
 abbrev pub invariant-loop-i : goal.invariant-loop-i

@@ -1,11 +1,8 @@
-use Prim.Native.Nat.{◌-◌}
 use native.Mathlib.Omega.{arith}
-use lib.ListN.{length}
-use borrow.Author.Rules.{rules}
 use Rattle.parse.specs.inner.Parts.{Clear}
 use Rattle.laws.proofs.Decides.{says_yes_lem, says_no}
-use Rattle.parse.proofs.Clearing.{Zero, all_clear}
-use Rattle.parse.proofs.Passing.{Passed, none_passed, one_passed, block_passed}
+use Rattle.parse.proofs.Clearing.{all_clear}
+use Rattle.parse.proofs.Passing.{none_passed, one_passed, block_passed}
 use Rattle.parse.proofs.words.is_clear.Goals as goal
 
 pub loop-i-init : goal.loop-i-init

@@ -1,12 +1,8 @@
 -- `parse::words::is_clear` meets its contract. The loop's invariant: every word passed is 0.
 use Prim.Native.Nat.{◌-◌}
-use native.Mathlib.Omega.{arith}
 use lib.ListN.{length}
-use borrow.Author.Rules.{rules}
-use Rattle.parse.specs.inner.Parts.{Clear}
-use Rattle.laws.proofs.Decides.{says_yes_lem, says_no}
-use Rattle.parse.proofs.Clearing.{Zero, all_clear}
-use Rattle.parse.proofs.Passing.{Passed, none_passed, one_passed, block_passed}
+use Rattle.parse.proofs.Clearing.{Zero}
+use Rattle.parse.proofs.Passing.{Passed}
 use Rattle.parse.proofs.words.is_clear.Given as goal
 
 abbrev pub invariant-loop-i : goal.invariant-loop-i

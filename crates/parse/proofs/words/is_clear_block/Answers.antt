@@ -1,14 +1,10 @@
-use mathlib.Core.Path.{◌≡◌, refl}
+use mathlib.Core.Path.{refl}
 use mathlib.Core.Bool.{not}
-use Prim.Native.Nat.{◌+◌, ◌-◌, ◌≤◌}
 use native.Mathlib.Omega.{arith}
 use lib.ListN.{get_or}
 use lib.Dec.{eqb}
-use borrow.Author.Rules.{rules}
 use borrow.Author.Tests.{eqb-true, not-false}
-use Rattle.parse.specs.inner.Parts.{block_words}
-use Rattle.parse.proofs.Clearing.{Zero}
-use Rattle.parse.proofs.Passing.{Counted, at_most, none_counted, one_counted}
+use Rattle.parse.proofs.Passing.{at_most, none_counted, one_counted}
 use Rattle.parse.proofs.words.is_clear_block.Goals as goal
 
 pub loop-i-init : goal.loop-i-init

@@ -1,15 +1,9 @@
 -- `parse::words::is_clear_row_block` meets its contract: it counts the words that are not 0.
-use mathlib.Core.Path.{◌≡◌, refl}
-use mathlib.Core.Bool.{not}
+use mathlib.Core.Path.{◌≡◌}
 use Prim.Native.Nat.{◌+◌, ◌-◌, ◌≤◌}
-use native.Mathlib.Omega.{arith}
-use lib.ListN.{get_or}
-use lib.Dec.{eqb}
-use borrow.Author.Rules.{rules}
-use borrow.Author.Tests.{eqb-true, not-false}
 use Rattle.parse.specs.inner.Parts.{block_words}
 use Rattle.parse.proofs.Clearing.{Zero}
-use Rattle.parse.proofs.Passing.{Counted, at_most, none_counted, one_counted}
+use Rattle.parse.proofs.Passing.{Counted}
 use Rattle.parse.proofs.words.is_clear_row_block.Given as goal
 
 abbrev pub invariant-loop-i : goal.invariant-loop-i

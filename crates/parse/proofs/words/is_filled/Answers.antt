@@ -1,12 +1,9 @@
 use mathlib.Core.Path.{sym, ◌∙◌}
-use Prim.Native.Nat.{◌-◌}
 use native.Mathlib.Omega.{arith}
-use lib.ListN.{length}
-use borrow.Author.Rules.{rules}
 use Rattle.parse.specs.inner.Parts.{Filled}
 use Rattle.laws.proofs.Decides.{says_yes_lem, says_no}
-use Rattle.parse.proofs.Clearing.{Filler, all-filled, unit-there}
-use Rattle.parse.proofs.Passing.{Passed, none_passed, one_passed, block_passed}
+use Rattle.parse.proofs.Clearing.{all-filled, unit-there}
+use Rattle.parse.proofs.Passing.{none_passed, one_passed, block_passed}
 use Rattle.parse.proofs.words.is_filled.Goals as goal
 
 pub loop-i-init : goal.loop-i-init

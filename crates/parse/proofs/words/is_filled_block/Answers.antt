@@ -1,15 +1,13 @@
-use mathlib.Core.Path.{◌≡◌, refl, ◌∙◌}
+use mathlib.Core.Path.{refl, ◌∙◌}
 use mathlib.Core.Bool.{not}
-use Prim.Native.Nat.{◌+◌, ◌-◌, ◌≤◌, ◌<◌}
+use Prim.Native.Nat.{◌<◌}
 use native.Mathlib.Omega.{arith}
 use lib.ListN.{length, get_or}
 use lib.Dec.{eqb}
-use borrow.Author.Rules.{rules}
 use borrow.Author.Tests.{eqb-true, not-false}
 use Rattle.node.specs.Reading.{filler}
-use Rattle.parse.specs.inner.Parts.{block_words}
-use Rattle.parse.proofs.Clearing.{Filler, unit-there}
-use Rattle.parse.proofs.Passing.{Counted, at_most, none_counted, one_counted}
+use Rattle.parse.proofs.Clearing.{unit-there}
+use Rattle.parse.proofs.Passing.{at_most, none_counted, one_counted}
 use Rattle.parse.proofs.words.is_filled_block.Goals as goal
 
 pub loop-i-init : goal.loop-i-init

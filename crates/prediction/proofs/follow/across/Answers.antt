@@ -1,12 +1,7 @@
-use Rattle.bits.specs.Width.{row_words}
 use Rattle.laws.proofs.Bits.{holds_true, holds_false}
-use Rattle.prediction.specs.inner.Tables.{Tells}
-use Rattle.prediction.proofs.Across.{Passed, across_none, across_passed, across_joined, across_row, across_all}
-use borrow.Author.Tests.{not-true, not-false}
-use borrow.Author.Rules.{rules}
+use Rattle.prediction.proofs.Across.{across_none, across_passed, across_joined, across_row, across_all}
 use native.Mathlib.Omega.{arith}
 use mathlib.Core.Path.{sym, ◌∙◌}
-use Prim.Native.Nat.{◌-◌}
 use Rattle.prediction.proofs.follow.across.Goals as goal
 
 pub loop-x-init : goal.loop-x-init

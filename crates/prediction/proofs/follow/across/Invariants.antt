@@ -1,12 +1,7 @@
 -- `prediction::follow::across` meets its contract. The invariant, `Passed`: what the rows passed lead to, and in a row what the symbols passed do.
 use Rattle.bits.specs.Width.{row_words}
-use Rattle.laws.proofs.Bits.{holds_true, holds_false}
 use Rattle.prediction.specs.inner.Tables.{Tells}
-use Rattle.prediction.proofs.Across.{Passed, across_none, across_passed, across_joined, across_row, across_all}
-use borrow.Author.Tests.{not-true, not-false}
-use borrow.Author.Rules.{rules}
-use native.Mathlib.Omega.{arith}
-use mathlib.Core.Path.{sym, ◌∙◌}
+use Rattle.prediction.proofs.Across.{Passed}
 use Prim.Native.Nat.{◌-◌}
 use Rattle.prediction.proofs.follow.across.Given as goal
 

@@ -1,10 +1,6 @@
-use Rattle.bits.specs.Width.{row_words}
-use Rattle.prediction.specs.inner.Tables.{Tells, Beside}
 use Rattle.prediction.proofs.Across.{beside_none, beside_passed, beside-joined, beside_at}
-use borrow.Author.Rules.{rules}
 use native.Mathlib.Omega.{arith}
 use mathlib.Core.Path.{sym, ◌∙◌}
-use Prim.Native.Nat.{◌-◌, ◌≤◌}
 use Rattle.prediction.proofs.follow.beside.Goals as goal
 
 pub loop-r-init : goal.loop-r-init

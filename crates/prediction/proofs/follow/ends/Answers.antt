@@ -1,12 +1,7 @@
-use Rattle.bits.specs.Width.{row_words}
-use Rattle.grammar.specs.inner.Decoded.{left_in}
-use Rattle.prediction.specs.inner.Tables.{last_in, Seeded}
 use Rattle.prediction.proofs.Cells.{seeded-rule, seeded_at}
 use Rattle.prediction.proofs.Following.{last_is, last-low}
-use borrow.Author.Rules.{rules}
 use native.Mathlib.Omega.{arith}
 use mathlib.Core.Path.{refl}
-use Prim.Native.Nat.{◌-◌, ◌≤◌}
 use Rattle.prediction.proofs.follow.ends.Goals as goal
 
 pub own-table-requires : goal.own-table-requires

@@ -2,7 +2,6 @@
 use Rattle.prediction.proofs.Cells.{steps_low}
 use Rattle.prediction.proofs.Following.{last-low, followers}
 use native.Mathlib.Omega.{arith}
-use borrow.Author.Rules.{rules}
 use Rattle.prediction.proofs.follow.table.Goals as goal
 
 pub close-ended-requires : goal.close-ended-requires

@@ -1,7 +1,6 @@
 -- `recognizer::file::open` meets its contract: the verdict of the check, case by case.
 use mathlib.Core.Path.{sym, ap, subst}
 use native.Mathlib.Omega.{arith}
-use borrow.Author.Rules.{rules}
 use Rattle.grammar.proofs.Verdicts.{AcceptedFile, accepted-file}
 use Rattle.grammar.specs.Answers.{number_of}
 use Rattle.grammar.specs.inner.Decoded.{Chained}

@@ -1,7 +1,6 @@
 -- `recognizer::ready::ready` meets its contract.
 use mathlib.Core.Path.{ap}
 use mathlib.Core.Bool.{not}
-use borrow.Author.Rules.{rules}
 use Rattle.parse.specs.Words.{words_of}
 use Rattle.demands.specs.Calls.{CallFault}
 use Rattle.recognizer.proofs.Readying.{opened-fault, opened-sound, sound-few, told_ill_formed, told_ready}

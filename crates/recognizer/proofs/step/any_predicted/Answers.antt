@@ -1,9 +1,5 @@
 use mathlib.Core.Path.{sym, ◌∙◌}
-use Prim.Native.Nat.{◌-◌}
-use native.Mathlib.Omega.{arith}
-use lib.ListN.{length}
-use borrow.Author.Rules.{rules}
-use Rattle.recognizer.proofs.Looking.{Passing, passing-first, passing_off, passing_on, passing-end}
+use Rattle.recognizer.proofs.Looking.{passing-first, passing_off, passing_on, passing-end}
 use Rattle.recognizer.proofs.step.any_predicted.Goals as goal
 
 pub loop-i-init : goal.loop-i-init

@@ -1,6 +1,5 @@
 -- `recognizer::step::complete_position` meets its contract.
 use mathlib.Core.Path.{sym, ap, ◌∙◌, subst}
-use borrow.Author.Rules.{rules}
 use Rattle.grammar.specs.inner.Decoded.{rules_in}
 use Rattle.parse.specs.Words.{words_of}
 use Rattle.completion.specs.Sums.{complete_all_sums}

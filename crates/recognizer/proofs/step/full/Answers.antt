@@ -1,6 +1,5 @@
 use mathlib.Core.Logic.{⊎_elim}
 use mathlib.Core.Path.{sym}
-use borrow.Author.Rules.{rules}
 use Rattle.recognizer.proofs.step.full.Goals as goal
 
 pub returns : goal.returns

@@ -1,5 +1,4 @@
 use native.Mathlib.Omega.{arith}
-use borrow.Author.Rules.{rules}
 use Rattle.recognizer.proofs.Beginning.{may_clear}
 use Rattle.recognizer.proofs.step.give_up.Goals as goal
 

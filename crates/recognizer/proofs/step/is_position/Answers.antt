@@ -1,8 +1,4 @@
-use Prim.Native.Nat.{◌-◌}
-use native.Mathlib.Omega.{arith}
-use lib.ListN.{length}
-use borrow.Author.Rules.{rules}
-use Rattle.recognizer.proofs.Looking.{no_kind, Rising, rising_first, rising_off, rising_on, rising_end}
+use Rattle.recognizer.proofs.Looking.{no_kind, rising_first, rising_off, rising_on, rising_end}
 use Rattle.recognizer.proofs.step.is_position.Goals as goal
 
 pub returns-then-many-eq0 : goal.returns-then-many-eq0

@@ -1,9 +1,6 @@
 -- `recognizer::step::is_position` meets its contract.
 use Prim.Native.Nat.{◌-◌}
-use native.Mathlib.Omega.{arith}
-use lib.ListN.{length}
-use borrow.Author.Rules.{rules}
-use Rattle.recognizer.proofs.Looking.{no_kind, Rising, rising_first, rising_off, rising_on, rising_end}
+use Rattle.recognizer.proofs.Looking.{Rising}
 use Rattle.recognizer.proofs.step.is_position.Given as goal
 
 abbrev pub invariant-loop-i : goal.invariant-loop-i

@@ -5,17 +5,14 @@ use Prim.Native.Nat.{ℕ}
 use lib.ListN.{length}
 use mathlib.Core.Path.{◌≡◌, sym, ◌∙◌}
 use native.Mathlib.Omega.{arith}
-use borrow.Author.Rules.{rules}
-use borrow.Author.Tests.{not-true, not-false}
 use Rattle.parse.specs.declared.State.{State}
 use Rattle.completion.specs.declared.Progress.{Progress}
 use Rattle.completion.specs.Pass.{pass_over}
 use Rattle.demands.specs.Steps.{completed}
 use Rattle.recognizer.specs.declared.Sizes.{Sizes}
 use Rattle.parse.specs.Words.{Words, words_of}
-use Rattle.completion.specs.inner.Ready.{KindsFit}
 use Rattle.demands.specs.Positions.{is_position, any_predicted}
-use Rattle.demands.proofs.Positions.{Predicted, any_predicted_lem, predicted-any}
+use Rattle.demands.proofs.Positions.{any_predicted_lem, predicted-any}
 use Rattle.demands.proofs.Ways.{is_no_token, is_not_predicted}
 use Rattle.recognizer.specs.inner.Steppable.{grammar_from, Steppable}
 use Rattle.recognizer.proofs.OnePosition.{row_there, kinds_fit}
@@ -37,9 +34,11 @@ returns-then-not-is_position c =
 
 pub any_predicted-requires : goal.any_predicted-requires
 any_predicted-requires c =
-    let given = c.args in
-    (row_there given.rules.now given.sizes given.table.now given.state (words_of c.args.items.now c.args.starts.now c.args.rows.now c.args.queue.now c.args.store.now) c.requires.0 given.kinds.now, kinds_fit c.args.rules.now c.args.sizes c.args.table.now c.args.state (words_of c.args.items.now c.args.starts.now c.args.rows.now c.args.queue.now c.args.store.now) c.requires.0 c.args.kinds.now
-    (sym c.is_position.ensures ∙ c.if-not-is_position.false))
+    let given = c.args in (
+      row_there given.rules.now given.sizes given.table.now given.state (words_of c.args.items.now c.args.starts.now c.args.rows.now c.args.queue.now c.args.store.now) c.requires.0 given.kinds.now,
+      kinds_fit c.args.rules.now c.args.sizes c.args.table.now c.args.state (words_of c.args.items.now c.args.starts.now c.args.rows.now c.args.queue.now c.args.store.now) c.requires.0 c.args.kinds.now
+          (sym c.is_position.ensures ∙ c.if-not-is_position.false),
+    )
 
 pub returns-then-not-any_predicted : goal.returns-then-not-any_predicted
 returns-then-not-any_predicted c =
@@ -50,8 +49,12 @@ returns-then-not-any_predicted c =
     (λ some. false≢true (sym lacks ∙ predicted-any given.state (words_of c.args.items.now c.args.starts.now c.args.rows.now c.args.queue.now c.args.store.now) given.kinds.now some)))
 
 pub complete_position-pass-requires : goal.complete_position-pass-requires
-complete_position-pass-requires c = (c.requires.0, kinds_fit c.args.rules.now c.args.sizes c.args.table.now c.args.state (words_of c.args.items.now c.args.starts.now c.args.rows.now c.args.queue.now c.args.store.now) c.requires.0 c.args.kinds.now
-    (sym c.is_position.ensures ∙ c.if-not-is_position.false), c.requires.1)
+complete_position-pass-requires c = (
+  c.requires.0,
+  kinds_fit c.args.rules.now c.args.sizes c.args.table.now c.args.state (words_of c.args.items.now c.args.starts.now c.args.rows.now c.args.queue.now c.args.store.now) c.requires.0 c.args.kinds.now
+      (sym c.is_position.ensures ∙ c.if-not-is_position.false),
+  c.requires.1,
+)
 
 pub give_up-requires : goal.give_up-requires
 give_up-requires c =

@@ -1,4 +1,3 @@
-use borrow.Author.Rules.{rules}
 use Rattle.recognizer.proofs.Beginning.{may_fill}
 use Rattle.recognizer.proofs.step.unwrite.Goals as goal
 

@@ -4,7 +4,6 @@ use mathlib.Core.Path.{sym}
 use Prim.Native.Nat.{◌*◌}
 use lib.Seq.{length-take-le}
 use Rattle.bits.specs.Width.{row_words}
-use borrow.Author.Rules.{rules}
 use Rattle.parse.specs.Words.{words_of}
 use Rattle.recognizer.specs.inner.Cuts.{cleared_words}
 use Rattle.recognizer.proofs.Carving.{put_back_place}

@@ -1,6 +1,5 @@
 -- `recognizer::within::clear_all` meets its contract.
 use native.Mathlib.Omega.{arith}
-use borrow.Author.Rules.{rules}
 use Rattle.parse.specs.Words.{words_of}
 use Rattle.recognizer.proofs.Beginning.{may_clear, may_fill, all_cleared}
 use Rattle.recognizer.proofs.within.clear_all.Goals as goal

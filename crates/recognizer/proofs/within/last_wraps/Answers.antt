@@ -1,5 +1,4 @@
 -- `recognizer::within::last_wraps` meets its contract.
-use borrow.Author.Rules.{rules}
 use Rattle.recognizer.proofs.Cutting.{wraps-some, wraps_none}
 use Rattle.recognizer.proofs.within.last_wraps.Goals as goal
 

@@ -2,7 +2,6 @@
 use mathlib.Core.Path.{ap}
 use Prim.Native.Nat.{◌-◌, ◌*◌}
 use lib.ListN.{take, drop}
-use borrow.Author.Rules.{rules}
 use Rattle.item.specs.Item.{item_words}
 use Rattle.recognizer.proofs.within.latest_part.Goals as goal
 

@@ -1,19 +1,13 @@
 -- `recognizer::within::run_kinds_within` meets its contract.
-use mathlib.Core.Path.{◌∙◌}
 use mathlib.Core.List.{List}
 use Prim.Native.Nat.{ℕ, ◌-◌, ◌≤◌}
-use native.Mathlib.Nat.{lt_of_le_of_lt}
-use native.Mathlib.Numerals.{add-one-le}
-use native.Mathlib.Omega.{arith}
 use lib.ListN.{length, drop}
-use borrow.Author.Rules.{rules, scaled_Fits}
 use Rattle.grammar.specs.Rules.{Grammar}
 use Rattle.parse.specs.declared.State.{State}
 use Rattle.parse.specs.Words.{Words, words_of}
 use Rattle.demands.specs.Positions.{positions_in}
 use Rattle.recognizer.specs.inner.Steppable.{grammar_from}
-use Rattle.recognizer.proofs.Remaining.{no_positions, position-cut, position-next}
-use Rattle.recognizer.proofs.Turning.{Going, going_first, going_on, going_off, going_cut, going_end}
+use Rattle.recognizer.proofs.Turning.{Going}
 use Rattle.recognizer.proofs.within.run_kinds_within.Given as goal
 
 -- A run over the positions that words hold, with those from word `at` on left. No more were taken than words read.

@@ -1,15 +1,10 @@
-use mathlib.Core.Path.{◌∙◌}
-use Prim.Native.Nat.{◌-◌}
 use native.Mathlib.Nat.{lt_of_le_of_lt}
 use native.Mathlib.Numerals.{add-one-le}
 use native.Mathlib.Omega.{arith}
-use lib.ListN.{length, drop}
-use borrow.Author.Rules.{rules, scaled_Fits}
-use Rattle.parse.specs.Words.{words_of}
+use borrow.Author.Rules.{scaled_Fits}
 use Rattle.earley.specs.Positions.{plain}
-use Rattle.recognizer.specs.inner.Steppable.{grammar_from}
 use Rattle.recognizer.proofs.Remaining.{no_tokens, token-next}
-use Rattle.recognizer.proofs.Turning.{Going, going_first, going_on, going_off, going_end}
+use Rattle.recognizer.proofs.Turning.{going_first, going_on, going_off, going_end}
 use Rattle.recognizer.proofs.within.run_within.Goals as goal
 
 pub loop-taken-init : goal.loop-taken-init

@@ -2,7 +2,6 @@
 use mathlib.Core.Path.{sym, subst}
 use native.Mathlib.Omega.{arith}
 use lib.Seq.{length-take-le}
-use borrow.Author.Rules.{rules}
 use Rattle.parse.specs.Words.{Words, words_of}
 use Rattle.demands.specs.Steps.{stepped}
 use Rattle.recognizer.specs.Answers.{outcome_of}

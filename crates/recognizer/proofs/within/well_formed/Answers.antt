@@ -2,7 +2,6 @@
 use mathlib.Core.Path.{sym}
 use native.Mathlib.Omega.{arith}
 use lib.Seq.{length-take-le}
-use borrow.Author.Rules.{rules}
 use Rattle.laws.proofs.Decides.{says_no}
 use Rattle.parse.specs.Words.{words_of}
 use Rattle.recognizer.proofs.Cutting.{no_room, cut-sets, cut-units, tells-within}

@@ -1,6 +1,5 @@
 -- `reports::text::line_length` meets its contract.
 use native.Mathlib.Omega.{arith}
-use borrow.Author.Rules.{rules}
 use Rattle.reports.proofs.Lines.{line-long}
 use Rattle.reports.proofs.text.line_length.Goals as goal
 

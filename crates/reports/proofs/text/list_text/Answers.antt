@@ -1,5 +1,4 @@
 -- `reports::text::list_text` meets its contract.
-use borrow.Author.Rules.{rules}
 use Rattle.reports.proofs.Putting.{told_short, told_wrote}
 use Rattle.reports.proofs.text.list_text.Goals as goal
 

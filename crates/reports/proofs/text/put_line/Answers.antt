@@ -1,7 +1,6 @@
 -- `reports::text::put_line` meets its contract. Four numbers, each with what stands behind it.
 use native.Mathlib.Omega.{arith}
 use lib.ListN.{length-append}
-use borrow.Author.Rules.{rules}
 use Rattle.reports.proofs.Putting.{put-length}
 use Rattle.reports.proofs.Lines.{line-long, line-put}
 use Rattle.reports.proofs.text.put_line.Goals as goal

@@ -1,7 +1,4 @@
-use Prim.Native.Nat.{◌-◌}
-use borrow.Author.Rules.{rules}
-use Rattle.reports.proofs.Putting.{put-length}
-use Rattle.reports.proofs.Lines.{Putting, putting_start, putting_room, putting_next, putting_ends, listed_at}
+use Rattle.reports.proofs.Lines.{putting_start, putting_room, putting_next, putting_ends, listed_at}
 use Rattle.reports.proofs.text.put_lines.Goals as goal
 
 pub loop-p-init : goal.loop-p-init

@@ -1,8 +1,6 @@
 -- `reports::text::put_lines` meets its contract. The invariant: the lines before place `p` are put, up to `at`.
 use Prim.Native.Nat.{◌-◌}
-use borrow.Author.Rules.{rules}
-use Rattle.reports.proofs.Putting.{put-length}
-use Rattle.reports.proofs.Lines.{Putting, putting_start, putting_room, putting_next, putting_ends, listed_at}
+use Rattle.reports.proofs.Lines.{Putting}
 use Rattle.reports.proofs.text.put_lines.Given as goal
 
 abbrev pub invariant-loop-p : goal.invariant-loop-p

@@ -1,5 +1,4 @@
 -- `reports::text::put_number` meets its contract.
-use borrow.Author.Rules.{rules}
 use Rattle.reports.proofs.Putting.{put_then}
 use Rattle.reports.proofs.text.put_number.Goals as goal
 

@@ -1,5 +1,4 @@
 -- `reports::text::show` meets its contract.
-use borrow.Author.Rules.{rules}
 use Rattle.reports.proofs.Lines.{shows}
 use Rattle.reports.proofs.text.show.Goals as goal
 

@@ -1,7 +1,5 @@
-use Prim.Native.Nat.{◌-◌}
 use native.Mathlib.Omega.{arith}
-use borrow.Author.Rules.{rules}
-use Rattle.reports.proofs.Lines.{Counting, counting_start, counting_next, counting_ends, listed_at}
+use Rattle.reports.proofs.Lines.{counting_start, counting_next, counting_ends, listed_at}
 use Rattle.reports.proofs.text.text_length.Goals as goal
 
 pub loop-p-init : goal.loop-p-init

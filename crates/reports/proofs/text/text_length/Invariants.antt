@@ -1,8 +1,6 @@
 -- `reports::text::text_length` meets its contract. The invariant: the lines before place `p` are `total` bytes long.
 use Prim.Native.Nat.{◌-◌}
-use native.Mathlib.Omega.{arith}
-use borrow.Author.Rules.{rules}
-use Rattle.reports.proofs.Lines.{Counting, counting_start, counting_next, counting_ends, listed_at}
+use Rattle.reports.proofs.Lines.{Counting}
 use Rattle.reports.proofs.text.text_length.Given as goal
 
 abbrev pub invariant-loop-p : goal.invariant-loop-p

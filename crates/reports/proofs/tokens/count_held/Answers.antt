@@ -1,11 +1,8 @@
-use mathlib.Core.Path.{◌≡◌, refl, sym, ap, ◌∙◌}
-use Prim.Native.Nat.{◌-◌, ◌≤◌}
+use mathlib.Core.Path.{sym, ◌∙◌}
 use native.Mathlib.Omega.{arith}
-use borrow.Author.Rules.{rules}
-use borrow.Author.Tests.{not-true, not-false}
 use Rattle.laws.specs.Bits.{row_of}
 use Rattle.bits.specs.Width.{row_words}
-use Rattle.reports.proofs.Held.{Counted, counted-starts, counted_passes, counted-counts, counted-ends, held_many}
+use Rattle.reports.proofs.Held.{counted-starts, counted_passes, counted-counts, counted-ends, held_many}
 use Rattle.reports.proofs.tokens.count_held.Goals as goal
 
 pub loop-t-init : goal.loop-t-init

@@ -1,7 +1,5 @@
 -- `reports::tokens::list_tokens` meets its contract.
-use mathlib.Core.Path.{sym, subst}
 use native.Mathlib.Omega.{arith}
-use borrow.Author.Rules.{rules}
 use Rattle.reports.proofs.Fronts.{puts_short, puts_wrote}
 use Rattle.reports.proofs.tokens.list_tokens.Goals as goal
 

@@ -1,11 +1,8 @@
-use mathlib.Core.Path.{◌≡◌, refl, sym, ap, ◌∙◌}
-use Prim.Native.Nat.{◌-◌, ◌≤◌}
+use mathlib.Core.Path.{sym, ◌∙◌}
 use native.Mathlib.Omega.{arith}
-use borrow.Author.Rules.{rules}
-use borrow.Author.Tests.{not-true, not-false}
 use Rattle.laws.specs.Bits.{row_of}
 use Rattle.bits.specs.Width.{row_words}
-use Rattle.reports.proofs.Held.{Listing, listing-starts, listing-long, listing_passes, listing-lists, listing-ends, listing-room, held_many}
+use Rattle.reports.proofs.Held.{listing-starts, listing-long, listing_passes, listing-lists, listing-ends, listing-room, held_many}
 use Rattle.reports.proofs.tokens.write_held.Goals as goal
 
 pub loop-t-init : goal.loop-t-init

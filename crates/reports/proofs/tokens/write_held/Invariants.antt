@@ -1,12 +1,8 @@
 -- `reports::tokens::write_held` meets its contract. The invariant: the symbols below `t` stand in front.
-use mathlib.Core.Path.{◌≡◌, refl, sym, ap, ◌∙◌}
-use Prim.Native.Nat.{◌-◌, ◌≤◌}
-use native.Mathlib.Omega.{arith}
-use borrow.Author.Rules.{rules}
-use borrow.Author.Tests.{not-true, not-false}
+use Prim.Native.Nat.{◌-◌}
 use Rattle.laws.specs.Bits.{row_of}
 use Rattle.bits.specs.Width.{row_words}
-use Rattle.reports.proofs.Held.{Listing, listing-starts, listing-long, listing_passes, listing-lists, listing-ends, listing-room, held_many}
+use Rattle.reports.proofs.Held.{Listing}
 use Rattle.reports.proofs.tokens.write_held.Given as goal
 
 abbrev pub invariant-loop-t : goal.invariant-loop-t

@@ -1,7 +1,6 @@
 -- `reports::words::list_words` meets its contract.
-use mathlib.Core.Path.{sym, ap, ◌∙◌}
+use mathlib.Core.Path.{sym}
 use native.Mathlib.Omega.{arith}
-use borrow.Author.Rules.{rules}
 use Rattle.grammar.specs.inner.Decoded.{rules_in}
 use Rattle.reports.proofs.Fronts.{puts_short, puts_wrote}
 use Rattle.reports.proofs.Latest.{words_long, words_fill}

@@ -2,7 +2,6 @@
 use native.Mathlib.Omega.{arith}
 use lib.ListN.{length-set}
 use Rattle.reports.proofs.Latest.{five-stored}
-use borrow.Author.Rules.{rules}
 use Rattle.reports.proofs.words.put_five.Goals as goal
 
 pub bounds-out-at-2 : goal.bounds-out-at-2

@@ -2,7 +2,6 @@
 use mathlib.Core.Path.{ap, ◌∙◌}
 use Rattle.reports.specs.inner.Puts.{written}
 use Rattle.reports.proofs.Latest.{five_are}
-use borrow.Author.Rules.{rules}
 use Rattle.reports.proofs.words.put_item.Goals as goal
 
 pub returns : goal.returns

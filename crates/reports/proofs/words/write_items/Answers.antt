@@ -1,11 +1,5 @@
-use mathlib.Core.Path.{◌≡◌, refl, sym, ap, ◌∙◌}
-use mathlib.Core.List.{◌++◌}
-use Prim.Native.Nat.{◌-◌, ◌*◌, ◌≤◌}
 use native.Mathlib.Omega.{arith}
-use lib.ListN.{length, length-append, length-drop}
-use borrow.Author.Rules.{rules}
-use Rattle.grammar.specs.inner.Decoded.{rules_in}
-use Rattle.reports.proofs.Latest.{Writing, writing_starts, writing_long, writing_next, writing_ends, place-there}
+use Rattle.reports.proofs.Latest.{writing_starts, writing_long, writing_next, writing_ends, place-there}
 use Rattle.reports.proofs.words.write_items.Goals as goal
 
 pub loop-p-init : goal.loop-p-init

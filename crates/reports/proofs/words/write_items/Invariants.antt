@@ -1,12 +1,7 @@
 -- `reports::words::write_items` meets its contract. The invariant: the items before `p` stand in front.
-use mathlib.Core.Path.{◌≡◌, refl, sym, ap, ◌∙◌}
-use mathlib.Core.List.{◌++◌}
-use Prim.Native.Nat.{◌-◌, ◌*◌, ◌≤◌}
-use native.Mathlib.Omega.{arith}
-use lib.ListN.{length, length-append, length-drop}
-use borrow.Author.Rules.{rules}
+use Prim.Native.Nat.{◌-◌}
 use Rattle.grammar.specs.inner.Decoded.{rules_in}
-use Rattle.reports.proofs.Latest.{Writing, writing_starts, writing_long, writing_next, writing_ends, place-there}
+use Rattle.reports.proofs.Latest.{Writing}
 use Rattle.reports.proofs.words.write_items.Given as goal
 
 abbrev pub invariant-loop-p : goal.invariant-loop-p
