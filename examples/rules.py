@@ -118,7 +118,7 @@ def make(text):
     read = Text(text)
     written = read.written().bytes()
     if not PROGRAM.is_file():
-        raise Wrong("the program is not built: rt check translate")
+        raise Wrong("the program is not built: oracle/program translate")
     ran = subprocess.run([PROGRAM], input=written, capture_output=True, check=True)
     kind, said = ran.stderr.decode().split()
     if kind == "written":

@@ -1,6 +1,6 @@
 /* Brinesaddle: the rule reader of the load balancer, for hosts in C.
  *
- * Link target/staticlib/libhost.a (`rt staticlib host`, x86-64 Linux). Nothing is allocated and nothing is kept between calls: a parse
+ * Link target/staticlib/libhost.a (`oracle/archive`, x86-64 Linux). Nothing is allocated and nothing is kept between calls: a parse
  * is three words of the host, the set number, the item count and the number of used units, and five slices that the host lends.
  *
  * Slices. A slice is a pointer and a number of elements. The pointer is not null, even of an empty slice, and is aligned for its

@@ -12,7 +12,6 @@ import model
 from plain_engine import input_of
 
 ROOT = pathlib.Path(__file__).resolve().parent.parent
-BUILDS = ["at -O0", "at -O3", "with LLVM's assumptions checked"]
 
 # What is wrong; the file, the line and what it becomes; the grammar, the tokens, and what is written.
 EDITS = [
@@ -23,19 +22,16 @@ EDITS = [
 ]
 
 
-def built(tree, edit, data, wanted):
-    """What `rt try` says of the copy with an edit."""
+def run(tree, edit, data):
+    """What the copy with an edit writes, built with checks and no proof, and what `rt try` says of the run."""
     name, old, new = edit
     path = tree / "crates" / name
     text = path.read_text()
     assert text.count(old + "\n") == 1, f"{name} has another number of lines {old!r} than one"
     path.write_text(text.replace(old + "\n", new + "\n"))
-    program = tree / "crates" / "compare"
-    (program / "stdin").write_bytes(data)
-    (program / "stdout").write_bytes(wanted)
-    done = subprocess.run(["rt", "try", "compare"], cwd=tree, capture_output=True, text=True)
+    done = subprocess.run(["rt", "try"], cwd=tree / "crates" / "compare", input=data, capture_output=True)
     path.write_text(text)
-    return done.stdout + done.stderr
+    return done.stdout.decode(), done.stderr.decode()
 
 
 def main():
@@ -45,10 +41,9 @@ def main():
         for source in sorted((ROOT / "crates").glob("*/src")):
             shutil.copytree(source, tree / "crates" / source.parent.name / "src")
         for what, file, old, new, grammar, tokens, lines in EDITS:
-            said = built(tree, (file, old, new), input_of(grammar, tokens), "".join(line + "\n" for line in lines).encode())
-            missing = [build for build in BUILDS if f"ok: the native program {build} ended and wrote what is expected" not in said]
-            if missing:
-                sys.exit(f"{what}: not found {', '.join(missing)}\n{said}")
+            written, said = run(tree, (file, old, new), input_of(grammar, tokens))
+            if not written.startswith("".join(line + "\n" for line in lines)) or "run=ended status=0" not in written + said:
+                sys.exit(f"{what}: not found\n{written}{said}")
             print(f"{what}: {', '.join(lines)}")
 
 

@@ -18,7 +18,7 @@
 //! ```
 //!
 //! The build script looks for `libhost.a` in the folder that the environment variable BRINESADDLE_LIB_DIR names, and without one in the
-//! repository's target/staticlib, where `rt staticlib host` writes it.
+//! repository's target/staticlib, where `oracle/archive` writes it.
 
 mod plain;
 mod raw;
