@@ -16,23 +16,24 @@ ghost use Rattle.compare.specs.Writes.{token_bytes, ComparesBytes, Answered, Rea
 use beginnings::compare;
 use engines::TOKENS;
 use grammar::Checked;
-use libc::{STDERR_FILENO, STDIN_FILENO, STDOUT_FILENO};
 use programs::header::{Header, LONGEST, judged, read_grammar};
 use programs::text::{ROOM, refusal};
 use programs::tokens::decode;
+use reading::read_full;
+use std::io::Read;
 
 // One byte more than the most tokens have, so that more are seen.
 const BYTES: usize = 2 * TOKENS + 1;
 
 // Reads the tokens behind a grammar whose header is not refused; answers how many bytes came.
-fn read_tokens(bytes: &[u8], rest: &mut [u8]) -> usize
+fn read_tokens<R: Read>(from: &mut R, bytes: &[u8], rest: &mut [u8]) -> usize
     ensures place { IsPrefixLen result rest.new }
     ensures far { ReadBehind bytes.now result }
 {
     match judged(bytes) {
         Header::Malformed => 0,
         Header::Broken => 0,
-        Header::Length(_) => io::read_full(STDIN_FILENO, rest),
+        Header::Length(_) => read_full(from, rest),
     }
 }
 
@@ -78,14 +79,15 @@ fn answer(bytes: &[u8], rest: &[u8], out: &mut [u8]) -> usize
     }
 }
 
-fn main() {
+fn main(rt: HostRuntime) {
+    let mut from = rt.reader();
     let mut file = [0u8; LONGEST];
-    let came = read_grammar(&mut file);
+    let came = read_grammar(&mut from, &mut file);
     let mut rest = [0u8; BYTES];
-    let more = read_tokens(&file[..came], &mut rest);
+    let more = read_tokens(&mut from, &file[..came], &mut rest);
     let mut out = [0u8; ROOM];
     let count = answer(&file[..came], &rest[..more], &mut out);
-    if !io::write_all(STDOUT_FILENO, &out[..count]) {
-        io::write_all(STDERR_FILENO, b"compare: the output could not be written\n");
+    if rt.write_all(&out[..count]).is_err() {
+        let _ = rt.eprintln("compare: the output could not be written");
     }
 }

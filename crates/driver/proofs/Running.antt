@@ -98,11 +98,11 @@ ready_whole {s = s} {w = w} {g = g} {table = table} bytes ready =
     let accepted = ready.sound.checked.accepted in
     ran-whole g table s (within w) bytes (omega (arith, accepted.room, accepted.few_symbols))
 
-pub runs-whole : {file : List ℕ} {s : State} {w : Words} {e : Ended} (bytes : List ℕ) → Runs file s w (plain (tokens_of bytes)) e → 2 * e.taken ≤ length bytes
+pub runs-whole : (bytes : List ℕ) {file : List ℕ} {s : State} {w : Words} {e : Ended} → Runs file s w (plain (tokens_of bytes)) e → 2 * e.taken ≤ length bytes
 runs-whole bytes (refused fault) = omega arith
 runs-whole bytes (done ready) = (ready_whole bytes ready).few
 
-pub runs_lone : {file : List ℕ} {s : State} {w : Words} {e : Ended} (bytes : List ℕ) → ((n : ℕ) → CallFault file s w n → ⊥) → Runs file s w (plain (tokens_of bytes)) e
+pub runs_lone : (bytes : List ℕ) {file : List ℕ} {s : State} {w : Words} {e : Ended} → ((n : ℕ) → CallFault file s w n → ⊥) → Runs file s w (plain (tokens_of bytes)) e
     → length bytes ≡ 2 * e.taken + 1 → e.outcome.number ≡ no_token
 runs_lone bytes faultless (refused fault) lone = absurd (faultless _ fault)
 runs_lone bytes faultless (done ready) lone = (ready_whole bytes ready).five lone

@@ -10,12 +10,12 @@ ghost use Rattle.parse.specs.Words.{words_of};
 ghost use Rattle.programs.specs.Text.{text_room};
 ghost use Rattle.driver.specs.Writes.{SaysFinished, Followed, Recognized, Answered, Written};
 
-use libc::{STDERR_FILENO, STDOUT_FILENO};
 use parse::State;
 use programs::header::{Header, LONGEST, judged, read_grammar};
 use programs::text::{ROOM, refusal};
 use programs::wide;
 use recognizer::{Answer, Whether, number_of, refusal_number, state_of};
+use std::io::Read;
 use tokens::read_tokens;
 
 // The sets that are lent.
@@ -53,7 +53,8 @@ fn is_finished(
 }
 
 // Reads the tokens of a parse and writes the lines on what came of them; answers how long they are.
-fn follow(
+fn follow<R: Read>(
+    from: &mut R,
     file: &[u8],
     state: State,
     items: &mut [u32],
@@ -69,7 +70,7 @@ fn follow(
         (words_of items.old starts.old rows.old queue.old store.old)
         (take result out.new) }
 {
-    let ran = read_tokens(file, state, items, starts, rows, queue, store);
+    let ran = read_tokens(from, file, state, items, starts, rows, queue, store);
     let answer = ran.answer;
     let end = state_of(answer);
     let yes = is_finished(file, end, items, starts, rows, queue, store);
@@ -77,7 +78,8 @@ fn follow(
 }
 
 // Starts a parse and follows it; answers how long the lines are.
-fn recognize(
+fn recognize<R: Read>(
+    from: &mut R,
     file: &[u8],
     items: &mut [u32],
     starts: &mut [u32],
@@ -98,13 +100,13 @@ fn recognize(
         used: 0,
     };
     match recognizer::start(file, fresh, items, starts, rows, queue, store) {
-        Answer::Done(state) => follow(file, state, items, starts, rows, queue, store, out),
+        Answer::Done(state) => follow(from, file, state, items, starts, rows, queue, store, out),
         Answer::Refused(why, _) => refusal(out, wide(refusal_number(why))),
     }
 }
 
 // The same with the words that are lent.
-fn recognize_whole(file: &[u8], out: &mut [u8]) -> usize
+fn recognize_whole<R: Read>(from: &mut R, file: &[u8], out: &mut [u8]) -> usize
     requires { text_room ≤ length_of out.old }
     ensures place { IsPrefixLen result out.new }
     ensures text { Answered file.now (take result out.new) }
@@ -115,6 +117,7 @@ fn recognize_whole(file: &[u8], out: &mut [u8]) -> usize
     let mut queue = [0u32; QUEUE];
     let mut store = [0u16; STORE];
     recognize(
+        from,
         file,
         &mut items,
         &mut starts,
@@ -126,7 +129,7 @@ fn recognize_whole(file: &[u8], out: &mut [u8]) -> usize
 }
 
 // Writes what comes of the grammar in the bytes that came, and of the tokens behind it; answers how long that is.
-fn answer(bytes: &[u8], out: &mut [u8]) -> usize
+fn answer<R: Read>(from: &mut R, bytes: &[u8], out: &mut [u8]) -> usize
     requires { text_room ≤ length_of out.old }
     ensures place { IsPrefixLen result out.new }
     ensures text { Written bytes.now (take result out.new) }
@@ -134,16 +137,17 @@ fn answer(bytes: &[u8], out: &mut [u8]) -> usize
     match judged(bytes) {
         Header::Malformed => refusal(out, 1),
         Header::Broken => refusal(out, 2),
-        Header::Length(length) => recognize_whole(&bytes[..length], out),
+        Header::Length(length) => recognize_whole(from, &bytes[..length], out),
     }
 }
 
-fn main() {
+fn main(rt: HostRuntime) {
+    let mut from = rt.reader();
     let mut file = [0u8; LONGEST];
-    let came = read_grammar(&mut file);
+    let came = read_grammar(&mut from, &mut file);
     let mut out = [0u8; ROOM];
-    let count = answer(&file[..came], &mut out);
-    if !io::write_all(STDOUT_FILENO, &out[..count]) {
-        io::write_all(STDERR_FILENO, b"driver: the output could not be written\n");
+    let count = answer(&mut from, &file[..came], &mut out);
+    if rt.write_all(&out[..count]).is_err() {
+        let _ = rt.eprintln("driver: the output could not be written");
     }
 }

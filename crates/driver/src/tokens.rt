@@ -8,10 +8,11 @@ ghost use Rattle.demands.specs.Calls.{Runs};
 ghost use Rattle.recognizer.specs.Answers.{ended_of};
 ghost use Rattle.parse.specs.Words.{words_of};
 
-use libc::STDIN_FILENO;
 use parse::State;
 use programs::tokens::decode;
+use reading::read_full;
 use recognizer::{Answer, Ran};
+use std::io::Read;
 
 // The tokens of a part, and its bytes. Each part costs a check of the grammar, so it is large.
 const PART: usize = 32768;
@@ -58,7 +59,8 @@ fn is_last(count: usize) -> bool
 }
 
 // Reads and runs one part.
-fn read_part(
+fn read_part<R: Read>(
+    from: &mut R,
     file: &[u8],
     state: State,
     items: &mut [u32],
@@ -73,7 +75,7 @@ fn read_part(
     ensures few { result.taken ≤ part_tokens }
 {
     let mut part = [0u8; BYTES];
-    let count = io::read_full(STDIN_FILENO, &mut part);
+    let count = read_full(from, &mut part);
     run_part(
         file,
         state,
@@ -88,7 +90,8 @@ fn read_part(
 
 // Reads and runs what is left of the input, up to the first token that is refused. The count of parts falls from a number that no
 // input uses up, so that the loop ends and the count of tokens stays a word.
-pub fn read_tokens(
+pub fn read_tokens<R: Read>(
+    from: &mut R,
     file: &[u8],
     state: State,
     items: &mut [u32],
@@ -105,7 +108,7 @@ pub fn read_tokens(
     let mut taken = 0;
     let mut parts = usize::MAX / PART;
     while parts > 0 {
-        let ran = read_part(file, now, items, starts, rows, queue, store);
+        let ran = read_part(from, file, now, items, starts, rows, queue, store);
         let more = ran.taken;
         taken += more;
         let answer = ran.answer;

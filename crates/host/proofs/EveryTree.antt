@@ -1,10 +1,10 @@
 -- The cases of count and tree in the host's words.
-use mathlib.Core.Path.{◌≡◌, refl, sym, ap, ◌∙◌}
+use mathlib.Core.Path.{◌≡◌, sym, ap, ◌∙◌}
 use mathlib.Core.List.{List}
 use Prim.Native.Nat.{ℕ}
 use Rattle.trees.specs.declared.Counted.{Counted}
 use Rattle.trees.specs.declared.Told.{Told}
-use Rattle.trees.specs.Answers.{Answer, counted, told}
+use Rattle.trees.specs.Answers.{counted, told}
 use Rattle.trees.proofs.Agree.{counts_agree, tells_agree}
 use Rattle.host.specs.Trees.{number_in, values_in, trees_or, place_or, count_in, CountsIn, TellsIn}
 

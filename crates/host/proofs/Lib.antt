@@ -6,6 +6,5 @@ pub mod Numbers
 pub mod PlainEngine
 pub mod Settled
 pub mod FromWords
-pub mod LocalWords
 pub mod Translated
 pub mod EveryTree

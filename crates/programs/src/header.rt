@@ -5,7 +5,8 @@ ghost use Rattle.programs.specs.Header.{longest_file, Says, Judged, ReadTo};
 
 use grammar::file::{HEADER, RULE, VERSION, rule_count, u32_at, wide};
 use grammar::limits::RULES;
-use libc::STDIN_FILENO;
+use reading::read_full;
+use std::io::Read;
 
 // The longest file that its header lets through.
 pub const LONGEST: usize = HEADER + RULE * RULES;
@@ -40,16 +41,16 @@ pub fn told(bytes: &[u8]) -> Header
 }
 
 // Reads the grammar: its header, and then as many bytes as that tells. Answers how many came.
-pub fn read_grammar(file: &mut [u8]) -> usize
+pub fn read_grammar<R: Read>(from: &mut R, file: &mut [u8]) -> usize
     requires { longest_file ≤ length_of file.old }
     ensures place { IsPrefixLen result file.new }
     ensures far { ReadTo (take result file.new) }
 {
-    let first = io::read_full(STDIN_FILENO, &mut file[..HEADER]);
+    let first = read_full(from, &mut file[..HEADER]);
     match told(&file[..first]) {
         Header::Malformed => first,
         Header::Broken => first,
-        Header::Length(length) => HEADER + io::read_full(STDIN_FILENO, &mut file[HEADER..length]),
+        Header::Length(length) => HEADER + read_full(from, &mut file[HEADER..length]),
     }
 }
 

@@ -17,7 +17,9 @@ pub fn put(out: &mut [u8], at: usize, bytes: &[u8]) -> usize
     ensures place { result ≡ at + length bytes.now }
     ensures text { take result out.new ≡ take at out.old ++ bytes.now }
 {
-    at + bytes::copy(bytes, &mut out[at..])
+    let end = at + bytes.len();
+    out[at..end].copy_from_slice(bytes);
+    end
 }
 
 // A number as a word of 64 bits.

@@ -11,16 +11,20 @@ use bits::{Row, WIDTH};
 use grammar::Checked;
 use grammar::file::{rule_count, symbols};
 use grammar::rules::decode;
-use libc::{STDIN_FILENO, STDOUT_FILENO};
 use prediction::{Table, table};
+use reading::read_full;
+use std::io;
+use std::io::Read;
 
-// The digits of a word.
-const DIGITS: usize = 16;
+// The longest label and the longest file that their lengths can tell, and more.
+const LABEL: usize = 4096;
+
+const FILE: usize = 65536;
 
 // Fills the first `n` bytes of `buf`; fewer where the input ends.
-fn read_part(buf: &mut [u8], n: usize) -> usize {
+fn read_part<R: Read>(from: &mut R, buf: &mut [u8], n: usize) -> usize {
     if n <= buf.len() {
-        io::read_full(STDIN_FILENO, &mut buf[..n])
+        read_full(from, &mut buf[..n])
     } else {
         0
     }
@@ -50,79 +54,81 @@ fn answer(buf: &[u8], n: usize) -> u8 {
 }
 
 // The label, where there is one, then the answer.
-fn print(label: &[u8], n: usize, number: u8) {
+fn print(rt: &impl Print, label: &[u8], n: usize, number: u8) -> io::Result<()> {
     if n == 0 {
-        io::write_all(STDOUT_FILENO, &[number]);
-        return;
+        return rt.write_all(&[number]);
     }
     if n <= label.len() {
-        io::write_all(STDOUT_FILENO, &label[..n]);
+        rt.write_all(&label[..n])?;
     }
-    io::write_all(STDOUT_FILENO, &[b' ', number, b'\n']);
+    rt.write_all(&[b' ', number, b'\n'])
 }
 
-// The words of a row, parted by blanks.
-fn print_row(row: Row) {
-    io::print_hex(STDOUT_FILENO, row[0], DIGITS);
+// The words of a row, sixteen digits each, parted by blanks.
+fn print_row(rt: &impl Print, row: Row) -> io::Result<()> {
+    print!(rt; "{:016x}", row[0])?;
     for i in 1..WIDTH {
-        io::write_all(STDOUT_FILENO, &[b' ']);
-        io::print_hex(STDOUT_FILENO, row[i], DIGITS);
+        print!(rt; " {:016x}", row[i])?;
     }
-    io::write_all(STDOUT_FILENO, &[b'\n']);
+    println!(rt)
 }
 
 // The first `n` rows.
-fn print_rows(table: &Table, n: usize)
+fn print_rows(rt: &impl Print, table: &Table, n: usize) -> io::Result<()>
     requires { n ≤ max_symbols }
 {
     for x in 0..n {
         let row = table[x];
-        print_row(row);
+        print_row(rt, row)?;
     }
+    Ok(())
 }
 
 // The table of a file that is accepted; nothing of any other.
-fn show(file: &[u8]) {
+fn show(rt: &impl Print, file: &[u8]) -> io::Result<()> {
     let Checked::Accepted = grammar::check(file) else {
-        return;
+        return Ok(());
     };
     let n = symbols(file);
     let count = rule_count(file);
     let rules = decode(file);
     let made = table(&rules, n, count);
-    print_rows(&made, n);
+    print_rows(rt, &made, n)
 }
 
 // The table of the first `n` bytes of `buf`.
-fn show_part(buf: &[u8], n: usize) {
+fn show_part(rt: &impl Print, buf: &[u8], n: usize) -> io::Result<()> {
     if n <= buf.len() {
-        show(&buf[..n]);
+        return show(rt, &buf[..n]);
     }
+    Ok(())
 }
 
 // One record; whether there was one.
-fn replay() -> bool {
+fn replay<R: Read>(rt: &impl Print, from: &mut R) -> io::Result<bool> {
     let mut head = [0u8; 3];
-    if io::read_full(STDIN_FILENO, &mut head) < 3 {
-        return false;
+    if read_full(from, &mut head) < 3 {
+        return Ok(false);
     }
     let named = wide(head[0]);
     let long = wide(head[1]) * 256 + wide(head[2]);
-    let mut label = io::buffer();
-    let mut file = io::large_buffer();
-    read_part(&mut label, named);
-    read_part(&mut file, long);
-    print(&label, named, answer(&file, long));
+    let mut label = [0u8; LABEL];
+    let mut file = [0u8; FILE];
+    read_part(from, &mut label, named);
+    read_part(from, &mut file, long);
+    print(rt, &label, named, answer(&file, long))?;
     if named > 0 {
-        show_part(&file, long);
+        show_part(rt, &file, long)?;
     }
-    true
+    Ok(true)
 }
 
-fn main() {
-    let mut turns = u64::MAX;
-    while turns > 0 && replay() {
-        turns -= 1;
+fn main(rt: HostRuntime) -> io::Result<()> {
+    let mut reader = rt.reader();
+    for _ in 0..u64::MAX {
+        if !replay(&rt, &mut reader)? {
+            break;
+        }
     }
-    io::write_all(STDOUT_FILENO, b"\n");
+    println!(rt)
 }

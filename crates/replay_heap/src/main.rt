@@ -10,7 +10,8 @@ ghost use Rattle.binary_heap.specs.Queue.{Places};
 use binary_heap::entry::ENTRY_WORDS;
 use binary_heap::{Popped, Pushed};
 use item::ITEM_WORDS;
-use libc::STDOUT_FILENO;
+use reading::read_full;
+use std::io;
 use std::num::wrapping_add_u64;
 
 // The text, the words of a record's items, and those of its queue at most: 1,024 items and as many entries.
@@ -31,9 +32,9 @@ struct Replay {
     different: u64,
 }
 
-fn main() {
+fn main(rt: HostRuntime) -> io::Result<()> {
     let mut text = [0u8; TEXT];
-    let length = io::read_full(0, &mut text);
+    let length = read_full(&mut rt.reader(), &mut text);
     let mut items = [0u32; ITEMS];
     let mut queue = [0u32; QUEUE];
     let records = numbers::read(&text[..length], 0);
@@ -44,17 +45,15 @@ fn main() {
         records.next,
         records.value,
     );
-    tell(b"records ", records.value);
-    tell(b"pops ", end.pops);
-    tell(b"different ", end.different);
-    tell(b"uncleared ", uncleared(&queue));
+    tell(&rt, "records", records.value)?;
+    tell(&rt, "pops", end.pops)?;
+    tell(&rt, "different", end.different)?;
+    tell(&rt, "uncleared", uncleared(&queue))
 }
 
 // Writes a line: a word and a number.
-fn tell(word: &[u8], number: u64) {
-    io::write_all(STDOUT_FILENO, word);
-    io::print_decimal(STDOUT_FILENO, number);
-    io::write_all(STDOUT_FILENO, b"\n");
+fn tell(rt: &impl Print, word: &str, number: u64) -> io::Result<()> {
+    println!(rt; "{word} {number}")
 }
 
 // Replays records one after the other, from a place of the text on. A record begins with an empty queue.

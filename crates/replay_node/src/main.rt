@@ -14,8 +14,10 @@
 
 mod words;
 
-use libc::{STDIN_FILENO, STDOUT_FILENO};
 use node::{Found, Node, Right, Walked, Written};
+use reading::read_full;
+use std::io;
+use std::io::Read;
 use words::{LINE, put_word, word};
 
 // The largest store, past the units that are usable.
@@ -24,7 +26,17 @@ const UNITS: usize = 40000;
 // The most requests that are answered.
 const REQUESTS: u32 = 4_000_000;
 
-fn tell(a: u32, b: u32, c: u32, d: u32, e: u32, f: u32, g: u32, h: u32) {
+fn tell(
+    rt: &impl Print,
+    a: u32,
+    b: u32,
+    c: u32,
+    d: u32,
+    e: u32,
+    f: u32,
+    g: u32,
+    h: u32,
+) -> io::Result<()> {
     let mut line = [b' '; LINE];
     put_word(&mut line, 0, a);
     put_word(&mut line, 1, b);
@@ -35,16 +47,16 @@ fn tell(a: u32, b: u32, c: u32, d: u32, e: u32, f: u32, g: u32, h: u32) {
     put_word(&mut line, 6, g);
     put_word(&mut line, 7, h);
     line[71] = b'\n';
-    write_line(&line);
+    write_line(rt, &line)
 }
 
-fn write_line(line: &[u8; LINE]) {
-    io::write_all(STDOUT_FILENO, line);
+fn write_line(rt: &impl Print, line: &[u8; LINE]) -> io::Result<()> {
+    rt.write_all(line)
 }
 
 // A line of input, and whether there was a whole one.
-fn read_line(line: &mut [u8; LINE]) -> bool {
-    io::read_full(STDIN_FILENO, line) == LINE
+fn read_line<R: Read>(from: &mut R, line: &mut [u8; LINE]) -> bool {
+    read_full(from, line) == LINE
 }
 
 fn low(x: usize) -> u32 {
@@ -87,46 +99,57 @@ fn node_of(kind: u32, first: u32, second: u32, right: Right) -> Node {
     Node::Evaluated { symbol: first }
 }
 
-fn tell_written(answer: Written) {
+fn tell_written(rt: &impl Print, answer: Written) -> io::Result<()> {
     match answer {
-        Written::Behind(q) => tell(0, low(q), high(q), 0, 0, 0, 0, 0),
-        Written::Unfit(p) => tell(10, low(p), high(p), 0, 0, 0, 0, 0),
-        Written::NoRoom(p) => tell(11, low(p), high(p), 0, 0, 0, 0, 0),
+        Written::Behind(q) => tell(rt, 0, low(q), high(q), 0, 0, 0, 0, 0),
+        Written::Unfit(p) => tell(rt, 10, low(p), high(p), 0, 0, 0, 0, 0),
+        Written::NoRoom(p) => tell(rt, 11, low(p), high(p), 0, 0, 0, 0, 0),
     }
 }
 
-fn tell_product(action: u32, left: u32, right: Right, q: usize) {
+fn tell_product(rt: &impl Print, action: u32, left: u32, right: Right, q: usize) -> io::Result<()> {
     match right {
-        Right::At(factor) => tell(0, 1, action, left, 1, factor, low(q), high(q)),
-        Right::Nothing => tell(0, 1, action, left, 0, 0, low(q), high(q)),
+        Right::At(factor) => tell(rt, 0, 1, action, left, 1, factor, low(q), high(q)),
+        Right::Nothing => tell(rt, 0, 1, action, left, 0, 0, low(q), high(q)),
     }
 }
 
-fn tell_node(node: Node, q: usize) {
+fn tell_node(rt: &impl Print, node: Node, q: usize) -> io::Result<()> {
     match node {
-        Node::Sum { count, nonterminal } => tell(0, 0, count, nonterminal, 0, 0, low(q), high(q)),
+        Node::Sum { count, nonterminal } => tell(
+            rt,
+            0,
+            0,
+            count,
+            nonterminal,
+            0,
+            0,
+            low(q),
+            high(q),
+        ),
         Node::Product {
             action,
             left,
             right,
-        } => tell_product(action, left, right, q),
-        Node::NullingLeaf { symbol } => tell(0, 2, symbol, 0, 0, 0, low(q), high(q)),
-        Node::Evaluated { symbol } => tell(0, 3, symbol, 0, 0, 0, low(q), high(q)),
+        } => tell_product(rt, action, left, right, q),
+        Node::NullingLeaf { symbol } => tell(rt, 0, 2, symbol, 0, 0, 0, low(q), high(q)),
+        Node::Evaluated { symbol } => tell(rt, 0, 3, symbol, 0, 0, 0, low(q), high(q)),
     }
 }
 
-fn tell_found(answer: Found) {
+fn tell_found(rt: &impl Print, answer: Found) -> io::Result<()> {
     match answer {
-        Found::Whole(node, q) => tell_node(node, q),
-        Found::End => tell(0, 4, 0, 0, 0, 0, 0, 0),
-        Found::NoNode(unit) => tell(12, 5, 0, 0, 0, 0, low(unit), high(unit)),
+        Found::Whole(node, q) => tell_node(rt, node, q),
+        Found::End => tell(rt, 0, 4, 0, 0, 0, 0, 0, 0),
+        Found::NoNode(unit) => tell(rt, 12, 5, 0, 0, 0, 0, low(unit), high(unit)),
     }
 }
 
-fn tell_walked(answer: Walked) {
+fn tell_walked(rt: &impl Print, answer: Walked) -> io::Result<()> {
     match answer {
-        Walked::ToEnd(count, q) => tell(0, low(count), low(q), high(q), 0, 0, 0, 0),
+        Walked::ToEnd(count, q) => tell(rt, 0, low(count), low(q), high(q), 0, 0, 0, 0),
         Walked::ToFault(count, q, unit) => tell(
+            rt,
             12,
             low(count),
             low(q),
@@ -151,9 +174,10 @@ fn wide(u: u16) -> u32 {
     u as u32
 }
 
-fn show(store: &[u16], a: u32) {
+fn show(rt: &impl Print, store: &[u16], a: u32) -> io::Result<()> {
     let i = a as usize;
     tell(
+        rt,
         unit(store, i),
         unit(store, i + 1),
         unit(store, i + 2),
@@ -162,7 +186,7 @@ fn show(store: &[u16], a: u32) {
         unit(store, i + 5),
         unit(store, i + 6),
         0,
-    );
+    )
 }
 
 fn fill(store: &mut [u16], from: usize, to: usize, u: u16) {
@@ -176,7 +200,7 @@ fn fill(store: &mut [u16], from: usize, to: usize, u: u16) {
     }
 }
 
-fn ask(store: &mut [u16], line: &[u8; LINE]) {
+fn ask(rt: &impl Print, store: &mut [u16], line: &[u8; LINE]) -> io::Result<()> {
     let what = word(line, 0);
     let first = word(line, 1);
     let p = position(first, word(line, 2));
@@ -187,49 +211,59 @@ fn ask(store: &mut [u16], line: &[u8; LINE]) {
             word(line, 2) as usize,
             (word(line, 3) % 65536) as u16,
         );
+        Ok(())
     } else if what == 2 {
         let right = right_of(word(line, 6), word(line, 7));
-        tell_written(node::write(
-            store,
-            p,
-            node_of(word(line, 3), word(line, 4), word(line, 5), right),
-        ));
+        tell_written(
+            rt,
+            node::write(
+                store,
+                p,
+                node_of(word(line, 3), word(line, 4), word(line, 5), right),
+            ),
+        )
     } else if what == 3 {
-        tell_found(node::read(store, p));
+        tell_found(rt, node::read(store, p))
     } else if what == 4 {
-        tell_walked(node::walk(store, p));
+        tell_walked(rt, node::walk(store, p))
     } else {
-        show(store, first);
+        show(rt, store, first)
     }
 }
 
 // Answers one request, and how many units the store has from then on.
-fn request(store: &mut [u16], count: usize, line: &[u8; LINE]) -> usize {
+fn request(
+    rt: &impl Print,
+    store: &mut [u16],
+    count: usize,
+    line: &[u8; LINE],
+) -> io::Result<usize> {
     if store.len() < count {
-        return store.len();
+        return Ok(store.len());
     }
     if word(line, 0) == 0 {
-        return word(line, 1) as usize;
+        return Ok(word(line, 1) as usize);
     }
-    ask(&mut store[..count], line);
-    count
+    ask(rt, &mut store[..count], line)?;
+    Ok(count)
 }
 
-fn serve(store: &mut [u16]) {
+fn serve<R: Read>(rt: &impl Print, from: &mut R, store: &mut [u16]) -> io::Result<()> {
     let mut count: usize = 0;
     let mut left = REQUESTS;
     while left > 0 {
         left -= 1;
         let mut line = [0u8; LINE];
-        if read_line(&mut line) {
-            count = request(store, count, &line);
+        if read_line(from, &mut line) {
+            count = request(rt, store, count, &line)?;
         } else {
-            return;
+            return Ok(());
         }
     }
+    Ok(())
 }
 
-fn main() {
+fn main(rt: HostRuntime) -> io::Result<()> {
     let mut store = [0u16; UNITS];
-    serve(&mut store);
+    serve(&rt, &mut rt.reader(), &mut store)
 }

@@ -7,7 +7,7 @@ ghost use Rattle.translate.specs.Lines.{line_room, empty_line, line_of, file_of,
 
 use grammar::file::{HEADER, RULE};
 use grammar::limits::RULES;
-use libc::{STDERR_FILENO, STDIN_FILENO, STDOUT_FILENO};
+use reading::read_full;
 use translation::{Translated, form};
 
 // One byte more than a written grammar can have, so that a longer input is seen to be none.
@@ -32,7 +32,9 @@ fn put(out: &mut [u8], text: &[u8]) -> usize
     ensures place { IsPrefixLen result out.new }
     ensures text { take result out.new ≡ text.now }
 {
-    bytes::copy(text, out)
+    let end = text.len();
+    out[..end].copy_from_slice(text);
+    end
 }
 
 // Whether the empty sentence was there.
@@ -94,19 +96,16 @@ fn answer(written: &[u8], file: &mut [u8], line: &mut [u8]) -> Lengths
     }
 }
 
-fn main() {
+fn main(rt: HostRuntime) {
     let mut written = [0u8; INPUT];
-    let came = io::read_full(STDIN_FILENO, &mut written);
+    let came = read_full(&mut rt.reader(), &mut written);
     let mut file = [0u8; LONGEST];
     let mut line = [0u8; ROOM];
     let told = answer(&written[..came], &mut file, &mut line);
     let length = told.file;
     let said = told.line;
-    if !io::write_all(STDOUT_FILENO, &file[..length]) {
-        io::write_all(
-            STDERR_FILENO,
-            b"translate: the output could not be written\n",
-        );
+    if rt.write_all(&file[..length]).is_err() {
+        let _ = rt.eprintln("translate: the output could not be written");
     }
-    io::write_all(STDERR_FILENO, &line[..said]);
+    let _ = rt.stderr().write_all(&line[..said]);
 }

@@ -1,0 +1,25 @@
+// Reads a stream into lent bytes, for the programs.
+#![tactic(auto)]
+
+ghost use Rattle.std.specs.Prelude.{take};
+ghost use Rattle.std.specs.Io.KnownBytes.{Consumes};
+ghost use Rattle.io.specs.Counts.{IsPrefixLen};
+
+use std::io::Read;
+
+// Reads until `buf` is full, the input ends or a read fails; answers how many bytes it put at the front of `buf`. A read that fails, also
+// one that a signal interrupts, ends the input.
+pub fn read_full<R: Read>(from: &mut R, buf: &mut [u8]) -> usize
+    ensures place { IsPrefixLen result buf.new }
+    ensures bytes { Consumes (R.remaining from.old) (R.remaining from.new) (take result buf.new) }
+{
+    let mut done = 0;
+    while done < buf.len() {
+        match from.read(&mut buf[done..]) {
+            Ok(0) => break,
+            Ok(n) => done += n,
+            Err(_) => break,
+        }
+    }
+    done
+}
