@@ -17,9 +17,9 @@ use beginnings::compare;
 use engines::TOKENS;
 use grammar::Checked;
 use programs::header::{Header, LONGEST, judged, read_grammar};
+use programs::reading::read_full;
 use programs::text::{ROOM, refusal};
 use programs::tokens::decode;
-use reading::read_full;
 use std::io::Read;
 
 // One byte more than the most tokens have, so that more are seen.

@@ -9,8 +9,8 @@ ghost use Rattle.recognizer.specs.Answers.{ended_of};
 ghost use Rattle.parse.specs.Words.{words_of};
 
 use parse::State;
+use programs::reading::read_full;
 use programs::tokens::decode;
-use reading::read_full;
 use recognizer::{Answer, Ran};
 use std::io::Read;
 

@@ -3,9 +3,9 @@ ghost use Rattle.std.specs.Prelude.{◌≤◌, length as length_of, take};
 ghost use Rattle.io.specs.Counts.{IsPrefixLen};
 ghost use Rattle.programs.specs.Header.{longest_file, Says, Judged, ReadTo};
 
+use crate::reading::read_full;
 use grammar::file::{HEADER, RULE, VERSION, rule_count, u32_at, wide};
 use grammar::limits::RULES;
-use reading::read_full;
 use std::io::Read;
 
 // The longest file that its header lets through.

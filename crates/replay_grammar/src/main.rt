@@ -12,7 +12,7 @@ use grammar::Checked;
 use grammar::file::{rule_count, symbols};
 use grammar::rules::decode;
 use prediction::{Table, table};
-use reading::read_full;
+use programs::reading::read_full;
 use std::io;
 use std::io::Read;
 

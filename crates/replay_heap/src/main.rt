@@ -10,7 +10,7 @@ ghost use Rattle.binary_heap.specs.Queue.{Places};
 use binary_heap::entry::ENTRY_WORDS;
 use binary_heap::{Popped, Pushed};
 use item::ITEM_WORDS;
-use reading::read_full;
+use programs::reading::read_full;
 use std::io;
 use std::num::wrapping_add_u64;
 

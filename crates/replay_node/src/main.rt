@@ -15,7 +15,7 @@
 mod words;
 
 use node::{Found, Node, Right, Walked, Written};
-use reading::read_full;
+use programs::reading::read_full;
 use std::io;
 use std::io::Read;
 use words::{LINE, put_word, word};

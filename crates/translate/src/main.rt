@@ -7,7 +7,7 @@ ghost use Rattle.translate.specs.Lines.{line_room, empty_line, line_of, file_of,
 
 use grammar::file::{HEADER, RULE};
 use grammar::limits::RULES;
-use reading::read_full;
+use programs::reading::read_full;
 use translation::{Translated, form};
 
 // One byte more than a written grammar can have, so that a longer input is seen to be none.

@@ -1,6 +1,4 @@
-// Reads a stream into lent bytes, for the programs.
-#![tactic(auto)]
-
+// A stream read into lent bytes.
 ghost use Rattle.std.specs.Prelude.{take};
 ghost use Rattle.std.specs.Io.KnownBytes.{Consumes};
 ghost use Rattle.io.specs.Counts.{IsPrefixLen};

@@ -1,7 +1,7 @@
--- `reading::read_full` is safe and ends; what it put at the front came from the reader.
+-- `programs::reading::read_full` is safe and ends; what it put at the front came from the reader.
 use Rattle.std.proofs.Common.{length, ◌-◌, take, ◌≤◌}
 use Rattle.std.specs.Io.KnownBytes.{Consumes}
-use Rattle.reading.proofs.read_full.Given as goal
+use Rattle.programs.proofs.reading.read_full.Given as goal
 
 abbrev pub invariant-loop-done : goal.invariant-loop-done
 invariant-loop-done g l = record {
