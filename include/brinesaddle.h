@@ -73,9 +73,9 @@ enum {
 /* The bytes of stack that a call needs, its arguments among them: measured on x86-64 at release (bench/stack), and rounded up. A program
  * whose symbols are bound late needs up to 4 KiB more at its first call, for the linker. */
 enum {
-    BRINESADDLE_PARSE_STACK = 151552, /* start, token, run, kinds, run_kinds */
-    BRINESADDLE_REPORT_STACK = 53248, /* check, finished, latest_set, expected, listing, latest_words */
-    BRINESADDLE_RECORDS_STACK = 135168, /* latest_records: it holds the words of a whole set */
+    BRINESADDLE_PARSE_STACK = 184320, /* start, token, run, kinds, run_kinds */
+    BRINESADDLE_REPORT_STACK = 77824, /* check, finished, latest_set, expected, listing, latest_words */
+    BRINESADDLE_RECORDS_STACK = 159744, /* latest_records: it holds the words of a whole set */
     BRINESADDLE_NODE_STACK = 512,     /* node_write, node_read, node_walk */
     BRINESADDLE_TRANSLATE_STACK = 217088 /* translate: it holds marks for every symbol that two bytes can name */
 };
@@ -301,7 +301,7 @@ enum {
     BRINESADDLE_TOO_MANY_TOKENS = 22, /* plain: more than BRINESADDLE_MAX_PLAIN_TOKENS */
     BRINESADDLE_MAX_PLAIN_TOKENS = 64,
     BRINESADDLE_MAX_TABLE_WORDS = 16640, /* always suffice; n tokens need 4 n (n + 1) */
-    BRINESADDLE_PLAIN_STACK = 53248      /* the bytes of stack, as above */
+    BRINESADDLE_PLAIN_STACK = 73728      /* the bytes of stack, as above */
 };
 
 /* Whether tokens are a sentence.
