@@ -36,9 +36,9 @@ holding_room : {g : Grammar} {a : Positions} {s : State} (w : Words) → Holding
 holding_room w h = omega (arith, h.well.set_fits, sets-room w)
 
 -- Words of the same sizes, put in the place of those within the capacities, are those within them.
-in_place : {file : List ℕ} {g : Grammar} {table : List (List ℕ)} {a : Positions} {s : State} {v : Words} (w : Words) → Sound file g table → 1 ≤ set_room w → SameSizes v (within w)
+in_place_lem : {file : List ℕ} {g : Grammar} {table : List (List ℕ)} {a : Positions} {s : State} {v : Words} (w : Words) → Sound file g table → 1 ≤ set_room w → SameSizes v (within w)
     → Holding g a s v → Lasts file s (behind v (beyond w)) a
-in_place {g = g} {table = table} {a = a} {s = s} {v = v} w sound some same h =
+in_place_lem {g = g} {table = table} {a = a} {s = s} {v = v} w sound some same h =
     record { grammar = g; table = table; sound = sound; holding = subst (Holding g a s) (sym (within_new w v some same)) h }
 
 -- A fault of the file is not 0.
@@ -61,7 +61,7 @@ lasts_start : {file : List ℕ} {s : State} {w : Words} {o : Outcome} → Starts
 lasts_start (Starts.refused fault) e = absurd (start-some fault e)
 lasts_start {w = w} (Starts.done sound some) e =
     let sets : 0 < length (within w).rows / row_words = omega (arith, sets-room w) in
-    in_place w sound (omega arith) (started_sizes sound.checked.accepted sound.predicts (within w) sets)
+    in_place_lem w sound (omega arith) (started_sizes sound.checked.accepted sound.predicts (within w) sets)
     (start-holds sound.checked.accepted sound.predicts (within w) (within-cut w some) sets)
 
 -- One that is refused changes nothing.
@@ -86,7 +86,7 @@ module _ {file : List ℕ} {s : State} {w : Words} {a : Positions} (l : Lasts fi
   lasts_accepted (Takes.refused fault) e = absurd (no_fault l fault)
   lasts_accepted {kinds} (Takes.done {g = g} {table = table} ready) e =
       ⊎_elim
-      (λ (first : Accepts g a (within w) kinds (stepped g table s (within w) kinds)). in_place w ready.sound room first.sizes first.holding)
+      (λ (first : Accepts g a (within w) kinds (stepped g table s (within w) kinds)). in_place_lem w ready.sound room first.sizes first.holding)
       (λ (r : Refuses g a s (within w) kinds (stepped g table s (within w) kinds)). absurd (refused-some r.why e))
       (lasts_judged ready.sound kinds)
 
@@ -96,7 +96,7 @@ module _ {file : List ℕ} {s : State} {w : Words} {a : Positions} (l : Lasts fi
       ⊎_elim
       (λ (first : Accepts g a (within w) kinds (stepped g table s (within w) kinds)). absurd (n first.zero))
       (λ (r : Refuses g a s (within w) kinds (stepped g table s (within w) kinds)).
-      in_place w ready.sound room (subst (λ (u : Words). SameSizes u (within w)) (sym r.words) (sizes_refl (within w)))
+      in_place_lem w ready.sound room (subst (λ (u : Words). SameSizes u (within w)) (sym r.words) (sizes_refl (within w)))
       (subst₂ (Holding g a) (sym r.state) (sym r.words) (lasts_holding l ready.sound.checked)))
       (lasts_judged ready.sound kinds)
 
@@ -104,7 +104,7 @@ module _ {file : List ℕ} {s : State} {w : Words} {a : Positions} (l : Lasts fi
   lasts_run (Runs.refused fault) = absurd (no_fault l fault)
   lasts_run {b} (Runs.done {g = g} {table = table} ready) =
       let h : RunHolds g a (within w) b (ran g table s (within w) b) = lasts_ran ready.sound b in
-      in_place w ready.sound room h.sizes h.holding
+      in_place_lem w ready.sound room h.sizes h.holding
 
 module _ {file : List ℕ} where
   -- EVERY HISTORY HOLDS.

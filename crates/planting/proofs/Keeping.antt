@@ -105,9 +105,9 @@ module _ {g : Grammar} {table : List (List ℕ)} (accepted : Accepted g) (predic
       ]
 
 -- The words past the capacities stay, and hold no node.
-in_place : {used used' : ℕ} {v : Words} (w : Words) → 1 ≤ set_room w → SameSizes v (within w)
+in_place_lem : {used used' : ℕ} {v : Words} (w : Words) → 1 ≤ set_room w → SameSizes v (within w)
     → Onward (unit_store (within w).store) used (unit_store v.store) used' → Onward (unit_store w.store) used (unit_store (behind v (beyond w)).store) used'
-in_place {used} {used'} {v} w some same adds =
+in_place_lem {used} {used'} {v} w some same adds =
     let new : Words = behind v (beyond w) in
     onward_both (same_onward w.store (within w).store used (sym (within-usable w)))
     (onward_both adds
@@ -124,14 +124,14 @@ module _ {file : List ℕ} {s : State} {w : Words} where
   takes_adds (Takes.refused fault) = adds_none s w
   takes_adds {kinds} (Takes.done ready) =
       let accepted = ready.sound.checked.accepted in
-      in_place w (some ready) (step_sizes accepted ready.well_formed (cut ready) kinds ready.sound.predicts)
+      in_place_lem w (some ready) (step_sizes accepted ready.well_formed (cut ready) kinds ready.sound.predicts)
       (step_adds accepted ready.sound.predicts ready.well_formed (cut ready) kinds)
 
   runs_adds : {b : Positions} {e : Ended} → Runs file s w b e → Adds s w e.outcome.state e.outcome.words
   runs_adds (Runs.refused fault) = adds_none s w
   runs_adds {b} (Runs.done ready) =
       let r = run_adds ready.sound.checked.accepted ready.sound.predicts b ready.well_formed (cut ready) in
-      in_place w (some ready) r.sizes r.adds
+      in_place_lem w (some ready) r.sizes r.adds
 
   refused_adds : {o : Outcome} → Starts file s w o → (o.number ≡ 0 → ⊥) → Adds s w o.state o.words
   refused_adds (Starts.refused fault) n = adds_none s w

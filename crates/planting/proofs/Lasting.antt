@@ -123,16 +123,16 @@ pub stands_wooded : {file : List ℕ} {s : State} {w : Words} {a : Positions} {g
 stands_wooded {s = s} {w = w} {a = a} l checked = subst (λ (k : Grammar). Wooded k a s (within w)) (checked_grammar l.checked checked) l.wooded
 
 -- Words of the same sizes, put in the place of those within the capacities, are those within them.
-in_place : {file : List ℕ} {g : Grammar} {a : Positions} {s : State} {v : Words} (w : Words) → Checked file g → 1 ≤ set_room w → SameSizes v (within w)
+in_place_lem : {file : List ℕ} {g : Grammar} {a : Positions} {s : State} {v : Words} (w : Words) → Checked file g → 1 ≤ set_room w → SameSizes v (within w)
     → Wooded g a s v → Stands file s (behind v (beyond w)) a
-in_place {g = g} {a = a} {s = s} {v = v} w checked some same h =
+in_place_lem {g = g} {a = a} {s = s} {v = v} w checked some same h =
     record { grammar = g; checked = checked; wooded = subst (Wooded g a s) (sym (within_new w v some same)) h }
 
 stands-start : {file : List ℕ} {s : State} {w : Words} {o : Outcome} → Starts file s w o → o.number ≡ 0 → Stands file o.state o.words []
 stands-start (Starts.refused fault) e = absurd (start-some fault e)
 stands-start {w = w} (Starts.done sound some) e =
     let sets : 0 < length (within w).rows / row_words = omega (arith, sets-room w) in
-    in_place w sound.checked (omega arith) (started_sizes sound.checked.accepted sound.predicts (within w) sets)
+    in_place_lem w sound.checked (omega arith) (started_sizes sound.checked.accepted sound.predicts (within w) sets)
     (start_wooded sound.checked.accepted sound.predicts (within w) (within-cut w some) sets)
 
 module _ {file : List ℕ} {s : State} {w : Words} {a : Positions} (h : History file s w a) (l : Stands file s w a) where
@@ -146,7 +146,7 @@ module _ {file : List ℕ} {s : State} {w : Words} {a : Positions} (h : History 
     where
       by_step : Stepped g a s (within w) kinds (stepped g table s (within w) kinds)
           → Stands file (stepped g table s (within w) kinds).state (behind (stepped g table s (within w) kinds).words (beyond w)) (a ++ (kinds ∷ []))
-      by_step (on zero sizes next) = in_place w ready.sound.checked room sizes next
+      by_step (on zero sizes next) = in_place_lem w ready.sound.checked room sizes next
       by_step (off some state words) = absurd (some e)
 
   not_accepted_on : {kinds : List ℕ} {o : Outcome} → Takes file s w kinds o → (o.number ≡ 0 → ⊥) → Stands file o.state o.words a
@@ -158,14 +158,14 @@ module _ {file : List ℕ} {s : State} {w : Words} {a : Positions} (h : History 
           → Stands file (stepped g table s (within w) kinds).state (behind (stepped g table s (within w) kinds).words (beyond w)) a
       by_step (on zero sizes next) = absurd (n zero)
       by_step (off some state words) =
-          in_place w ready.sound.checked room (subst (λ (u : Words). SameSizes u (within w)) (sym words) (sizes_refl (within w)))
+          in_place_lem w ready.sound.checked room (subst (λ (u : Words). SameSizes u (within w)) (sym words) (sizes_refl (within w)))
           (subst₂ (Wooded g a) (sym state) (sym words) (stands_wooded l ready.sound.checked))
 
   run_on : {b : Positions} {e : Ended} → Runs file s w b e → Stands file e.outcome.state e.outcome.words (a ++ take e.taken b)
   run_on (Runs.refused fault) = absurd (no_fault (lasts h) fault)
   run_on {b} (Runs.done {g = g} {table = table} ready) =
       let r = run_wooded ready.sound.checked.accepted ready.sound.predicts b (stands_wooded l ready.sound.checked) in
-      in_place w ready.sound.checked room r.sizes r.wooded
+      in_place_lem w ready.sound.checked room r.sizes r.wooded
 
   not_started_on : {o : Outcome} → Starts file s w o → (o.number ≡ 0 → ⊥) → Stands file o.state o.words a
   not_started_on (Starts.refused fault) n = l
