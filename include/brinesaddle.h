@@ -265,7 +265,7 @@ enum {
     BRINESADDLE_NO_SUCH_TREE = 24    /* tree: k is at or past the number of trees */
 };
 
-/* The bytes of stack, as above. A call has a table of its own, 352 KiB; and tree takes 176 bytes more for each level of left factors of left factors
+/* The bytes of stack, as above. A call has a table of its own, 352 KiB; and tree takes 160 bytes more for each level of left factors of left factors
  * of Products with two. A parse has four units and more to such a level, so at most 8,192 of them; another store two, but for a pair in some 500, so
  * at most 16,448. That is more than the 2 MB that a thread may have: where a store may be no parse's, tell trees on a larger stack. */
 enum {

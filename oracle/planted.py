@@ -42,7 +42,7 @@ def main():
             shutil.copytree(source, tree / "crates" / source.parent.name / "src")
         for what, file, old, new, grammar, tokens, lines in EDITS:
             written, said = run(tree, (file, old, new), input_of(grammar, tokens))
-            if not written.startswith("".join(line + "\n" for line in lines)) or "run=ended status=0" not in written + said:
+            if written != "".join(line + "\n" for line in lines) or "run=ended status=0" not in said:
                 sys.exit(f"{what}: not found\n{written}{said}")
             print(f"{what}: {', '.join(lines)}")
 
