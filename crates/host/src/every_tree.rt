@@ -60,13 +60,7 @@ fn tell_told(answer: Told, count: &mut usize, place: &mut usize) -> u32
 }
 
 // How many trees there are under a handle of a node store.
-#[unsafe(no_mangle)]
-pub extern "C" fn brinesaddle_count(
-    store: &[u16],
-    handle: usize,
-    trees: &mut u64,
-    place: &mut usize,
-) -> u32
+pub fn brinesaddle_count(store: &[u16], handle: usize, trees: &mut u64, place: &mut usize) -> u32
     ensures { CountsIn store.now handle trees.old place.old result trees.new place.new }
 {
     let answer = trees::count(store, handle);
@@ -74,8 +68,7 @@ pub extern "C" fn brinesaddle_count(
 }
 
 // The words of the k-th tree under a handle, in preorder: rule numbers, and the tokens of leaves.
-#[unsafe(no_mangle)]
-pub extern "C" fn brinesaddle_tree(
+pub fn brinesaddle_tree(
     store: &[u16],
     handle: usize,
     k: u64,

@@ -20,10 +20,10 @@ ghost use Rattle.host.specs.Reports.{FinishesIn, ReportsIn, says_in};
 ghost use Rattle.host.specs.Translating.{TranslatesIn};
 ghost use Rattle.host.specs.Nodes.{write_in, number_in, place_or, position_or, numbers_or, count_or};
 
-mod every_tree;
+pub mod every_tree;
 mod nodes;
 mod parse_words;
-mod plain_engine;
+pub mod plain_engine;
 mod records;
 mod translating;
 
@@ -37,8 +37,7 @@ use parse::State;
 use reports::Record;
 
 // Checks a grammar file.
-#[unsafe(no_mangle)]
-pub extern "C" fn brinesaddle_check(file: &[u8]) -> u32
+pub fn brinesaddle_check(file: &[u8]) -> u32
     ensures { Verdict file.now result }
 {
     match grammar::check(file) {
@@ -49,8 +48,7 @@ pub extern "C" fn brinesaddle_check(file: &[u8]) -> u32
 }
 
 // Starts a parse.
-#[unsafe(no_mangle)]
-pub extern "C" fn brinesaddle_start(
+pub fn brinesaddle_start(
     file: &[u8],
     set: &mut usize,
     held: &mut usize,
@@ -76,8 +74,7 @@ pub extern "C" fn brinesaddle_start(
 }
 
 // Reads one token. Every number is a token at this door; T and above is 5.
-#[unsafe(no_mangle)]
-pub extern "C" fn brinesaddle_token(
+pub fn brinesaddle_token(
     file: &[u8],
     set: &mut usize,
     held: &mut usize,
@@ -106,8 +103,7 @@ pub extern "C" fn brinesaddle_token(
 }
 
 // Reads tokens up to the first that is refused, and tells how many were taken.
-#[unsafe(no_mangle)]
-pub extern "C" fn brinesaddle_run(
+pub fn brinesaddle_run(
     file: &[u8],
     set: &mut usize,
     held: &mut usize,
@@ -145,8 +141,7 @@ pub extern "C" fn brinesaddle_run(
 }
 
 // Reads one position, of one kind of token or of several, strictly rising.
-#[unsafe(no_mangle)]
-pub extern "C" fn brinesaddle_kinds(
+pub fn brinesaddle_kinds(
     file: &[u8],
     set: &mut usize,
     held: &mut usize,
@@ -177,8 +172,7 @@ pub extern "C" fn brinesaddle_kinds(
 }
 
 // Reads positions up to the first that is refused, and tells how many were taken: how many kinds, then the kinds, position by position.
-#[unsafe(no_mangle)]
-pub extern "C" fn brinesaddle_run_kinds(
+pub fn brinesaddle_run_kinds(
     file: &[u8],
     set: &mut usize,
     held: &mut usize,
@@ -216,8 +210,7 @@ pub extern "C" fn brinesaddle_run_kinds(
 }
 
 // Whether the positions so far spell a sentence: 1 or 0 in `yes`, and the start symbol's node in `handle`, all ones where it is 0.
-#[unsafe(no_mangle)]
-pub extern "C" fn brinesaddle_finished(
+pub fn brinesaddle_finished(
     file: &[u8],
     set: usize,
     held: usize,
@@ -247,8 +240,7 @@ pub extern "C" fn brinesaddle_finished(
 }
 
 // Where the latest set stands among the item words: the place of its first word, and the number of its words.
-#[unsafe(no_mangle)]
-pub extern "C" fn brinesaddle_latest_set(
+pub fn brinesaddle_latest_set(
     file: &[u8],
     set: usize,
     held: usize,
@@ -279,8 +271,7 @@ pub extern "C" fn brinesaddle_latest_set(
 }
 
 // What could stand next: the ordinary tokens that the latest row holds, rising.
-#[unsafe(no_mangle)]
-pub extern "C" fn brinesaddle_expected(
+pub fn brinesaddle_expected(
     file: &[u8],
     set: usize,
     held: usize,
@@ -310,8 +301,7 @@ pub extern "C" fn brinesaddle_expected(
 }
 
 // The latest set as text, a line an item.
-#[unsafe(no_mangle)]
-pub extern "C" fn brinesaddle_listing(
+pub fn brinesaddle_listing(
     file: &[u8],
     set: usize,
     held: usize,
@@ -338,8 +328,7 @@ pub extern "C" fn brinesaddle_listing(
 }
 
 // The latest set as words, five an item: rule, left side, first, second, origin.
-#[unsafe(no_mangle)]
-pub extern "C" fn brinesaddle_latest_words(
+pub fn brinesaddle_latest_words(
     file: &[u8],
     set: usize,
     held: usize,
@@ -366,8 +355,7 @@ pub extern "C" fn brinesaddle_latest_words(
 }
 
 // The latest set as records, one an item, out of its words.
-#[unsafe(no_mangle)]
-pub extern "C" fn brinesaddle_latest_records(
+pub fn brinesaddle_latest_records(
     file: &[u8],
     set: usize,
     held: usize,
@@ -404,8 +392,7 @@ pub extern "C" fn brinesaddle_latest_records(
 }
 
 // Writes a node at p. The node is five numbers: its kind, and its values.
-#[unsafe(no_mangle)]
-pub extern "C" fn brinesaddle_node_write(
+pub fn brinesaddle_node_write(
     store: &mut [u16],
     p: usize,
     node: &[u32; 5],
@@ -440,8 +427,7 @@ pub extern "C" fn brinesaddle_node_write(
 }
 
 // Reads the first node from p on, as five numbers. At the end the kind is END.
-#[unsafe(no_mangle)]
-pub extern "C" fn brinesaddle_node_read(
+pub fn brinesaddle_node_read(
     store: &[u16],
     p: usize,
     node: &mut [u32; 5],
@@ -471,8 +457,7 @@ pub extern "C" fn brinesaddle_node_read(
 }
 
 // Reads on from p to the end or the first 12: how many nodes there were, and the position behind the last.
-#[unsafe(no_mangle)]
-pub extern "C" fn brinesaddle_node_walk(
+pub fn brinesaddle_node_walk(
     store: &[u16],
     p: usize,
     count: &mut usize,
@@ -500,8 +485,7 @@ pub extern "C" fn brinesaddle_node_walk(
 }
 
 // Translates a written grammar into a grammar file.
-#[unsafe(no_mangle)]
-pub extern "C" fn brinesaddle_translate(
+pub fn brinesaddle_translate(
     written: &[u8],
     file: &mut [u8],
     length: &mut usize,

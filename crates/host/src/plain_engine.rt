@@ -47,8 +47,7 @@ fn tell_plain(told: Told, yes: &mut u32, count: &mut usize) -> u32
 }
 
 // Whether the tokens are a sentence, by a table of which symbol derives which stretch of them.
-#[unsafe(no_mangle)]
-pub extern "C" fn brinesaddle_plain(
+pub fn brinesaddle_plain(
     file: &[u8],
     tokens: &[u16],
     table: &mut [u64],
