@@ -19,7 +19,7 @@ pub fn has(row: &Row, symbol: usize) -> bool
     requires { symbol < word_bits * row_words }
     ensures { result ≡ holds row.now symbol }
 {
-    (row[symbol / WORD] >> (symbol % WORD)) % 2 == 1
+    has_at(row, 0, symbol)
 }
 
 // Whether `symbol` is in row `k` of words that hold rows one behind the other.
@@ -36,7 +36,7 @@ pub fn add(row: Row, symbol: usize) -> Row
     ensures { result ≡ adding row symbol }
 {
     let mut to = row;
-    to[symbol / WORD] = to[symbol / WORD] | 1 << (symbol % WORD);
+    to[symbol / WORD] |= 1 << (symbol % WORD);
     to
 }
 
@@ -45,10 +45,8 @@ pub fn join(a: &Row, b: &Row) -> Row
     requires { (length a.now ≡ row_words) × (length b.now ≡ row_words) }
     ensures { result ≡ union a.now b.now }
 {
-    let mut to = [0; WIDTH];
-    for i in 0..WIDTH {
-        to[i] = a[i] | b[i];
-    }
+    let mut to = *a;
+    join_at(&mut to, 0, b);
     to
 }
 
@@ -59,7 +57,7 @@ pub fn join_at(rows: &mut [u64], k: usize, row: &Row)
         (union (row_of row_words rows.old k) row.now) }
 {
     for i in 0..WIDTH {
-        rows[WIDTH * k + i] = rows[WIDTH * k + i] | row[i];
+        rows[WIDTH * k + i] |= row[i];
     }
 }
 
@@ -68,7 +66,5 @@ pub fn put_at(rows: &mut [u64], k: usize, row: &Row)
     requires { (row_words * k + row_words ≤ length rows.old) × (length row.now ≡ row_words) }
     ensures { rows.new ≡ with_row row_words rows.old k row.now }
 {
-    for i in 0..WIDTH {
-        rows[WIDTH * k + i] = row[i];
-    }
+    rows[WIDTH * k..WIDTH * k + WIDTH].copy_from_slice(row);
 }

@@ -2,11 +2,7 @@
 use Rattle.std.specs.Prelude.{List, [], ◌∷◌, ℕ, ◌+◌, ◌*◌, ◌≤◌, length, get_or}
 use Rattle.std.proofs.lemmas.List.Edits.{sets}
 use Rattle.laws.specs.Records as records
-
-pub record Item : Type 0 where
-  pub origin : ℕ
-  pub rule : ℕ
-  pub handle : ℕ
+pub use Rattle.item.specs.declared.Item.{Item}
 
 -- The words of an item, in their order.
 abbrev pub words_of : Item → List ℕ

@@ -3,7 +3,15 @@
 #![tactic(auto)]
 
 ghost use Rattle.std.specs.Prelude.{◌≡◌, length, ltb};
-ghost use Rattle.item.specs.Item.{HasPlace, origin_at, rule_at, handle_at, key_at, stored};
+ghost use Rattle.item.specs.Item.{HasPlace, origin_at, rule_at, handle_at, item_at, key_at, stored};
+
+// An item: where it began, its rule, and the handle of its first symbol's node.
+#[derive(Clone, Copy, PartialEq, Eq)]
+pub struct Item {
+    pub origin: u32,
+    pub rule: u32,
+    pub handle: u32,
+}
 
 // The words that an item takes.
 pub const ITEM_WORDS: usize = 3;
@@ -39,15 +47,26 @@ pub fn handle(items: &[u32], p: usize) -> u32
     items[ITEM_WORDS * p + 2]
 }
 
-// Stores an item at place `p`, and changes no other word.
-pub fn write(items: &mut [u32], p: usize, origin: u32, rule: u32, handle: u32)
-    requires { HasPlace items.old p }
-    ensures { items.new
-        ≡ stored items.old p (record { origin = origin; rule = rule; handle = handle }) }
+// The item at place `p`.
+pub fn read(items: &[u32], p: usize) -> Item
+    requires { HasPlace items.now p }
+    ensures { result ≡ item_at items.now p }
 {
-    items[ITEM_WORDS * p] = origin;
-    items[ITEM_WORDS * p + 1] = rule;
-    items[ITEM_WORDS * p + 2] = handle;
+    Item {
+        origin: origin(items, p),
+        rule: rule(items, p),
+        handle: handle(items, p),
+    }
+}
+
+// Stores an item at place `p`, and changes no other word.
+pub fn write(items: &mut [u32], p: usize, item: Item)
+    requires { HasPlace items.old p }
+    ensures { items.new ≡ stored items.old p item }
+{
+    items[ITEM_WORDS * p] = item.origin;
+    items[ITEM_WORDS * p + 1] = item.rule;
+    items[ITEM_WORDS * p + 2] = item.handle;
 }
 
 // Whether the item at place `p` is greater than the one at place `q`: by origin, then by rule.
@@ -55,10 +74,5 @@ pub fn greater(items: &[u32], p: usize, q: usize) -> bool
     requires { HasPlace items.now p × HasPlace items.now q }
     ensures { result ≡ ltb (key_at items.now q) (key_at items.now p) }
 {
-    let p_origin = origin(items, p);
-    let q_origin = origin(items, q);
-    if p_origin == q_origin {
-        return rule(items, p) > rule(items, q);
-    }
-    p_origin > q_origin
+    (origin(items, p), rule(items, p)) > (origin(items, q), rule(items, q))
 }
