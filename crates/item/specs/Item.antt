@@ -2,7 +2,11 @@
 use Rattle.std.specs.Prelude.{List, [], ◌∷◌, ℕ, ◌+◌, ◌*◌, ◌≤◌, length, get_or}
 use Rattle.std.proofs.lemmas.List.Edits.{sets}
 use Rattle.laws.specs.Records as records
-pub use Rattle.item.specs.declared.Item.{Item}
+use Rattle.item.specs.declared.Item.{Item as TheItem}
+
+-- An item, as the code declares it.
+abbrev pub Item : Type 0
+Item = TheItem
 
 -- The words of an item, in their order.
 abbrev pub words_of : Item → List ℕ
