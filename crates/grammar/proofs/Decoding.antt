@@ -1,6 +1,7 @@
 -- Rules in bytes and in words, rule by rule.
-use mathlib.Core.Path.{◌≡◌, refl, sym, ap, subst, ◌∙◌}
-use mathlib.Core.List.{List}
+use mathlib.Core.Path.{◌≡◌, refl, sym, ap, ap₂, subst, ◌∙◌}
+use mathlib.Core.List.{List, [], ◌∷◌, ◌++◌}
+use native.Mathlib.Numerals.{add-one}
 use Prim.Native.Nat.{ℕ, zero, suc, ◌+◌, ◌-◌, ◌*◌, ◌≤◌, ◌<◌}
 use native.Mathlib.Omega.{arith}
 use native.Mathlib.Decide.{ℕ_discrete, dec_lt}
@@ -10,7 +11,8 @@ use Rattle.laws.proofs.Lists.{zeros_word}
 use Rattle.grammar.specs.Rules.{Rule, Grammar, Says, rule_count, rule_at}
 use Rattle.grammar.specs.Accepted.{max_symbols, max_rules}
 use Rattle.grammar.specs.File.{u16_at, header_bytes, rule_bytes, rule_count_of, symbols_of, tokens_of, rule_in, rules_from, grammar_of}
-use Rattle.grammar.specs.inner.Decoded.{rule_words, left_in, first_in, second_in, rules_behind, rules_in, grammar_in, nexts_at, heads_at, all_words, next_in, head_in, Leads, Chained, DecodedRules, Links, HoldsRules}
+use Rattle.grammar.specs.inner.Decoded.{rule_words, left_in, first_in, second_in, rules_behind, rules_in, grammar_in, rules_of, nexts_at, heads_at, all_words, next_in, head_in, Leads, Chained, DecodedRules, Pushed, Links, HoldsRules}
+use Rattle.grammar.specs.declared.rules.Rules.{Rules}
 
 -- What stands for a rule past the last one.
 abbrev no_rule : Rule
@@ -94,95 +96,106 @@ of_count file = from_count file header_bytes (rule_count_of file)
 pub of_rule : (file : List ℕ) (r : ℕ) → r < rule_count_of file → rule_at (grammar_of file) r ≡ rule_in file (header_bytes + rule_bytes * r)
 of_rule file r l = from_at file header_bytes (rule_count_of file) r l
 
--- The rule `r` of the words is that of the file.
-pub record SameRule (file words : List ℕ) (r : ℕ) : Type 0 where
-  pub left : left_in words r ≡ u16_at file (header_bytes + rule_bytes * r)
-  pub first : first_in words r ≡ u16_at file (header_bytes + rule_bytes * r + 2)
-  pub second : second_in words r ≡ u16_at file (header_bytes + rule_bytes * r + 4)
+-- The words hold the first `i` rules of the file, and 0 behind them.
+pub record Decoding (file : List ℕ) (rules : Rules) (i : ℕ) : Type 0 where
+  pub counted : rules.count ≡ i
+  pub long : length rules.words ≡ all_words
+  pub same : rules_of rules ≡ rules_from file header_bytes i
+  pub rest : (k : ℕ) → rule_words * i ≤ k → get_or rules.words k 0 ≡ 0
 
--- Words that hold each rule of a file give the file's grammar.
-pub same_grammar : (file words : List ℕ) → ((r : ℕ) → r < rule_count_of file → SameRule file words r)
-    → grammar_in words (symbols_of file) (tokens_of file) (rule_count_of file) ≡ grammar_of file
-same_grammar file words same =
-    ap (λ (l : List Rule). record { symbols = symbols_of file; tokens = tokens_of file; rules = l })
-    (ext_get_or no_rule (rules_in words (rule_count_of file)) (rules_from file header_bytes (rule_count_of file))
-    (behind-count words 0 (rule_count_of file) ∙ sym (from_count file header_bytes (rule_count_of file)))
-    (λ r l. one r (omega (arith, behind-count words 0 (rule_count_of file)))))
-  where
-    one : (r : ℕ) → r < rule_count_of file → get_or (rules_in words (rule_count_of file)) r no_rule ≡ get_or (rules_from file header_bytes (rule_count_of file)) r no_rule
-    one r l =
-        in_rule words (symbols_of file) (tokens_of file) (rule_count_of file) r l
-        ∙ rule_eq (same r l).left (same r l).first (same r l).second
-        ∙ sym (of_rule file r l)
+-- The last of the rules in words, and in a file.
+pub behind-last : (words : List ℕ) (r k : ℕ) → rules_behind words r (suc k) ≡ rules_behind words r k ++ rule (left_in words (r + k)) (first_in words (r + k)) (second_in words (r + k)) ∷ []
+unfolding rules_behind
+behind-last words r zero = ap (λ (n : ℕ). rule (left_in words n) (first_in words n) (second_in words n) ∷ []) (omega arith)
+behind-last words r (suc k) =
+    ap (λ (l : List Rule). rule (left_in words r) (first_in words r) (second_in words r) ∷ l)
+    (behind-last words (r + 1) k ∙ ap (λ (n : ℕ). rules_behind words (r + 1) k ++ rule (left_in words n) (first_in words n) (second_in words n) ∷ []) (omega arith))
 
--- The first `i` rules of the file stand in the words.
-pub record Decoding (file words : List ℕ) (i : ℕ) : Type 0 where
-  pub few : i ≤ rule_count_of file
-  pub long : length words ≡ all_words
-  pub same : (r : ℕ) → r < i → SameRule file words r
-  pub rest : (k : ℕ) → rule_words * i ≤ k → get_or words k 0 ≡ 0
+from_last : (file : List ℕ) (at k : ℕ) → rules_from file at (suc k) ≡ rules_from file at k ++ rule_in file (at + rule_bytes * k) ∷ []
+unfolding rules_from
+from_last file at zero = ap (λ (n : ℕ). rule_in file n ∷ []) (omega arith)
+from_last file at (suc k) =
+    ap (λ (l : List Rule). rule_in file at ∷ l)
+    (from_last file (at + rule_bytes) k ∙ ap (λ (n : ℕ). rules_from file (at + rule_bytes) k ++ rule_in file n ∷ []) (omega arith))
 
 -- One more rule, a word after the other.
-module _ (file words : List ℕ) (i a b c : ℕ) where
+module _ (words : List ℕ) (n a b c : ℕ) (room : n < max_rules) (long : length words ≡ all_words) where
   abbrev stored : List ℕ
-  stored = set (set (set words (rule_words * i) a) (rule_words * i + 1) b) (rule_words * i + 2) c
+  stored = set (set (set words (rule_words * n) a) (rule_words * n + 1) b) (rule_words * n + 2) c
 
   -- A word of another rule is kept.
-  stored_other : (k : ℕ) → (k ≡ rule_words * i → ⊥) → (k ≡ rule_words * i + 1 → ⊥) → (k ≡ rule_words * i + 2 → ⊥) → get_or stored k 0 ≡ get_or words k 0
+  stored_other : (k : ℕ) → (k ≡ rule_words * n → ⊥) → (k ≡ rule_words * n + 1 → ⊥) → (k ≡ rule_words * n + 2 → ⊥) → get_or stored k 0 ≡ get_or words k 0
   stored_other k x y z =
-      get_or-set_other (set (set words (rule_words * i) a) (rule_words * i + 1) b) (rule_words * i + 2) k c 0 z
-      ∙ get_or-set_other (set words (rule_words * i) a) (rule_words * i + 1) k b 0 y
-      ∙ get_or-set_other words (rule_words * i) k a 0 x
+      get_or-set_other (set (set words (rule_words * n) a) (rule_words * n + 1) b) (rule_words * n + 2) k c 0 z
+      ∙ get_or-set_other (set words (rule_words * n) a) (rule_words * n + 1) k b 0 y
+      ∙ get_or-set_other words (rule_words * n) k a 0 x
 
-  pub more-decoded : Decoding file words i → i < rule_count_of file → rule_count_of file ≤ max_rules
-      → a ≡ u16_at file (header_bytes + rule_bytes * i) → b ≡ u16_at file (header_bytes + rule_bytes * i + 2) → c ≡ u16_at file (header_bytes + rule_bytes * i + 4)
-      → Decoding file stored (i + 1)
-  more-decoded h l m ea eb ec = record {
-    few = omega arith;
-    long = long-stored;
-    same = λ r lr. elim (ℕ_discrete r i) [ yes e ↦ subst (λ (q : ℕ). SameRule file stored q) (sym e) new | no n ↦ old r (lower r lr n) ];
-    rest = λ k behind. stored_other k (omega arith) (omega arith) (omega arith) ∙ h.rest k (omega arith);
-  }
-    where
-      long-stored : length stored ≡ all_words
-      long-stored = simp length-set h.long
+  behind-same : (r k : ℕ) → r + k ≤ n → rules_behind stored r k ≡ rules_behind words r k
+  unfolding rules_behind
+  behind-same r zero h = refl
+  behind-same r (suc k) h =
+      ap₂ (λ (q : Rule) (l : List Rule). q ∷ l)
+      (rule_eq (stored_other (rule_words * r) (omega arith) (omega arith) (omega arith)) (stored_other (rule_words * r + 1) (omega arith) (omega arith) (omega arith))
+      (stored_other (rule_words * r + 2) (omega arith) (omega arith) (omega arith)))
+      (behind-same (r + 1) k (omega arith))
 
-      lower : (r : ℕ) → r < i + 1 → (r ≡ i → ⊥) → r < i
-      lower r lr n = omega arith
+  stored-rule : rule (left_in stored n) (first_in stored n) (second_in stored n) ≡ rule a b c
+  stored-rule = rule_eq
+      (get_or-set_other (set (set words (rule_words * n) a) (rule_words * n + 1) b) (rule_words * n + 2) (rule_words * n) c 0 (omega arith)
+      ∙ get_or-set_other (set words (rule_words * n) a) (rule_words * n + 1) (rule_words * n) b 0 (omega arith)
+      ∙ get_or-set_same words (rule_words * n) a 0 (omega arith))
+      (get_or-set_other (set (set words (rule_words * n) a) (rule_words * n + 1) b) (rule_words * n + 2) (rule_words * n + 1) c 0 (omega arith)
+      ∙ get_or-set_same (set words (rule_words * n) a) (rule_words * n + 1) b 0 (simp length-set (omega arith)))
+      (get_or-set_same (set (set words (rule_words * n) a) (rule_words * n + 1) b) (rule_words * n + 2) c 0 (simp length-set (omega arith)))
 
-      old : (r : ℕ) → r < i → SameRule file stored r
-      old r lr = record {
-        left = stored_other (rule_words * r) (omega arith) (omega arith) (omega arith) ∙ (h.same r lr).left;
-        first = stored_other (rule_words * r + 1) (omega arith) (omega arith) (omega arith) ∙ (h.same r lr).first;
-        second = stored_other (rule_words * r + 2) (omega arith) (omega arith) (omega arith) ∙ (h.same r lr).second;
-      }
+  stored_more : rules_in stored (n + 1) ≡ rules_in words n ++ rule a b c ∷ []
+  stored_more =
+      ap (rules_in stored) (add-one n) ∙ behind-last stored 0 n
+      ∙ ap₂ (λ (l : List Rule) (q : Rule). l ++ q ∷ []) (behind-same 0 n (omega arith))
+      (ap (λ (k : ℕ). rule (left_in stored k) (first_in stored k) (second_in stored k)) (omega arith) ∙ stored-rule)
 
-      new : SameRule file stored i
-      new = record {
-        left = get_or-set_other (set (set words (rule_words * i) a) (rule_words * i + 1) b) (rule_words * i + 2) (rule_words * i) c 0 (omega arith)
-            ∙ get_or-set_other (set words (rule_words * i) a) (rule_words * i + 1) (rule_words * i) b 0 (omega arith)
-            ∙ get_or-set_same words (rule_words * i) a 0 (omega (arith, h.long)) ∙ ea;
-        first = get_or-set_other (set (set words (rule_words * i) a) (rule_words * i + 1) b) (rule_words * i + 2) (rule_words * i + 1) c 0 (omega arith)
-            ∙ get_or-set_same (set words (rule_words * i) a) (rule_words * i + 1) b 0 (simp length-set (omega (arith, h.long))) ∙ eb;
-        second = get_or-set_same (set (set words (rule_words * i) a) (rule_words * i + 1) b) (rule_words * i + 2) c 0 (simp length-set (omega (arith, h.long))) ∙ ec;
-      }
-
--- With all rules decoded the words hold the file's rules.
-pub all-decoded : (file words : List ℕ) (i : ℕ) → Decoding file words i → rule_count_of file ≤ i → DecodedRules file words
-all-decoded file words i h l = record {
-  long = h.long;
-  rules = same_grammar file words (λ r lr. h.same r (omega arith));
-  rest = λ k behind. h.rest k (omega (arith, h.few));
+-- Stored behind the others, a rule is pushed.
+pub stored-pushed : (r : Rules) (a b c : ℕ) → r.count < max_rules → length r.words ≡ all_words → Pushed r a b c (record { words = set (set (set r.words (rule_words * r.count) a) (rule_words * r.count + 1) b) (rule_words * r.count + 2) c; count = r.count + 1 })
+stored-pushed r a b c room long = record {
+  counted = refl;
+  long = simp length-set long;
+  listed = stored_more r.words r.count a b c room long;
+  kept = λ i before. stored_other r.words r.count a b c room long i (omega arith) (omega arith) (omega arith);
+  rest = λ i behind. stored_other r.words r.count a b c room long i (omega arith) (omega arith) (omega arith);
 }
 
 -- Before the first rule all words are 0.
-pub none_decoded : (file : List ℕ) → Decoding file (replicate all_words 0) 0
-none_decoded file = record {
-  few = omega arith;
-  long = length-replicate {A = ℕ} all_words 0;
-  same = λ r l. absurd (omega arith);
-  rest = λ k behind. zeros_word all_words k;
+pub none_decoded : (file : List ℕ) (rules : Rules) → rules.words ≡ replicate all_words 0 → rules.count ≡ 0 → Decoding file rules 0
+unfolding rules_behind rules_from
+none_decoded file rules clear none = record {
+  counted = none;
+  long = ap length clear ∙ length-replicate {A = ℕ} all_words 0;
+  same = ap (rules_in rules.words) none;
+  rest = λ k behind. ap (λ (l : List ℕ). get_or l k 0) clear ∙ zeros_word all_words k;
 }
+
+-- With the next rule of the file pushed they hold one more.
+pub more-decoded : (file : List ℕ) (i a b c : ℕ) (before after : Rules) → Decoding file before i
+    → a ≡ u16_at file (header_bytes + rule_bytes * i) → b ≡ u16_at file (header_bytes + rule_bytes * i + 2) → c ≡ u16_at file (header_bytes + rule_bytes * i + 4)
+    → Pushed before a b c after → Decoding file after (i + 1)
+more-decoded file i a b c before after h ea eb ec p = record {
+  counted = p.counted ∙ ap (λ (n : ℕ). n + 1) h.counted;
+  long = p.long;
+  same = p.listed ∙ ap₂ (λ (l : List Rule) (q : Rule). l ++ q ∷ []) h.same (rule_eq ea eb ec)
+      ∙ sym (ap (rules_from file header_bytes) (add-one i) ∙ from_last file header_bytes i);
+  rest = λ k behind. p.rest k (omega (arith, p.counted, h.counted)) ∙ h.rest k (omega arith);
+}
+
+-- With all rules decoded the words hold the file's rules.
+pub all-decoded : (file : List ℕ) (rules : Rules) → Decoding file rules (rule_count_of file) → DecodedRules file rules.words × (rules.count ≡ rule_count_of file)
+all-decoded file rules h = (
+  record {
+    long = h.long;
+    rules = ap (λ (l : List Rule). record { symbols = symbols_of file; tokens = tokens_of file; rules = l }) (ap (rules_in rules.words) (sym h.counted) ∙ h.same);
+    rest = h.rest;
+  },
+  h.counted,
+)
 
 -- With the chains put in they hold the file's rules still.
 pub linked_holds : (file words linked : List ℕ) (count : ℕ) → rule_count_of file ≤ max_rules → count ≡ rule_count_of file → DecodedRules file words → Links count words linked

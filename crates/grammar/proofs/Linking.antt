@@ -111,11 +111,12 @@ module _ (before : List ℕ) (count : ℕ) (most : count ≤ max_rules) where
       rest = λ r behind there. next-kept r there (omega (arith, old.few)) ∙ old.rest r behind there;
     }
 
-  -- The same of the rule before `r`.
-  pub next_linked : (r b h : ℕ) (words : List ℕ) → 0 < r → Linked before count r words → b ≡ first_in before (r - 1) → b < max_symbols → h ≡ head_in words b
-      → Linked before count (r - 1) (set (set words (nexts_at + (r - 1)) h) (heads_at + b) (count - (r - 1)))
-  next_linked r b h words some old eb lb eh =
-      more_linked (r - 1) b h words (subst (λ (k : ℕ). Linked before count k words) (omega arith) old) eb lb eh
+  -- The same of the rule before `r`, with a count that is the same.
+  pub next_linked : (r b h : ℕ) (words : List ℕ) (all : ℕ) → 0 < r → Linked before count r words → b ≡ first_in before (r - 1) → b < max_symbols → h ≡ head_in words b
+      → all ≡ count → Linked before count (r - 1) (set (set words (nexts_at + (r - 1)) h) (heads_at + b) (all - (r - 1)))
+  next_linked r b h words all some old eb lb eh same =
+      subst (λ (n : ℕ). Linked before count (r - 1) (set (set words (nexts_at + (r - 1)) h) (heads_at + b) (n - (r - 1)))) (sym same)
+      (more_linked (r - 1) b h words (subst (λ (k : ℕ). Linked before count k words) (omega arith) old) eb lb eh)
 
   -- With all rules linked the chains are whole.
   pub all_linked : (m : ℕ) (words : List ℕ) → Linked before count m words → m ≤ 0 → Links count before words

@@ -6,18 +6,21 @@ use native.Mathlib.Omega.{arith}
 use native.Mathlib.Decide.{ℕ_discrete}
 use lib.ListN.{length}
 use Rattle.grammar.specs.Accepted.{Accepted, max_rules}
-use Rattle.grammar.specs.inner.Decoded.{grammar_in, Decodes}
-use Rattle.grammar.specs.File.{Malformed, grammar_of, symbols_of, tokens_of, rule_count_of, header_bytes, rule_bytes}
+use Rattle.grammar.specs.inner.Decoded.{grammar_in, HoldsFile, Decodes}
+use Rattle.grammar.specs.File as bytes
+use Rattle.grammar.specs.File.{grammar_of, symbols_of, tokens_of, rule_count_of, header_bytes, rule_bytes}
 use Rattle.grammar.specs.inner.Checking.{Sized}
 use Rattle.grammar.specs.Answers.{Verdict, number_of}
-use Rattle.grammar.specs.declared.Checked.{Checked}
-use Rattle.grammar.specs.declared.Checked.TheVariants as answer
+use Rattle.grammar.specs.declared.Fault.{Fault}
+use Rattle.grammar.specs.declared.Fault.TheVariants.{Malformed, Broken}
+use Rattle.grammar.specs.declared.Grammar as held
+use Rattle.std.specs.Prelude.{Result, Ok, Err}
 use Rattle.grammar.proofs.Decoding.{of_count, holds_agree}
 use Rattle.grammar.proofs.Judging.{Formed, formed, accepted_sized}
 
 module _ (file : List ℕ) where
   -- 1: malformed.
-  pub verdict_one : Malformed file → Verdict file 1
+  pub verdict_one : bytes.Malformed file → Verdict file 1
   verdict_one m = record {
     one = λ e. m;
     always_one = λ x. refl;
@@ -28,7 +31,7 @@ module _ (file : List ℕ) where
   }
 
   -- 2: not malformed, and not accepted.
-  pub verdict_two : (Malformed file → ⊥) → (Accepted (grammar_of file) → ⊥) → Verdict file 2
+  pub verdict_two : (bytes.Malformed file → ⊥) → (Accepted (grammar_of file) → ⊥) → Verdict file 2
   verdict_two n k = record {
     one = λ e. absurd (omega arith);
     always_one = λ m. absurd (n m);
@@ -39,7 +42,7 @@ module _ (file : List ℕ) where
   }
 
   -- 0: neither.
-  pub verdict_zero : (Malformed file → ⊥) → Accepted (grammar_of file) → Verdict file 0
+  pub verdict_zero : (bytes.Malformed file → ⊥) → Accepted (grammar_of file) → Verdict file 0
   verdict_zero n a = record {
     one = λ e. absurd (omega arith);
     always_one = λ m. absurd (n m);
@@ -54,11 +57,11 @@ module _ (file : List ℕ) where
   file_sized h = subst (λ (k : ℕ). Sized (symbols_of file) (tokens_of file) k) (of_count file) (accepted_sized (grammar_of file) h)
 
   -- A file that is not malformed and has few enough rules can be decoded.
-  pub readable : (Malformed file → ⊥) → rule_count_of file ≤ max_rules → (header_bytes + rule_bytes * rule_count_of file ≤ length file) × (rule_count_of file ≤ max_rules)
+  pub readable : (bytes.Malformed file → ⊥) → rule_count_of file ≤ max_rules → (header_bytes + rule_bytes * rule_count_of file ≤ length file) × (rule_count_of file ≤ max_rules)
   readable n l = let f : Formed file = formed file n in (omega (arith, f.told_length, f.real_length), l)
 
   -- So can one that is accepted.
-  pub accepted_readable : (Malformed file → ⊥) → Accepted (grammar_of file) → (header_bytes + rule_bytes * rule_count_of file ≤ length file) × (rule_count_of file ≤ max_rules)
+  pub accepted_readable : (bytes.Malformed file → ⊥) → Accepted (grammar_of file) → (header_bytes + rule_bytes * rule_count_of file ≤ length file) × (rule_count_of file ≤ max_rules)
   accepted_readable n h = readable n (file_sized h).few_rules
 
   -- The numbers as they were read.
@@ -101,35 +104,45 @@ verdict_number file n m v w =
     ]
 
 -- Two answers that are right are the same.
-pub verdict_unique : (file : List ℕ) (a b : Checked) → Verdict file (number_of a) → Verdict file (number_of b) → a ≡ b
-verdict_unique file answer.Accepted answer.Accepted v w = refl
-verdict_unique file answer.Malformed answer.Malformed v w = refl
-verdict_unique file answer.Broken answer.Broken v w = refl
-verdict_unique file answer.Accepted answer.Malformed v w = absurd (omega (arith, v.always_one (w.one refl)))
-verdict_unique file answer.Accepted answer.Broken v w = absurd (w.two refl (v.zero refl))
-verdict_unique file answer.Malformed answer.Accepted v w = absurd (omega (arith, w.always_one (v.one refl)))
-verdict_unique file answer.Malformed answer.Broken v w = absurd (omega (arith, w.always_one (v.one refl)))
-verdict_unique file answer.Broken answer.Accepted v w = absurd (v.two refl (w.zero refl))
-verdict_unique file answer.Broken answer.Malformed v w = absurd (omega (arith, v.always_one (w.one refl)))
+pub verdict_unique : (file : List ℕ) (a b : Result (Unit {0}) Fault) → Verdict file (number_of a) → Verdict file (number_of b) → a ≡ b
+verdict_unique file (Ok _) (Ok _) v w = refl
+verdict_unique file (Err Malformed) (Err Malformed) v w = refl
+verdict_unique file (Err Broken) (Err Broken) v w = refl
+verdict_unique file (Ok _) (Err Malformed) v w = absurd (omega (arith, v.always_one (w.one refl)))
+verdict_unique file (Ok _) (Err Broken) v w = absurd (w.two refl (v.zero refl))
+verdict_unique file (Err Malformed) (Ok _) v w = absurd (omega (arith, w.always_one (v.one refl)))
+verdict_unique file (Err Malformed) (Err Broken) v w = absurd (omega (arith, w.always_one (v.one refl)))
+verdict_unique file (Err Broken) (Ok _) v w = absurd (v.two refl (w.zero refl))
+verdict_unique file (Err Broken) (Err Malformed) v w = absurd (omega (arith, v.always_one (w.one refl)))
 
--- and two lots of words that a check leaves.
-pub decodes_agree : (file : List ℕ) (number : ℕ) (before a b : List ℕ) → Decodes file number before a → Decodes file number before b → a ≡ b
+-- and two grammars that a check leaves.
+pub decodes_agree : (file : List ℕ) (number : ℕ) (before a b : held.Grammar) → Decodes file number before a → Decodes file number before b → a ≡ b
 decodes_agree file number before a b da db =
     elim (ℕ_discrete number 0) [
-      | yes zero ↦ holds_agree file a b (da.accepted zero) (db.accepted zero)
+      | yes zero ↦ same (da.accepted zero) (db.accepted zero)
       | no other ↦ da.refused other ∙ sym (db.refused other)
     ]
+  where
+    same : HoldsFile file a → HoldsFile file b → a ≡ b
+    same ha hb = parts (holds_agree file a.rules.words b.rules.words ha.words hb.words) (ha.count ∙ sym hb.count) (ha.symbols ∙ sym hb.symbols) (ha.tokens ∙ sym hb.tokens)
+      where
+        parts : a.rules.words ≡ b.rules.words → a.rules.count ≡ b.rules.count → a.symbols ≡ b.symbols → a.tokens ≡ b.tokens → a ≡ b
+        parts p q r s =
+            ap (λ (k : List ℕ). record { rules = record { words = k; count = a.rules.count }; symbols = a.symbols; tokens = a.tokens }) p
+            ∙ ap (λ (k : ℕ). record { rules = record { words = b.rules.words; count = k }; symbols = a.symbols; tokens = a.tokens }) q
+            ∙ ap (λ (k : ℕ). record { rules = b.rules; symbols = k; tokens = a.tokens }) r
+            ∙ ap (λ (k : ℕ). record { rules = b.rules; symbols = b.symbols; tokens = k }) s
 
 -- What a caller knows of a file that the check has accepted: enough to read its numbers and to decode its rules.
 pub record AcceptedFile (file : List ℕ) : Type 0 where
-  pub formed : Malformed file → ⊥
+  pub formed : bytes.Malformed file → ⊥
   pub accepted : Accepted (grammar_of file)
   pub header : header_bytes ≤ length file
   pub whole : header_bytes + rule_bytes * rule_count_of file ≤ length file
   pub few_rules : rule_count_of file ≤ max_rules
 
-pub accepted-file : (file : List ℕ) (a : Checked) → Verdict file (number_of a) → a ≡ answer.Accepted → AcceptedFile file
-accepted-file file a v e = record {
+pub accepted-file : (file : List ℕ) (a : Result (Unit {0}) Fault) → Verdict file (number_of a) → number_of a ≡ 0 → AcceptedFile file
+accepted-file file a v number = record {
   formed = not_malformed;
   accepted = yes-accepted;
   header = (formed file not_malformed).header;
@@ -137,10 +150,7 @@ accepted-file file a v e = record {
   few_rules = (accepted_readable file not_malformed yes-accepted).1;
 }
   where
-    number : number_of a ≡ 0
-    number = ap number_of e
-
-    not_malformed : Malformed file → ⊥
+    not_malformed : bytes.Malformed file → ⊥
     not_malformed m = omega (arith, number, v.always_one m)
 
     yes-accepted : Accepted (grammar_of file)

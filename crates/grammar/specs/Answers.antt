@@ -1,15 +1,18 @@
 -- What the check answers, by number.
-use Rattle.std.specs.Prelude.{◌≡◌, List, ℕ}
-use Rattle.grammar.specs.declared.Checked.{Checked}
-use Rattle.grammar.specs.declared.Checked.TheVariants.{Accepted, Malformed, Broken}
+use Rattle.std.specs.Prelude.{◌≡◌, List, ℕ, Result, Ok, Err}
+use Rattle.grammar.specs.declared.Fault.{Fault}
+use Rattle.grammar.specs.declared.Fault.TheVariants.{Malformed, Broken}
 use Rattle.grammar.specs.Accepted as accepted
 use Rattle.grammar.specs.File as file
 
--- The paper's number of each case.
-abbrev pub number_of : Checked → ℕ
-number_of Accepted = 0
-number_of Malformed = 1
-number_of Broken = 2
+-- The paper's number of each refusal, and of each answer.
+abbrev pub fault_number : Fault → ℕ
+fault_number Malformed = 1
+fault_number Broken = 2
+
+abbrev pub number_of : Result (Unit {0}) Fault → ℕ
+number_of (Ok _) = 0
+number_of (Err fault) = fault_number fault
 
 -- 1 exactly when the file is malformed; else 2 exactly when its grammar is not accepted; else 0.
 pub record Verdict (bytes : List ℕ) (number : ℕ) : Type 0 where

@@ -11,19 +11,12 @@ pub const HEADER: usize = 11;
 
 pub const RULE: usize = 6;
 
-// A byte as a number to compute with.
-pub fn wide(byte: u8) -> usize
-    ensures { (result ≡ byte) × (result < 256) }
-{
-    byte as usize
-}
-
 // The big-endian number in the two bytes at `at`.
 pub fn u16_at(file: &[u8], at: usize) -> usize
     requires { at + 2 ≤ length file.now }
     ensures { (result ≡ u16_at file.now at) × (result < 65536) }
 {
-    wide(file[at]) * 256 + wide(file[at + 1])
+    usize::from(file[at]) * 256 + usize::from(file[at + 1])
 }
 
 // The big-endian number in the four bytes at `at`.
@@ -65,7 +58,7 @@ pub fn malformed(file: &[u8]) -> bool
     if file.len() < HEADER {
         return true;
     }
-    if wide(file[0]) != VERSION {
+    if usize::from(file[0]) != VERSION {
         return true;
     }
     let length = u32_at(file, 1);

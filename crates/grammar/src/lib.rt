@@ -1,11 +1,12 @@
 // The grammar file, version 1: its header, its rules decoded into words, and its check.
 #![tactic(auto)]
 
+ghost use Rattle.std.specs.Prelude.{◌≡◌, replicate};
 ghost use Rattle.laws.specs.Decides.{Decides};
 ghost use Rattle.grammar.specs.Accepted as asked;
 ghost use Rattle.grammar.specs.Answers.{Verdict, number_of};
 ghost use Rattle.grammar.specs.inner.Checking.{Sized};
-ghost use Rattle.grammar.specs.inner.Decoded.{grammar_in, Decodes};
+ghost use Rattle.grammar.specs.inner.Decoded.{all_words, decoded, Decodes};
 
 pub mod chains;
 mod conditions;
@@ -17,70 +18,92 @@ mod productive;
 mod reachable;
 pub mod rules;
 
-use crate::chains::link;
 use crate::conditions::{ruled, sized, wraps};
 use crate::file::{malformed, rule_count, symbols, tokens};
-use crate::limits::WORDS;
 use crate::pairs::equal_pair;
 use crate::productive::all_productive;
 use crate::reachable::all_reachable;
 use crate::rules::{Rules, decode};
 
-// What the check answers.
-#[derive(Clone, Copy)]
-pub enum Checked {
-    Accepted,
+// Why a file is refused: its bytes are no grammar file, or its grammar breaks a rule.
+#[derive(Clone, Copy, PartialEq, Eq, Debug)]
+pub enum Fault {
     Malformed,
     Broken,
 }
 
-// Whether the decoded rules are a grammar as the paper asks for.
-fn accepted(rules: &Rules, n: usize, t: usize, count: usize) -> bool
-    requires { Sized n t count }
-    ensures { Decides result (asked.Accepted (grammar_in rules.now n t count)) }
-{
-    if !wraps(rules, n, t) {
-        return false;
-    }
-    if !ruled(rules, n, t, count) {
-        return false;
-    }
-    if equal_pair(rules, count) {
-        return false;
-    }
-    if !all_productive(rules, n, t, count) {
-        return false;
-    }
-    all_reachable(rules, n, t, count)
+// The rules, N, the number of symbols, and T, the number of ordinary tokens.
+#[derive(Drop)]
+pub struct Grammar {
+    pub rules: Rules,
+    pub symbols: usize,
+    pub tokens: usize,
 }
 
-// The check of any bytes. The rules of an accepted file are left in `rules`, linked, so that no call decodes its file again.
-pub fn read(file: &[u8], rules: &mut Rules) -> Checked
+impl Grammar {
+    // No rule, no symbol and no token.
+    pub fn new() -> Grammar
+        ensures { (result.rules.words ≡ replicate all_words 0) × (result.rules.count ≡ 0) × (result.symbols ≡ 0) × (result.tokens ≡ 0) }
+    {
+        Grammar {
+            rules: Rules::new(),
+            symbols: 0,
+            tokens: 0,
+        }
+    }
+}
+
+// Whether the decoded rules are a grammar as is asked for.
+fn accepted(grammar: &Grammar) -> bool
+    requires { Sized grammar.now.symbols grammar.now.tokens grammar.now.rules.count }
+    ensures { Decides result (asked.Accepted (decoded grammar.now)) }
+{
+    if !wraps(grammar) {
+        return false;
+    }
+    if !ruled(grammar) {
+        return false;
+    }
+    if equal_pair(&grammar.rules) {
+        return false;
+    }
+    if !all_productive(grammar) {
+        return false;
+    }
+    all_reachable(grammar)
+}
+
+// The check of any bytes. The rules of an accepted file are left in `grammar`, linked, so that no call decodes its file again.
+pub fn read(file: &[u8], grammar: &mut Grammar) -> Result<(), Fault>
     ensures verdict { Verdict file.now (number_of result) }
-    ensures decoded { Decodes file.now (number_of result) rules.old rules.new }
+    ensures decoded { Decodes file.now (number_of result) grammar.old grammar.new }
 {
     if malformed(file) {
-        return Checked::Malformed;
+        return Err(Fault::Malformed);
     }
     let n = symbols(file);
     let t = tokens(file);
     let count = rule_count(file);
     if !sized(n, t, count) {
-        return Checked::Broken;
+        return Err(Fault::Broken);
     }
-    let found = decode(file);
-    if accepted(&found, n, t, count) {
-        *rules = found;
-        link(rules, count);
-        return Checked::Accepted;
+    let mut found = Grammar {
+        rules: decode(file),
+        symbols: n,
+        tokens: t,
+    };
+    if !accepted(&found) {
+        return Err(Fault::Broken);
     }
-    Checked::Broken
+    found.rules.link();
+    *grammar = found;
+    Ok(())
 }
 
 // The check alone.
-pub fn check(file: &[u8]) -> Checked
+pub fn check(file: &[u8]) -> Result<(), Fault>
     ensures { Verdict file.now (number_of result) }
 {
-    let mut rules = [0; WORDS];
-    read(file, &mut rules)
+    let mut grammar = Grammar::new();
+    read(file, &mut grammar)
 }

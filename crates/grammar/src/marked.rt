@@ -5,20 +5,17 @@ ghost use Rattle.grammar.specs.Accepted.{max_rules, max_symbols};
 ghost use Rattle.grammar.specs.inner.Checking.{LowSymbols, RightMarked, AllMarked};
 
 use crate::limits::SYMBOLS;
-use crate::rules::{Rules, first, last};
+use crate::rules::Rules;
 
 // A mark for each symbol.
 pub type Marks = [bool; SYMBOLS];
 
 // Whether every symbol on the right of rule `r` is marked.
 pub fn right_marked(rules: &Rules, marks: &Marks, r: usize) -> bool
-    requires { (r < max_rules) × LowSymbols rules.now (r + 1) }
-    ensures { Decides result (RightMarked rules.now marks.now r) }
+    requires { (r < max_rules) × LowSymbols rules.now.words (r + 1) }
+    ensures { Decides result (RightMarked rules.now.words marks.now r) }
 {
-    if !marks[first(rules, r)] {
-        return false;
-    }
-    marks[last(rules, r)]
+    marks[rules.first(r)] && marks[rules.last(r)]
 }
 
 // Whether all symbols from `from` up to `to` are marked.

@@ -4,35 +4,29 @@ ghost use Rattle.laws.specs.Decides.{Decides};
 ghost use Rattle.grammar.specs.Accepted.{max_rules};
 ghost use Rattle.grammar.specs.inner.Checking.{Same, EqualPair};
 
-use crate::rules::{Rules, first, left, second};
+use crate::rules::Rules;
 
 // Whether the rules `q` and `r` are equal.
 fn same(rules: &Rules, q: usize, r: usize) -> bool
     requires { (q < max_rules) × (r < max_rules) }
-    ensures { Decides result (Same rules.now q r) }
+    ensures { Decides result (Same rules.now.words q r) }
 {
-    if left(rules, q) != left(rules, r) {
-        return false;
-    }
-    if first(rules, q) != first(rules, r) {
-        return false;
-    }
-    second(rules, q) == second(rules, r)
+    rules.left(q) == rules.left(r)
+        && rules.first(q) == rules.first(r)
+        && rules.second(q) == rules.second(r)
 }
 
 // Whether two rules are equal: every pair is looked at, up to the first that is.
-pub fn equal_pair(rules: &Rules, count: usize) -> bool
-    requires { count ≤ max_rules }
-    ensures { Decides result (EqualPair rules.now count) }
+pub fn equal_pair(rules: &Rules) -> bool
+    requires { rules.now.count ≤ max_rules }
+    ensures { Decides result (EqualPair rules.now.words rules.now.count) }
 {
-    let mut found = false;
-    'pairs: for r in 0..count {
+    for r in 0..rules.count {
         for q in 0..r {
             if same(rules, q, r) {
-                found = true;
-                break 'pairs;
+                return true;
             }
         }
     }
-    found
+    false
 }

@@ -2,44 +2,44 @@
 ghost use Rattle.std.specs.Prelude.{true, false, ◌+◌, ◌≤◌, ◌<◌};
 ghost use Rattle.laws.specs.Decides.{Decides};
 ghost use Rattle.grammar.specs.Accepted.{max_rules, max_symbols};
-ghost use Rattle.grammar.specs.inner.Decoded.{grammar_in};
+ghost use Rattle.grammar.specs.inner.Decoded.{decoded};
 ghost use Rattle.grammar.specs.inner.Checking.{LowSymbols, Spreads, AllReachable};
 
+use crate::Grammar;
 use crate::limits::SYMBOLS;
 use crate::marked::{Marks, all_marked, right_marked};
-use crate::rules::{Rules, first, last, left};
+use crate::rules::Rules;
 
 // Whether rule `r` marks its right side: the left side is marked, and the right side is not yet.
 fn spreads(rules: &Rules, marks: &Marks, r: usize) -> bool
-    requires { (r < max_rules) × LowSymbols rules.now (r + 1) }
-    ensures { Decides result (Spreads rules.now marks.now r) }
+    requires { (r < max_rules) × LowSymbols rules.now.words (r + 1) }
+    ensures { Decides result (Spreads rules.now.words marks.now r) }
 {
-    if !marks[left(rules, r)] {
-        return false;
-    }
-    !right_marked(rules, marks, r)
+    marks[rules.left(r)] && !right_marked(rules, marks, r)
 }
 
 // Whether every nonterminal is reachable from S: rounds over the rules, until a round marks nothing.
-pub fn all_reachable(rules: &Rules, n: usize, t: usize, count: usize) -> bool
-    requires { (t + 3 ≤ n) × (n ≤ max_symbols) × (0 < count) × (count ≤ max_rules) × LowSymbols rules.now count }
-    ensures { Decides result (AllReachable (grammar_in rules.now n t count)) }
+pub fn all_reachable(grammar: &Grammar) -> bool
+    requires { (grammar.now.tokens + 3 ≤ grammar.now.symbols) × (grammar.now.symbols ≤ max_symbols) × (0 < grammar.now.rules.count)
+        × (grammar.now.rules.count ≤ max_rules) × LowSymbols grammar.now.rules.words grammar.now.rules.count }
+    ensures { Decides result (AllReachable (decoded grammar.now)) }
 {
+    let rules = &grammar.rules;
     let mut marks = [false; SYMBOLS];
-    marks[first(rules, 0)] = true;
+    marks[rules.first(0)] = true;
     loop {
         let mut marked = false;
-        for r in 0..count {
+        for r in 0..rules.count {
             if !spreads(rules, &marks, r) {
                 continue;
             }
-            marks[first(rules, r)] = true;
-            marks[last(rules, r)] = true;
+            marks[rules.first(r)] = true;
+            marks[rules.last(r)] = true;
             marked = true;
         }
         if !marked {
             break;
         }
     }
-    all_marked(&marks, t, n - 2)
+    all_marked(&marks, grammar.tokens, grammar.symbols - 2)
 }

@@ -1,9 +1,9 @@
-// Rules decoded into words: left side, first and second of rule r at 3r, 3r + 1 and 3r + 2.
-ghost use Rattle.std.specs.Prelude.{◌≡◌, ◌+◌, ◌*◌, ◌≤◌, ◌<◌, length};
+// Rules in words: left side, first and second of rule r at 3r, 3r + 1 and 3r + 2.
+ghost use Rattle.std.specs.Prelude.{◌≡◌, ◌+◌, ◌*◌, ◌≤◌, ◌<◌, length, replicate};
 ghost use Rattle.grammar.specs.Accepted.{max_rules};
 ghost use Rattle.grammar.specs.File.{header_bytes, rule_bytes, rule_count_of};
 ghost use Rattle.grammar.specs.inner.Checking.{Last};
-ghost use Rattle.grammar.specs.inner.Decoded.{left_in, first_in, second_in, DecodedRules};
+ghost use Rattle.grammar.specs.inner.Decoded.{left_in, first_in, second_in, all_words, DecodedRules, Pushed};
 
 use crate::file::{HEADER, RULE, rule_count, u16_at};
 use crate::limits::{EACH, WORDS};
@@ -11,65 +11,83 @@ use crate::limits::{EACH, WORDS};
 // What stands for the second symbol of a rule that has one symbol.
 pub const NONE: usize = 65535;
 
-// The decoded rules, and behind them their chains.
-pub type Rules = [u16; WORDS];
-
-// A word as a number to compute with.
-pub fn wide(word: u16) -> usize
-    ensures { (result ≡ word) × (result < 65536) }
-{
-    word as usize
+// The words of the rules, and behind them those of their chains. And how many rules there are.
+#[derive(Drop)]
+pub struct Rules {
+    pub words: [u16; WORDS],
+    pub count: usize,
 }
 
-// The left side of rule `r`.
-pub fn left(rules: &Rules, r: usize) -> usize
-    requires { r < max_rules }
-    ensures { (result ≡ left_in rules.now r) × (result < 65536) }
-{
-    wide(rules[EACH * r])
-}
-
-// The first symbol of rule `r`.
-pub fn first(rules: &Rules, r: usize) -> usize
-    requires { r < max_rules }
-    ensures { (result ≡ first_in rules.now r) × (result < 65536) }
-{
-    wide(rules[EACH * r + 1])
-}
-
-// The second symbol of rule `r`, or `NONE`.
-pub fn second(rules: &Rules, r: usize) -> usize
-    requires { r < max_rules }
-    ensures { (result ≡ second_in rules.now r) × (result < 65536) }
-{
-    wide(rules[EACH * r + 2])
-}
-
-// The last symbol on the right of rule `r`: the second, or the first where there is no second.
-pub fn last(rules: &Rules, r: usize) -> usize
-    requires { r < max_rules }
-    ensures { Last rules.now r result }
-{
-    let c = second(rules, r);
-    if c == NONE {
-        return first(rules, r);
+impl Rules {
+    // No rule, and every word 0.
+    pub fn new() -> Rules
+        ensures { (result.words ≡ replicate all_words 0) × (result.count ≡ 0) }
+    {
+        Rules {
+            words: [0; WORDS],
+            count: 0,
+        }
     }
-    c
+
+    // The left side of rule `r`.
+    pub fn left(&self, r: usize) -> usize
+        requires { r < max_rules }
+        ensures { (result ≡ left_in self.now.words r) × (result < 65536) }
+    {
+        usize::from(self.words[EACH * r])
+    }
+
+    // The first symbol of rule `r`.
+    pub fn first(&self, r: usize) -> usize
+        requires { r < max_rules }
+        ensures { (result ≡ first_in self.now.words r) × (result < 65536) }
+    {
+        usize::from(self.words[EACH * r + 1])
+    }
+
+    // The second symbol of rule `r`, or `NONE`.
+    pub fn second(&self, r: usize) -> usize
+        requires { r < max_rules }
+        ensures { (result ≡ second_in self.now.words r) × (result < 65536) }
+    {
+        usize::from(self.words[EACH * r + 2])
+    }
+
+    // The last symbol on the right of rule `r`: the second, or the first where there is no second.
+    pub fn last(&self, r: usize) -> usize
+        requires { r < max_rules }
+        ensures { Last self.now.words r result }
+    {
+        let c = self.second(r);
+        if c == NONE {
+            return self.first(r);
+        }
+        c
+    }
+
+    // One rule more, behind the others.
+    pub fn push(&mut self, left: usize, first: usize, second: usize)
+        requires { (self.old.count < max_rules) × (length self.old.words ≡ all_words) × (left < 65536) × (first < 65536) × (second < 65536) }
+        ensures { Pushed self.old left first second self.new }
+    {
+        let at = EACH * self.count;
+        self.words[at] = left as u16;
+        self.words[at + 1] = first as u16;
+        self.words[at + 2] = second as u16;
+        self.count += 1;
+    }
 }
 
 // The rules of a file that is whole and has few enough.
 pub fn decode(file: &[u8]) -> Rules
     requires { (header_bytes + rule_bytes * rule_count_of file.now ≤ length file.now)
         × (rule_count_of file.now ≤ max_rules) }
-    ensures { DecodedRules file.now result }
+    ensures { DecodedRules file.now result.words × (result.count ≡ rule_count_of file.now) }
 {
-    let mut rules = [0; WORDS];
-    let count = rule_count(file);
-    for r in 0..count {
+    let mut rules = Rules::new();
+    for r in 0..rule_count(file) {
         let at = HEADER + RULE * r;
-        rules[EACH * r] = u16_at(file, at) as u16;
-        rules[EACH * r + 1] = u16_at(file, at + 2) as u16;
-        rules[EACH * r + 2] = u16_at(file, at + 4) as u16;
+        rules.push(u16_at(file, at), u16_at(file, at + 2), u16_at(file, at + 4));
     }
     rules
 }

@@ -1,8 +1,10 @@
 -- Rules in words: three words a rule, left side, first and second; behind them chains of the rules that begin alike.
-use Rattle.std.specs.Prelude.{◌≡◌, List, [], ◌∷◌, ℕ, zero, suc, ◌+◌, ◌-◌, ◌*◌, ◌≤◌, ◌<◌, length, get_or}
+use Rattle.std.specs.Prelude.{◌≡◌, List, [], ◌∷◌, ◌++◌, ℕ, zero, suc, ◌+◌, ◌-◌, ◌*◌, ◌≤◌, ◌<◌, length, get_or}
 use Rattle.grammar.specs.Rules.{Rule, Grammar}
 use Rattle.grammar.specs.Accepted.{max_symbols, max_rules}
 use Rattle.grammar.specs.File.{symbols_of, tokens_of, rule_count_of, grammar_of}
+use Rattle.grammar.specs.declared.rules.Rules.{Rules}
+use Rattle.grammar.specs.declared.Grammar as held
 
 -- The words of a rule.
 abbrev pub rule_words : ℕ
@@ -30,6 +32,13 @@ rules_in words count = rules_behind words 0 count
 -- The grammar with these numbers of symbols and tokens and the first `count` rules.
 abbrev pub grammar_in : List ℕ → ℕ → ℕ → ℕ → Grammar
 grammar_in words symbols tokens count = record { symbols = symbols; tokens = tokens; rules = rules_in words count }
+
+-- The rules that words hold with their count, and the grammar.
+abbrev pub rules_of : Rules → List Rule
+rules_of r = rules_in r.words r.count
+
+abbrev pub decoded : held.Grammar → Grammar
+decoded g = grammar_in g.rules.words g.symbols g.tokens g.rules.count
 
 -- Behind the rules a word for each rule, then one for each symbol.
 abbrev pub nexts_at : ℕ
@@ -70,6 +79,14 @@ pub record DecodedRules (bytes words : List ℕ) : Type 0 where
   pub rules : grammar_in words (symbols_of bytes) (tokens_of bytes) (rule_count_of bytes) ≡ grammar_of bytes
   pub rest : (i : ℕ) → rule_words * rule_count_of bytes ≤ i → get_or words i 0 ≡ 0
 
+-- One rule more behind the others. The words of the others stay, and those behind it.
+pub record Pushed (before : Rules) (left first second : ℕ) (after : Rules) : Type 0 where
+  pub counted : after.count ≡ before.count + 1
+  pub long : length after.words ≡ all_words
+  pub listed : rules_of after ≡ rules_of before ++ record { left = left; first = first; second = second } ∷ []
+  pub kept : (i : ℕ) → i < rule_words * before.count → get_or after.words i 0 ≡ get_or before.words i 0
+  pub rest : (i : ℕ) → rule_words * after.count ≤ i → get_or after.words i 0 ≡ get_or before.words i 0
+
 -- The chains of the first `count` rules are put into words, and nothing else.
 pub record Links (count : ℕ) (before words : List ℕ) : Type 0 where
   pub long : length words ≡ all_words
@@ -85,7 +102,14 @@ pub record HoldsRules (bytes words : List ℕ) : Type 0 where
   pub chained : Chained words (rule_count_of bytes)
   pub chained_rest : (r : ℕ) → rule_count_of bytes ≤ r → r < max_rules → next_in words r ≡ 0
 
--- The words that a check is lent hold the rules of an accepted file and their chains; of any other they stay as they were.
-pub record Decodes (bytes : List ℕ) (number : ℕ) (before words : List ℕ) : Type 0 where
-  pub accepted : number ≡ 0 → HoldsRules bytes words
-  pub refused : (number ≡ 0 → ⊥) → words ≡ before
+-- A grammar holds a file: its numbers, its rules and their chains.
+pub record HoldsFile (bytes : List ℕ) (g : held.Grammar) : Type 0 where
+  pub symbols : g.symbols ≡ symbols_of bytes
+  pub tokens : g.tokens ≡ tokens_of bytes
+  pub count : g.rules.count ≡ rule_count_of bytes
+  pub words : HoldsRules bytes g.rules.words
+
+-- The grammar that a check is lent holds an accepted file; of any other it stays as it was.
+pub record Decodes (bytes : List ℕ) (number : ℕ) (before after : held.Grammar) : Type 0 where
+  pub accepted : number ≡ 0 → HoldsFile bytes after
+  pub refused : (number ≡ 0 → ⊥) → after ≡ before

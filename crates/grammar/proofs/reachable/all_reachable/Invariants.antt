@@ -1,17 +1,13 @@
 -- `grammar::reachable::all_reachable` meets its contract. The invariants: `Reaching`, that every mark is right, and `Spreading`, what a round has marked so far; the number of symbols not marked falls.
 use Rattle.grammar.proofs.Rounds.{unmarked}
 use Rattle.grammar.proofs.Reachability.{Reaching, Spreading}
-use Prim.Native.Nat.{◌-◌}
 use Rattle.grammar.proofs.reachable.all_reachable.Given as goal
 
 abbrev pub invariant-loop-r-2 : goal.invariant-loop-r-2
-invariant-loop-r-2 l = Spreading l.rules l.n l.t l.count l.initial.marks l.marks l.marked l.r
-
-abbrev pub decreases-loop-r-2 : goal.decreases-loop-r-2
-decreases-loop-r-2 l = l.count - l.r
+invariant-loop-r-2 l = Spreading l.rules.words l.grammar.symbols l.grammar.tokens l.rules.count l.initial.marks l.marks l.marked l.r
 
 abbrev pub invariant-loop-r : goal.invariant-loop-r
-invariant-loop-r l = Reaching l.rules l.n l.t l.count l.marks
+invariant-loop-r l = Reaching l.rules.words l.grammar.symbols l.grammar.tokens l.rules.count l.marks
 
 abbrev pub decreases-loop-r : goal.decreases-loop-r
 decreases-loop-r l = unmarked l.marks

@@ -1,6 +1,6 @@
--- `grammar::rules::last` meets its contract.
+-- `grammar::rules::Rules::last` meets its contract.
 use mathlib.Core.Path.{sym, ◌∙◌}
-use Rattle.grammar.proofs.rules.last.Goals as goal
+use Rattle.grammar.proofs.rules.Rules.last.Goals as goal
 
 pub returns-then-c-eq-NONE : goal.returns-then-c-eq-NONE
 returns-then-c-eq-NONE c = record {
