@@ -1,62 +1,58 @@
 -- What an answer of push or pop tells.
-use mathlib.Core.Path.{◌≡◌}
-use mathlib.Core.List.{List}
-use Prim.Native.Nat.{ℕ, ◌+◌, ◌-◌, ◌≤◌, ◌<◌}
-use native.Mathlib.Omega.{arith}
+use Rattle.std.proofs.Common.{◌≡◌, ℕ, ◌+◌, ◌-◌, ◌≤◌, ◌<◌, List, Some, None, ap, arith}
 use lib.Dec.{ltb}
 use borrow.Author.Tests.{ltb-true, ltb-false}
 use Rattle.laws.proofs.Tests.{either_way}
 use Rattle.binary_heap.specs.Entry.{Entry}
 use Rattle.binary_heap.specs.Heap.{top}
 use Rattle.binary_heap.specs.Queue.{push_answer, pop_answer}
-use Rattle.binary_heap.specs.declared.Pushed.TheVariants.{Full, Count}
-use Rattle.binary_heap.specs.declared.Popped.TheVariants as pops
 
--- Full: the queue has its capacity.
-pub full-tells : (capacity n : ℕ) → push_answer capacity n ≡ Full → capacity ≤ n
+-- None: the queue has its capacity.
+pub full-tells : (capacity n : ℕ) → push_answer capacity n ≡ None → capacity ≤ n
 unfolding push_answer
 full-tells capacity n full =
     either_way (ltb n capacity)
     (λ e.
-    let answer : Count (n + 1) ≡ Full = rw (push_answer, e) at full in
+    let answer : Some (n + 1) ≡ None = rw (push_answer, e) at full in
     let never : ◌≡◌ {A = ℕ} 0 1 = cc in
     absurd (omega arith))
     (λ e. ltb-false n capacity e)
 
--- A count: there was room, and there is one entry more.
-pub count-tells : (capacity n m : ℕ) → push_answer capacity n ≡ Count m → (n < capacity) × (m ≡ n + 1)
+-- A number: there was room, and there is one entry more.
+pub count-tells : (capacity n m : ℕ) → push_answer capacity n ≡ Some m → (n < capacity) × (m ≡ n + 1)
 unfolding push_answer
 count-tells capacity n m count =
     either_way (ltb n capacity)
     (λ e.
-    let answer : Count (n + 1) ≡ Count m = rw (push_answer, e) at count in
+    let answer : Some (n + 1) ≡ Some m = rw (push_answer, e) at count in
     (ltb-true n capacity e, cc))
     (λ e.
-    let answer : Full ≡ Count m = rw (push_answer, e) at count in
+    let answer : None ≡ Some m = rw (push_answer, e) at count in
     let never : ◌≡◌ {A = ℕ} 0 1 = cc in
     absurd (omega arith))
 
--- Empty: there is no entry.
-pub pop_empty_tells : (q : List Entry) (n : ℕ) → pop_answer q n ≡ pops.Empty → n ≡ 0
+-- None: there is no entry.
+pub pop_empty_tells : (q : List Entry) (n : ℕ) → pop_answer q n ≡ None → n ≡ 0
 unfolding pop_answer
 pop_empty_tells q n empty =
     either_way (ltb 0 n)
     (λ e.
-    let answer : pops.Entry (top q).place (top q).right (n - 1) ≡ pops.Empty = rw (pop_answer, e) at empty in
+    let answer : Some (top q, n - 1) ≡ None = rw (pop_answer, e) at empty in
     let never : ◌≡◌ {A = ℕ} 0 1 = cc in
     absurd (omega arith))
     (λ e. omega (arith, ltb-false 0 n e))
 
 -- An entry: it is the one at the root.
-pub pop_entry_tells : (q : List Entry) (n place right left : ℕ) → pop_answer q n ≡ pops.Entry place right left
-    → (0 < n) × (place ≡ (top q).place) × (right ≡ (top q).right) × (left ≡ n - 1)
+pub pop_entry_tells : (q : List Entry) (n : ℕ) (entry : Entry) (left : ℕ) → pop_answer q n ≡ Some (entry, left)
+    → (0 < n) × (entry ≡ top q) × (left ≡ n - 1)
 unfolding pop_answer
-pop_entry_tells q n place right left there =
+pop_entry_tells q n entry left there =
     either_way (ltb 0 n)
     (λ e.
-    let answer : pops.Entry (top q).place (top q).right (n - 1) ≡ pops.Entry place right left = rw (pop_answer, e) at there in
-    (ltb-true 0 n e, cc, cc, cc))
+    let answer : Some (top q, n - 1) ≡ Some (entry, left) = rw (pop_answer, e) at there in
+    let same : (entry, left) ≡ (top q, n - 1) = cc in
+    (ltb-true 0 n e, ap (λ (p : Entry × ℕ). p.0) same, ap (λ (p : Entry × ℕ). p.1) same))
     (λ e.
-    let answer : pops.Empty ≡ pops.Entry place right left = rw (pop_answer, e) at there in
+    let answer : None ≡ Some (entry, left) = rw (pop_answer, e) at there in
     let never : ◌≡◌ {A = ℕ} 0 1 = cc in
     absurd (omega arith))

@@ -7,39 +7,32 @@ ghost use Rattle.binary_heap.specs.Sift.{entry_at};
 // The words that an entry takes.
 pub const ENTRY_WORDS: usize = 2;
 
-// The place that the entry at `pos` names.
-pub fn place(queue: &[u32], pos: usize) -> u32
-    requires { pos < length (entries_in queue.now) }
-    ensures { result ≡ (entry_at (entries_in queue.now) pos).place }
-{
-    queue[ENTRY_WORDS * pos]
+// An entry: the place of an item, and the handle of the node of the symbol behind its dot.
+#[derive(Clone, Copy, PartialEq, Eq)]
+pub struct Entry {
+    pub place: u32,
+    pub right: u32,
 }
 
-// The right factor of the entry at `pos`.
-pub fn right(queue: &[u32], pos: usize) -> u32
+// The entry that words of 0 hold.
+pub const NO_ENTRY: Entry = Entry { place: 0, right: 0 };
+
+// The entry at `pos`.
+pub fn read(queue: &[u32], pos: usize) -> Entry
     requires { pos < length (entries_in queue.now) }
-    ensures { result ≡ (entry_at (entries_in queue.now) pos).right }
+    ensures { result ≡ entry_at (entries_in queue.now) pos }
 {
-    queue[ENTRY_WORDS * pos + 1]
+    Entry {
+        place: queue[ENTRY_WORDS * pos],
+        right: queue[ENTRY_WORDS * pos + 1],
+    }
 }
 
 // Stores an entry at `pos`.
-pub fn write(queue: &mut [u32], pos: usize, place: u32, right: u32)
+pub fn write(queue: &mut [u32], pos: usize, entry: Entry)
     requires { pos < length (entries_in queue.old) }
-    ensures { entries_in queue.new
-        ≡ set (entries_in queue.old) pos (record { place = place; right = right }) }
+    ensures { entries_in queue.new ≡ set (entries_in queue.old) pos entry }
 {
-    queue[ENTRY_WORDS * pos] = place;
-    queue[ENTRY_WORDS * pos + 1] = right;
-}
-
-// The entry at `next` steps into `pos`.
-pub fn step(queue: &mut [u32], pos: usize, next: usize)
-    requires { (pos < length (entries_in queue.old)) × (next < length (entries_in queue.old)) }
-    ensures { entries_in queue.new
-        ≡ set (entries_in queue.old) pos (entry_at (entries_in queue.old) next) }
-{
-    let moved = place(queue, next);
-    let moved_right = right(queue, next);
-    write(queue, pos, moved, moved_right);
+    queue[ENTRY_WORDS * pos] = entry.place;
+    queue[ENTRY_WORDS * pos + 1] = entry.right;
 }

@@ -27,4 +27,4 @@ pub bounds-queue-pos-2 : goal.bounds-queue-pos-2
 bounds-queue-pos-2 c = simp length-set (omega (arith, c.requires, held-length c.args.queue.now))
 
 pub returns : goal.returns
-returns c = held-set c.args.queue.now c.args.pos c.args.place c.args.right
+returns c = held-set c.args.queue.now c.args.pos c.args.entry.place c.args.entry.right
