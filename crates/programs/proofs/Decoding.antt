@@ -1,11 +1,11 @@
 -- Bytes as tokens: how many there are, those of two stretches, and the words that hold them.
 use mathlib.Core.Path.{◌≡◌, refl, sym, ap, subst, ◌∙◌}
 use mathlib.Core.List.{List, [], ◌∷◌, ◌++◌, append-nil, append_assoc}
-use Prim.Native.Nat.{ℕ, suc, ◌+◌, ◌-◌, ◌*◌, ◌≤◌, ◌<◌}
+use Prim.Native.Nat.{ℕ, suc, ◌+◌, ◌-◌, ◌*◌, ◌≤◌, ◌<◌, min}
 use native.Mathlib.Omega.{arith}
-use lib.ListN.{length, take, drop, set, get_or, length-set, drop_of_length-le}
-use lib.Seq.{take-suc-set, drop-cons, length-take-le}
-use Rattle.io.specs.Counts.{IsPrefixLen}
+use lib.ListN.{length, take, set, get_or, length-set, length-append}
+use lib.Seq.{take-suc-set, length-take-le}
+use Rattle.std.specs.Int.{div_ceil}
 use Rattle.programs.specs.Tokens.{foreign, tokens_of}
 
 -- Tokens are half as many as bytes, a lone one counted whole.
@@ -33,15 +33,27 @@ tokens-join (lone ∷ []) b even = absurd (omega (arith, even.is))
 tokens-join (high ∷ (low ∷ rest)) b even =
     ap (λ (l : List ℕ). (high * 256 + low) ∷ l) (tokens-join rest b (record { half = even.half - 1; is = omega (arith, even.is) }))
 
--- The tokens of the first `i` pairs stand in the words, and with those of the bytes behind they are all; there is room for them.
-pub record Decoded (bytes words₀ : List ℕ) (i : ℕ) (words : List ℕ) : Type 0 where
+-- A whole token's bytes are alone, and a lone one is.
+pub two_bytes : (pair : List ℕ) (t : ℕ) → length pair ≡ 2 → t ≡ get_or pair 0 0 * 256 + get_or pair 1 0 → tokens_of pair ≡ t ∷ []
+unfolding tokens_of
+two_bytes [] t two is = absurd (omega (arith, two))
+two_bytes (lone ∷ []) t two is = absurd (omega (arith, two))
+two_bytes (high ∷ (low ∷ [])) t two is = ap (λ (x : ℕ). x ∷ []) (sym is)
+two_bytes (high ∷ (low ∷ (more ∷ rest))) t two is = absurd (omega (arith, two))
+
+pub one_byte : (pair : List ℕ) → length pair ≡ 1 → tokens_of pair ≡ foreign ∷ []
+unfolding tokens_of
+one_byte [] one = absurd (omega (arith, one))
+one_byte (lone ∷ []) one = refl
+one_byte (high ∷ (low ∷ rest)) one = absurd (omega (arith, one))
+
+-- The tokens of the `i` pairs passed stand in the words, and with those of the bytes behind they are all; there is room for them.
+pub record Decoded (bytes words₀ : List ℕ) (size : ℕ) (rest : List ℕ) (i : ℕ) (words : List ℕ) : Type 0 where
+  pub pairs : size ≡ 2
   pub long : length words ≡ length words₀
   pub room : length bytes ≤ 2 * length words₀
-  pub within : 2 * i ≤ length bytes
-  pub same : take i words ++ tokens_of (drop (2 * i) bytes) ≡ tokens_of bytes
-
-pub decoded-start : (bytes words : List ℕ) → length bytes ≤ 2 * length words → Decoded bytes words 0 words
-decoded-start bytes words fits = record { long = refl; room = fits; within = omega arith; same = refl }
+  pub within : i ≤ length words
+  pub same : take i words ++ tokens_of rest ≡ tokens_of bytes
 
 -- A token put behind others.
 one_put : (words : List ℕ) (i t : ℕ) → i < length words → take (i + 1) (set words i t) ≡ take i words ++ (t ∷ [])
@@ -49,66 +61,56 @@ one_put words i t low =
     let next : suc i ≡ i + 1 = omega arith in
     subst (λ (k : ℕ). take k (set words i t) ≡ take i words ++ (t ∷ [])) next (take-suc-set words i t low)
 
-put-before : (words : List ℕ) (i t : ℕ) (rest : List ℕ) → i < length words → take (i + 1) (set words i t) ++ rest ≡ take i words ++ (t ∷ rest)
-put-before words i t rest low = ap (λ (l : List ℕ). l ++ rest) (one_put words i t low) ∙ append_assoc (take i words) (t ∷ []) rest
+-- How many tokens are passed and left.
+tokens-counted : {bytes words₀ rest words : List ℕ} {size i : ℕ} → Decoded bytes words₀ size rest i words → i + length (tokens_of rest) ≡ length (tokens_of bytes)
+tokens-counted {bytes} {words₀} {rest} {words} {size} {i} d =
+    omega (arith, length-append (take i words) (tokens_of rest), length-take-le i words d.within, ap length d.same)
 
--- The pair at which the next token stands.
-two_left :
-    (bytes : List ℕ) (i : ℕ) → 2 * i + 2 ≤ length bytes
-    → drop (2 * i) bytes ≡ get_or bytes (2 * i) 0 ∷ (get_or bytes (2 * i + 1) 0 ∷ drop (2 * (i + 1)) bytes)
-two_left bytes i low =
-    let one : suc (2 * i) ≡ 2 * i + 1 = omega arith in
-    let two : suc (2 * i + 1) ≡ 2 * (i + 1) = omega arith in
-    drop-cons bytes (2 * i) 0 (omega (arith, low))
-    ∙ ap (λ (n : ℕ). get_or bytes (2 * i) 0 ∷ drop n bytes) one
-    ∙ ap (λ (l : List ℕ). get_or bytes (2 * i) 0 ∷ l)
-    (drop-cons bytes (2 * i + 1) 0 (omega (arith, low)) ∙ ap (λ (n : ℕ). get_or bytes (2 * i + 1) 0 ∷ drop n bytes) two)
-
--- The lone byte.
-one_left : (bytes : List ℕ) (i : ℕ) → length bytes ≡ 2 * i + 1 → drop (2 * i) bytes ≡ get_or bytes (2 * i) 0 ∷ []
-one_left bytes i odd =
-    drop-cons bytes (2 * i) 0 (omega (arith, odd))
-    ∙ ap (λ (l : List ℕ). get_or bytes (2 * i) 0 ∷ l) (drop_of_length-le bytes {i = suc (2 * i)} (omega (arith, odd)))
-
-pub decoded-next :
-    (bytes words₀ words : List ℕ) (i t : ℕ) → Decoded bytes words₀ i words → 2 * i + 2 ≤ length bytes
-    → t ≡ get_or bytes (2 * i) 0 * 256 + get_or bytes (2 * i + 1) 0 → Decoded bytes words₀ (i + 1) (set words i t)
+-- The first pair of the bytes that are left is its token.
+pair-front :
+    (pair rest : List ℕ) (t : ℕ) → tokens_of pair ≡ t ∷ [] → length pair ≡ min 2 (length (pair ++ rest)) → 0 < length pair
+    → tokens_of (pair ++ rest) ≡ t ∷ tokens_of rest
 unfolding tokens_of
-decoded-next bytes words₀ words i t d low is =
-    record {
+pair-front [] rest t is least some = absurd (omega (arith, some))
+pair-front (lone ∷ []) [] t is least some = is
+pair-front (lone ∷ []) (one ∷ more) t is least some = absurd (omega (arith, least))
+pair-front (high ∷ (low ∷ [])) rest t is least some = ap (λ (l : List ℕ). l ++ tokens_of rest) is
+pair-front (high ∷ (low ∷ (one ∷ more))) rest t is least some = absurd (omega (arith, least))
+
+-- The token of the next pair is put behind those of the pairs passed.
+pub decoded-next :
+    {bytes words₀ words rest : List ℕ} {size i : ℕ} (pair more : List ℕ) (size' k next t : ℕ) → Decoded bytes words₀ size rest i words
+    → size' ≡ size → rest ≡ pair ++ more → length pair ≡ min size (length rest) → 0 < length rest → k ≡ i → next ≡ i + 1 → tokens_of pair ≡ t ∷ []
+    → Decoded bytes words₀ size' more next (set words k t)
+decoded-next {bytes} {words₀} {words} {rest} {size} {i} pair more size' k next t d kept split least some here behind is =
+    subst (λ (n : ℕ). Decoded bytes words₀ size' more n (set words k t)) (sym behind) (subst (λ (n : ℕ). Decoded bytes words₀ size' more (i + 1) (set words n t)) (sym here) put)
+  where
+    front : tokens_of rest ≡ t ∷ tokens_of more
+    front =
+        ap tokens_of split
+        ∙ pair-front pair more t is (subst (λ (l : List ℕ). length pair ≡ min 2 (length l)) split (omega (arith, least, d.pairs))) (omega (arith, least, d.pairs, some))
+
+    low : i < length words
+    low = omega (arith, tokens-counted d, ap length front, (halves bytes).few, d.room, d.long)
+
+    put : Decoded bytes words₀ size' more (i + 1) (set words i t)
+    put = record {
+      pairs = kept ∙ d.pairs;
       long = length-set words i t ∙ d.long;
       room = d.room;
-      within = omega (arith, low);
+      within = omega (arith, low, length-set words i t);
       same =
-          put-before words i t (tokens_of (drop (2 * (i + 1)) bytes)) (omega (arith, d.long, d.room, low))
-          ∙ ap (λ (x : ℕ). take i words ++ (x ∷ tokens_of (drop (2 * (i + 1)) bytes))) is
-          ∙ ap (λ (l : List ℕ). take i words ++ tokens_of l) (sym (two_left bytes i low))
+          ap (λ (l : List ℕ). l ++ tokens_of more) (one_put words i t low) ∙ append_assoc (take i words) (t ∷ []) (tokens_of more)
+          ∙ ap (λ (l : List ℕ). take i words ++ l) (sym front)
           ∙ d.same;
     }
 
--- The same where the loop's counter has come to the number of pairs.
-pub decoded_at : {bytes words₀ words : List ℕ} {i n : ℕ} → Decoded bytes words₀ i words → i ≡ n → Decoded bytes words₀ n words
-decoded_at {bytes} {words₀} {words} d is = subst (λ (k : ℕ). Decoded bytes words₀ k words) is d
-
-counted : (words : List ℕ) (n : ℕ) → n ≤ length words → IsPrefixLen n words
-counted words n fits = (fits, sym (length-take-le n words fits))
-
--- No byte is left, ..
-pub decoded_even :
-    (bytes words₀ words : List ℕ) (i : ℕ) → Decoded bytes words₀ i words → length bytes ≡ 2 * i → IsPrefixLen i words × (take i words ≡ tokens_of bytes)
+-- No byte is left: the words hold all tokens.
+pub decoded-all :
+    {bytes words₀ rest words : List ℕ} {size i : ℕ} (n : ℕ) → Decoded bytes words₀ size rest i words → length rest ≡ 0 → n ≡ div_ceil (length bytes) 2
+    → take n words ≡ tokens_of bytes
 unfolding tokens_of
-decoded_even bytes words₀ words i d even = (
-  counted words i (omega (arith, d.long, d.room, even)),
-  sym (append-nil (take i words)) ∙ ap (λ (l : List ℕ). take i words ++ tokens_of l) (sym (drop_of_length-le bytes {i = 2 * i} (omega (arith, even)))) ∙ d.same,
-)
-
--- .. or one.
-pub decoded_odd :
-    (bytes words₀ words : List ℕ) (i : ℕ) → Decoded bytes words₀ i words → length bytes ≡ 2 * i + 1
-    → IsPrefixLen (i + 1) (set words i foreign) × (take (i + 1) (set words i foreign) ≡ tokens_of bytes)
-unfolding tokens_of
-decoded_odd bytes words₀ words i d odd =
-    let low : i < length words = omega (arith, d.long, d.room, odd) in (
-      counted (set words i foreign) (i + 1) (omega (arith, low, length-set words i foreign)),
-      one_put words i foreign low ∙ ap (λ (l : List ℕ). take i words ++ tokens_of l) (sym (one_left bytes i odd)) ∙ d.same,
-    )
+decoded-all {bytes = bytes} {rest = []} {words = words} {i = i} n d none is =
+    let all : n ≡ i = omega (arith, is, tokens-counted d, halves bytes) in
+    ap (λ (k : ℕ). take k words) all ∙ sym (append-nil (take i words)) ∙ d.same
+decoded-all {rest = one ∷ more} n d none is = absurd (omega (arith, none))

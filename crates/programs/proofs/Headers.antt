@@ -9,8 +9,8 @@ use lib.Seq.{length-take-le, get_or-take, take-take, take_at}
 use Rattle.io.specs.Counts.{IsPrefixLen}
 use Rattle.grammar.specs.Accepted.{max_rules}
 use Rattle.grammar.specs.File.{header_bytes, rule_bytes, u16_at, version_of, length_of, rule_count_of}
-use Rattle.programs.specs.declared.header.Header.{Header}
-use Rattle.programs.specs.declared.header.Header.TheVariants.{Length}
+use Rattle.std.specs.Prelude.{Result, Ok}
+use Rattle.grammar.specs.declared.Fault.{Fault}
 use Rattle.programs.specs.Header.{longest_file, Wrong, Says, Judged, ReadTo}
 use Rattle.programs.specs.Header.Wrong.{short, version, told_length}
 use Rattle.programs.specs.Header.Says.{malformed, broken, whole}
@@ -25,18 +25,18 @@ not_wrong bytes long one told (told_length h) = h told
 
 -- Such a header with few rules gives its length.
 pub gives-length :
-    (bytes : List ℕ) (n : ℕ) → (Wrong bytes → ⊥) → rule_count_of bytes ≤ max_rules → n ≡ length_of bytes → Says bytes (Length n)
-gives-length bytes n right few is = subst (λ (m : ℕ). Says bytes (Length m)) (sym is) (whole right few)
+    (bytes : List ℕ) (n : ℕ) → (Wrong bytes → ⊥) → rule_count_of bytes ≤ max_rules → n ≡ length_of bytes → Says bytes (Ok n)
+gives-length bytes n right few is = subst (λ (m : ℕ). Says bytes (Ok m)) (sym is) (whole right few)
 
 -- What a header says does not depend on how it is written.
-pub says_same : {bytes : List ℕ} {h k : Header} → h ≡ k → Says bytes h → Says bytes k
-says_same {bytes} same says = subst (λ (x : Header). Says bytes x) same says
+pub says_same : {bytes : List ℕ} {h k : Result ℕ Fault} → h ≡ k → Says bytes h → Says bytes k
+says_same {bytes} same says = subst (λ (x : Result ℕ Fault). Says bytes x) same says
 
-pub judged_same : {bytes : List ℕ} {h k : Header} → h ≡ k → Judged bytes h → Judged bytes k
-judged_same {bytes} same judged = subst (λ (x : Header). Judged bytes x) same judged
+pub judged_same : {bytes : List ℕ} {h k : Result ℕ Fault} → h ≡ k → Judged bytes h → Judged bytes k
+judged_same {bytes} same judged = subst (λ (x : Result ℕ Fault). Judged bytes x) same judged
 
 -- A whole file came.
-pub whole-fits : (bytes : List ℕ) {l : ℕ} → Judged bytes (Length l) → l ≤ length bytes
+pub whole-fits : (bytes : List ℕ) {l : ℕ} → Judged bytes (Ok l) → l ≤ length bytes
 whole-fits bytes (Judged.whole says enough) = enough
 
 -- What a header says stands in its first eleven bytes.
@@ -55,11 +55,11 @@ module _ (a b : List ℕ) (long-b : header_bytes ≤ length b) (same : take head
   wrong_same (version h) = version (λ one. h (sym (byte_same 0 (omega arith)) ∙ one))
   wrong_same (told_length h) = told_length (λ is. h (omega (arith, is, length-same, pair_same 9 (omega arith))))
 
-  pub says-length : {n : ℕ} → Says a (Length n) → Says b (Length n)
+  pub says-length : {n : ℕ} → Says a (Ok n) → Says b (Ok n)
   says-length (whole right few) = gives-length b _ (λ wrong. right (wrong_same wrong)) (omega (arith, few, pair_same 9 (omega arith))) length-same
 
 -- The length lies between the header's and that of the most rules.
-pub told_bounds : (bytes : List ℕ) (n : ℕ) → Says bytes (Length n) → (header_bytes ≤ n) × (n ≤ longest_file)
+pub told_bounds : (bytes : List ℕ) (n : ℕ) → Says bytes (Ok n) → (header_bytes ≤ n) × (n ≤ longest_file)
 told_bounds bytes n (whole right few) =
     elim (ℕ_discrete (length_of bytes) (header_bytes + rule_bytes * rule_count_of bytes)) [
       | yes e ↦ (omega (arith, e), omega (arith, e, few))
@@ -67,7 +67,7 @@ told_bounds bytes n (whole right few) =
     ]
 
 -- A header that tells its length is all there.
-header-there : (bytes : List ℕ) {n : ℕ} → Says bytes (Length n) → header_bytes ≤ length bytes
+header-there : (bytes : List ℕ) {n : ℕ} → Says bytes (Ok n) → header_bytes ≤ length bytes
 header-there bytes (whole right few) =
     elim (dec_lt (length bytes) header_bytes) [
       | yes h ↦ absurd (right (short h))
@@ -88,7 +88,7 @@ read-header front behind n long low =
 
 -- or a header and what it asks for.
 pub read-rest :
-    (file part behind : List ℕ) (first more : ℕ) {l : ℕ} → first ≤ header_bytes → header_bytes ≤ length file → Says (take first file) (Length l)
+    (file part behind : List ℕ) (first more : ℕ) {l : ℕ} → first ≤ header_bytes → header_bytes ≤ length file → Says (take first file) (Ok l)
     → header_bytes + length part ≡ l → more ≤ length part
     → IsPrefixLen (header_bytes + more) (take header_bytes file ++ (part ++ behind)) × ReadTo (take (header_bytes + more) (take header_bytes file ++ (part ++ behind)))
 read-rest file part behind first more {l} few long says is low =
@@ -117,7 +117,7 @@ too_many : {n : ℕ} → max_rules < n → n ≤ max_rules → ⊥
 too_many m f = omega (arith, m, f)
 
 -- Two answers to one header agree.
-pub says_one : (bytes : List ℕ) (h k : Header) → Says bytes h → Says bytes k → h ≡ k
+pub says_one : (bytes : List ℕ) (h k : Result ℕ Fault) → Says bytes h → Says bytes k → h ≡ k
 says_one bytes h k (malformed w) (malformed v) = refl
 says_one bytes h k (malformed w) (broken r m) = absurd (r w)
 says_one bytes h k (malformed w) (whole r f) = absurd (r w)
@@ -129,27 +129,20 @@ says_one bytes h k (whole r f) (broken q n) = absurd (too_many n f)
 says_one bytes h k (whole r f) (whole q g) = refl
 
 -- No file is cut and whole.
-cut-and-whole : (bytes : List ℕ) {l m : ℕ} → Says bytes (Length l) → Says bytes (Length m) → length bytes < l → m ≤ length bytes → ⊥
+cut-and-whole : (bytes : List ℕ) {l m : ℕ} → Says bytes (Ok l) → Says bytes (Ok m) → length bytes < l → m ≤ length bytes → ⊥
 cut-and-whole bytes {l} {m} a b fewer enough =
-    let both = says_one bytes (Length l) (Length m) a b in
+    let both = says_one bytes (Ok l) (Ok m) a b in
     let same : l ≡ m = cc in
     omega (arith, same, fewer, enough)
 
 -- Two answers to the bytes that came agree.
-pub judged_one : (bytes : List ℕ) (h k : Header) → Judged bytes h → Judged bytes k → h ≡ k
-judged_one bytes h k (Judged.malformed a) (Judged.malformed b) = refl
-judged_one bytes h k (Judged.malformed a) (Judged.broken b) = says_one bytes h k a b
-judged_one bytes h k (Judged.malformed a) (Judged.cut b fewer) = refl
-judged_one bytes h k (Judged.malformed a) (Judged.whole b enough) = says_one bytes h k a b
-judged_one bytes h k (Judged.broken a) (Judged.malformed b) = says_one bytes h k a b
-judged_one bytes h k (Judged.broken a) (Judged.broken b) = refl
-judged_one bytes h k (Judged.broken a) (Judged.cut {l} b fewer) = cc (says_one bytes h (Length l) a b)
-judged_one bytes h k (Judged.broken a) (Judged.whole b enough) = says_one bytes h k a b
-judged_one bytes h k (Judged.cut a fewer) (Judged.malformed b) = refl
-judged_one bytes h k (Judged.cut {l} a fewer) (Judged.broken b) = cc (says_one bytes (Length l) k a b)
+pub judged_one : (bytes : List ℕ) (h k : Result ℕ Fault) → Judged bytes h → Judged bytes k → h ≡ k
+judged_one bytes h k (Judged.refused a) (Judged.refused b) = says_one bytes h k a b
+judged_one bytes h k (Judged.refused a) (Judged.cut {l} b fewer) = cc (says_one bytes h (Ok l) a b)
+judged_one bytes h k (Judged.refused a) (Judged.whole b enough) = says_one bytes h k a b
+judged_one bytes h k (Judged.cut {l} a fewer) (Judged.refused b) = cc (says_one bytes (Ok l) k a b)
 judged_one bytes h k (Judged.cut a fewer) (Judged.cut b less) = refl
 judged_one bytes h k (Judged.cut a fewer) (Judged.whole b enough) = absurd (cut-and-whole bytes a b fewer enough)
-judged_one bytes h k (Judged.whole a enough) (Judged.malformed b) = says_one bytes h k a b
-judged_one bytes h k (Judged.whole a enough) (Judged.broken b) = says_one bytes h k a b
+judged_one bytes h k (Judged.whole a enough) (Judged.refused b) = says_one bytes h k a b
 judged_one bytes h k (Judged.whole a enough) (Judged.cut b fewer) = absurd (cut-and-whole bytes b a fewer enough)
 judged_one bytes h k (Judged.whole a enough) (Judged.whole b more) = says_one bytes h k a b

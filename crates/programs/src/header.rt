@@ -4,40 +4,30 @@ ghost use Rattle.io.specs.Counts.{IsPrefixLen};
 ghost use Rattle.programs.specs.Header.{longest_file, Says, Judged, ReadTo};
 
 use crate::reading::read_full;
-use grammar::file::{HEADER, RULE, VERSION, rule_count, u32_at, wide};
+use grammar::Fault;
+use grammar::file::{HEADER, RULE, VERSION, rule_count, u32_at};
 use grammar::limits::RULES;
 use std::io::Read;
 
 // The longest file that its header lets through.
 pub const LONGEST: usize = HEADER + RULE * RULES;
 
-// A refusal by the header alone, or the length of the whole file.
-#[derive(Clone, Copy)]
-pub enum Header {
-    Malformed,
-    Broken,
-    Length(usize),
-}
-
-// A header: the version, the length told, and then the number of rules.
-pub fn told(bytes: &[u8]) -> Header
+// A header: the version, the length told, and then the number of rules. Answers the length of the whole file, or the refusal by the header alone.
+pub fn told(bytes: &[u8]) -> Result<usize, Fault>
     ensures { Says bytes.now result }
 {
-    if bytes.len() < HEADER {
-        return Header::Malformed;
-    }
-    if wide(bytes[0]) != VERSION {
-        return Header::Malformed;
+    if bytes.len() < HEADER || usize::from(bytes[0]) != VERSION {
+        return Err(Fault::Malformed);
     }
     let count = rule_count(bytes);
     let length = HEADER + RULE * count;
     if u32_at(bytes, 1) != length {
-        return Header::Malformed;
+        return Err(Fault::Malformed);
     }
     if count > RULES {
-        return Header::Broken;
+        return Err(Fault::Broken);
     }
-    Header::Length(length)
+    Ok(length)
 }
 
 // Reads the grammar: its header, and then as many bytes as that tells. Answers how many came.
@@ -48,23 +38,18 @@ pub fn read_grammar<R: Read>(from: &mut R, file: &mut [u8]) -> usize
 {
     let first = read_full(from, &mut file[..HEADER]);
     match told(&file[..first]) {
-        Header::Malformed => first,
-        Header::Broken => first,
-        Header::Length(length) => HEADER + read_full(from, &mut file[HEADER..length]),
+        Ok(length) => HEADER + read_full(from, &mut file[HEADER..length]),
+        Err(_) => first,
     }
 }
 
-// What the bytes that came say of the grammar: a refusal, or its length.
-pub fn judged(bytes: &[u8]) -> Header
+// What the bytes that came say of the grammar: its length, or a refusal.
+pub fn judged(bytes: &[u8]) -> Result<usize, Fault>
     ensures { Judged bytes.now result }
 {
-    let length = match told(bytes) {
-        Header::Malformed => return Header::Malformed,
-        Header::Broken => return Header::Broken,
-        Header::Length(all) => all,
-    };
+    let length = told(bytes)?;
     if bytes.len() < length {
-        return Header::Malformed;
+        return Err(Fault::Malformed);
     }
-    Header::Length(length)
+    Ok(length)
 }

@@ -2,15 +2,7 @@
 // header, bytes as tokens, lines of text.
 #![tactic(auto)]
 
-ghost use Rattle.std.specs.Prelude.{◌≡◌};
-
 pub mod header;
 pub mod reading;
 pub mod text;
 pub mod tokens;
-// A number as a count.
-pub fn wide(number: u32) -> usize
-    ensures { result ≡ number }
-{
-    number as usize
-}

@@ -12,11 +12,11 @@ pub fn read_full<R: Read>(from: &mut R, buf: &mut [u8]) -> usize
     ensures bytes { Consumes (R.remaining from.old) (R.remaining from.new) (take result buf.new) }
 {
     let mut done = 0;
+    // No count: each turn goes on by as many bytes as came.
     while done < buf.len() {
         match from.read(&mut buf[done..]) {
-            Ok(0) => break,
+            Ok(0) | Err(_) => break,
             Ok(n) => done += n,
-            Err(_) => break,
         }
     }
     done

@@ -22,13 +22,6 @@ pub fn put(out: &mut [u8], at: usize, bytes: &[u8]) -> usize
     end
 }
 
-// A number as a word of 64 bits.
-fn wide(number: usize) -> u64
-    ensures { (result ≡ number) × (result < 18446744073709551616) }
-{
-    number as u64
-}
-
 // A line of a head and a number, at `at`; answers the place behind it.
 pub fn put_line(out: &mut [u8], at: usize, head: &[u8], number: usize) -> usize
     requires { at + length head.now + number_room ≤ length out.old }
@@ -36,7 +29,7 @@ pub fn put_line(out: &mut [u8], at: usize, head: &[u8], number: usize) -> usize
     ensures text { Line (take at out.old) head.now number (take result out.new) }
 {
     let mut digits = [0u8; 20];
-    let count = io::decimal(wide(number), &mut digits);
+    let count = io::decimal(number as u64, &mut digits);
     let from = put(out, at, head);
     let to = put(out, from, &digits[..count]);
     put(out, to, b"\n")

@@ -1,18 +1,20 @@
 // Tokens, two bytes each, the high one first.
-ghost use Rattle.std.specs.Prelude.{◌≡◌, ◌+◌, ◌*◌, ◌≤◌, length, take};
+ghost use Rattle.std.specs.Prelude.{◌≡◌, [], ◌∷◌, ◌*◌, ◌≤◌, ◌<◌, length, take};
 ghost use Rattle.io.specs.Counts.{IsPrefixLen};
 ghost use Rattle.programs.specs.Tokens.{tokens_of};
-
-use grammar::file::wide;
 
 // A token that no grammar has.
 const FOREIGN: u16 = 65535;
 
-// The token that two bytes say.
-fn token(high: u8, low: u8) -> u16
-    ensures { result ≡ high * 256 + low }
+// The token that two bytes say, or a lone one.
+fn token(bytes: &[u8]) -> u16
+    requires { (0 < length bytes.now) × (length bytes.now ≤ 2) }
+    ensures { tokens_of bytes.now ≡ result ∷ [] }
 {
-    (wide(high) * 256 + wide(low)) as u16
+    match *bytes {
+        [high, low] => u16::from_be_bytes([high, low]),
+        _ => FOREIGN,
+    }
 }
 
 // The tokens that bytes say, a lone last byte one that no grammar has; answers how many.
@@ -21,13 +23,8 @@ pub fn decode(bytes: &[u8], words: &mut [u16]) -> usize
     ensures place { IsPrefixLen result words.new }
     ensures said { take result words.new ≡ tokens_of bytes.now }
 {
-    let whole = bytes.len() / 2;
-    for i in 0..whole {
-        words[i] = token(bytes[2 * i], bytes[2 * i + 1]);
+    for (i, pair) in bytes.chunks(2).enumerate() {
+        words[i] = token(pair);
     }
-    if bytes.len() == 2 * whole {
-        return whole;
-    }
-    words[whole] = FOREIGN;
-    whole + 1
+    bytes.len().div_ceil(2)
 }

@@ -4,13 +4,13 @@ use lib.Seq.{length_front}
 use Rattle.programs.proofs.Headers.{told_bounds, says_same, read-rest}
 use Rattle.programs.proofs.header.read_grammar.Goals as goal
 
-pub returns-in-Length-clause-far : goal.returns-in-Length-clause-far
-returns-in-Length-clause-far g c =
+pub returns-in-Ok-clause-far : goal.returns-in-Ok-clause-far
+returns-in-Ok-clause-far g c =
     let header_read = c.read_full-first in
     let file = c.args.file.now in
     let front = header_read.new.buf in
     let part = c.read_full.new.buf in
-    let says = says_same c.in-Length.is c.told.ensures in
+    let says = says_same c.in-Ok.is c.told.ensures in
     let bounds = told_bounds _ _ says in
     let short = header_read.auto.buf in
     let long = length_front file front 11 short in

@@ -1,20 +1,10 @@
-use native.Mathlib.Omega.{arith}
-use borrow.Author.Rules.{rules}
-use Rattle.programs.proofs.Decoding.{decoded-start, decoded-next, decoded_at, decoded_even, decoded_odd}
+use Rattle.programs.proofs.Decoding.{decoded-next, decoded-all}
 use Rattle.programs.proofs.tokens.decode.Goals as goal
 
-pub loop-i-init : goal.loop-i-init
-loop-i-init c = decoded-start _ _ (search rules)
-
 pub loop-i-preserved : goal.loop-i-preserved
-loop-i-preserved c = decoded-next _ _ _ _ _ c.loop-i.invariant (omega arith) c.token.ensures
+loop-i-preserved c =
+    let steps = c.in-Some.ensures.steps in
+    decoded-next _ _ _ _ _ _ c.loop-i.invariant steps.0.0 steps.0.1.0 steps.0.1.1 steps.0.1.2 steps.1 steps.2 c.token.ensures
 
-pub returns-then-bytes-whole : goal.returns-then-bytes-whole
-returns-then-bytes-whole c =
-    let all = decoded_even _ _ _ _ (decoded_at c.loop-i.invariant (omega arith)) (omega arith) in
-    record { place = all.0; said = all.1 }
-
-pub returns : goal.returns
-returns c =
-    let all = decoded_odd _ _ _ _ (decoded_at c.loop-i.invariant (omega arith)) (omega arith) in
-    record { place = all.0; said = all.1 }
+pub returns-clause-said : goal.returns-clause-said
+returns-clause-said c = decoded-all _ c.loop-i.invariant c.in-None.ensures.steps.0.1.0 c.div_ceil.ensures
