@@ -22,6 +22,10 @@ module _ {P : Type 0} where
   pub says_no : (P → ⊥) → Decides false P
   says_no n = record { if_yes = λ e. absurd (false_true e); if_no = λ e. n }
 
+  -- The same of an answer that is known to be no.
+  pub known_no : {b : Bool} → b ≡ false → (P → ⊥) → Decides b P
+  known_no {b} e n = subst (λ (t : Bool). Decides t P) (sym e) (says_no n)
+
   -- The answer is a comparison.
   pub says-ltb : (a b : ℕ) → (a < b → P) → (b ≤ a → P → ⊥) → Decides (ltb a b) P
   says-ltb a b y n = record { if_yes = λ e. y (ltb-true a b e); if_no = λ e. n (ltb-false a b e) }

@@ -23,7 +23,7 @@ filled-used size units = take-append_seam units _
 
 -- Behind them there are fillers only.
 pub filled_spare : (size : ℕ) (units : List ℕ) → Filled (filled size units) (length units)
-filled_spare size units = record { unit = λ i l. filled-unit size units i ∙ get_or-eq_default units filler {n = i} l }
+filled_spare size units = record { each = λ i l. filled-unit size units i ∙ get_or-eq_default units filler {n = i} l }
 
 -- What was written behind them is taken back.
 pub filled_back : (size : ℕ) (units more : List ℕ) → take (length units) (filled size (units ++ more)) ≡ units

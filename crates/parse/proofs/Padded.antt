@@ -8,23 +8,20 @@ use lib.ListN.{length, get_or, set, take, replicate, length-append, length-take,
 use lib.Seq.{ext_get_or, length-take-le, get_or-take, get_or-append-add, get_or-set_same, get_or-set_other}
 use Rattle.node.specs.Reading.{filler}
 use Rattle.parse.specs.inner.Parts.{Clear, Filled}
-use Rattle.parse.specs.Words.{padded, filled}
+use Rattle.parse.specs.Words.{topped, padded, filled}
 
--- Words, and the number `d` behind them up to `size` words: `padded` of 0, `filled` of fillers.
-abbrev topped : ℕ → ℕ → List ℕ → List ℕ
-topped d size words = words ++ replicate (size - length words) d
-
-module _ (d : ℕ) where
+-- Words, and the word `d` behind them up to `size` words: `padded` of 0, `filled` of fillers.
+module _ {A : Type 0} (d : A) where
   -- Of a number again and again each is that number, there or not.
   each_same : (n i : ℕ) → get_or (replicate n d) i d ≡ d
   each_same zero i = refl
   each_same (suc n) zero = refl
   each_same (suc n) (suc i) = each_same n i
 
-  topped_length : (size : ℕ) (words : List ℕ) → length words ≤ size → length (topped d size words) ≡ size
-  topped_length size words l = omega (arith, length-append words (replicate (size - length words) d), length-replicate {A = ℕ} (size - length words) d)
+  topped_length : (size : ℕ) (words : List A) → length words ≤ size → length (topped d size words) ≡ size
+  topped_length size words l = omega (arith, length-append words (replicate (size - length words) d), length-replicate {A = A} (size - length words) d)
 
-  topped_word : (size : ℕ) (words : List ℕ) (i : ℕ) → get_or (topped d size words) i d ≡ get_or words i d
+  topped_word : (size : ℕ) (words : List A) (i : ℕ) → get_or (topped d size words) i d ≡ get_or words i d
   topped_word size words i = elim (dec_lt i (length words)) [
     | yes l ↦ get_or-append words _ d i l
     | no m ↦
@@ -37,20 +34,20 @@ module _ (d : ℕ) where
       at : (i < length words → ⊥) → i ≡ length words + (i - length words)
       at m = omega arith
 
-  topped_ext : (size : ℕ) (words words' : List ℕ) → length words ≤ size → length words' ≡ size → ((i : ℕ) → i < size → get_or words' i d ≡ get_or words i d)
+  topped_ext : (size : ℕ) (words words' : List A) → length words ≤ size → length words' ≡ size → ((i : ℕ) → i < size → get_or words' i d ≡ get_or words i d)
       → words' ≡ topped d size words
   topped_ext size words words' l e h =
       ext_get_or d words' (topped d size words) (e ∙ sym (topped_length size words l)) (λ i m. h i (omega arith) ∙ sym (topped_word size words i))
 
-  front-other : (n : ℕ) (words : List ℕ) (i : ℕ) → n ≤ i → get_or (take n words) i d ≡ d
+  front-other : (n : ℕ) (words : List A) (i : ℕ) → n ≤ i → get_or (take n words) i d ≡ d
   front-other n words i l = get_or-eq_default (take n words) d {n = i} (omega (arith, length-take n words))
 
-  ends_topped : (words : List ℕ) (n : ℕ) → n ≤ length words → ((i : ℕ) → n ≤ i → get_or words i d ≡ d) → words ≡ topped d (length words) (take n words)
+  ends_topped : (words : List A) (n : ℕ) → n ≤ length words → ((i : ℕ) → n ≤ i → get_or words i d ≡ d) → words ≡ topped d (length words) (take n words)
   ends_topped words n l ends =
       topped_ext (length words) (take n words) words (omega (arith, length-take-le n words l)) refl
       (λ i m. elim (dec_lt i n) [ yes b ↦ sym (get_or-take n words i d b) | no b ↦ ends i (omega arith) ∙ sym (front-other n words i (omega arith)) ])
 
-  topped_set : (size : ℕ) (words : List ℕ) (x : ℕ) → length words < size → set (topped d size words) (length words) x ≡ topped d size (words ++ (x ∷ []))
+  topped_set : (size : ℕ) (words : List A) (x : A) → length words < size → set (topped d size words) (length words) x ≡ topped d size (words ++ (x ∷ []))
   topped_set size words x l =
       topped_ext size (words ++ (x ∷ [])) (set (topped d size words) (length words) x)
       (omega (arith, length-append words (x ∷ [])))
@@ -97,10 +94,10 @@ front-word = front-other 0
 
 -- Words that are 0 from a place on, and units that are fillers.
 pub clear_padded : (words : List ℕ) (n : ℕ) → n ≤ length words → Clear words n → words ≡ padded (length words) (take n words)
-clear_padded words n l c = ends_topped 0 words n l c.zero
+clear_padded words n l c = ends_topped 0 words n l c.each
 
 pub filled-behind : (units : List ℕ) (n : ℕ) → n ≤ length units → Filled units n → units ≡ filled (length units) (take n units)
-filled-behind units n l f = ends_topped filler units n l f.unit
+filled-behind units n l f = ends_topped filler units n l f.each
 
 -- Another word is stored behind.
 pub padded-set : (size : ℕ) (words : List ℕ) (x : ℕ) → length words < size → set (padded size words) (length words) x ≡ padded size (words ++ (x ∷ []))
@@ -122,9 +119,9 @@ padded_zeros size words n l =
     n_is : n ≡ length words + n - length words
     n_is = omega arith
 
--- A loop that stores the number `d` from `from` on, one word after the other.
-module _ (d : ℕ) (w : List ℕ) (from to : ℕ) where
-  pub record Topping (i : ℕ) (words : List ℕ) : Type 0 where
+-- A loop that stores the word `d` from `from` on, one word after the other.
+module _ {A : Type 0} (d : A) (w : List A) (from to : ℕ) where
+  pub record Topping (i : ℕ) (words : List A) : Type 0 where
     pub above : from ≤ i
     pub long : length words ≡ length w
     pub before : (j : ℕ) → j < from → get_or words j d ≡ get_or w j d
@@ -134,7 +131,7 @@ module _ (d : ℕ) (w : List ℕ) (from to : ℕ) where
   pub topping_start : Topping from w
   topping_start = record { above = omega arith; long = refl; before = λ j l. refl; stored = λ j l m. absurd (omega arith); behind = λ j l. refl }
 
-  pub topping_next : (i : ℕ) (words : List ℕ) → Topping i words → i < length w → Topping (i + 1) (set words i d)
+  pub topping_next : (i : ℕ) (words : List A) → Topping i words → i < length w → Topping (i + 1) (set words i d)
   topping_next i words s l = record {
     above = omega (arith, s.above);
     long = length-set words i d ∙ s.long;
@@ -146,7 +143,7 @@ module _ (d : ℕ) (w : List ℕ) (from to : ℕ) where
     behind = λ j m. get_or-set_other words i j d d (λ e. omega arith) ∙ s.behind j (omega arith);
   }
 
-  topping_ends : (i : ℕ) (words : List ℕ) → Topping i words → to ≤ i → from ≤ length w → ((j : ℕ) → to ≤ j → get_or w j d ≡ d)
+  pub topping_ends : (i : ℕ) (words : List A) → Topping i words → to ≤ i → from ≤ length w → ((j : ℕ) → to ≤ j → get_or w j d ≡ d)
       → words ≡ topped d (length w) (take from w)
   topping_ends i words s l m ends =
       topped_ext d (length w) (take from w) words (omega (arith, length-take-le from w m)) s.long
@@ -157,12 +154,3 @@ module _ (d : ℕ) (w : List ℕ) (from to : ℕ) where
           | no c ↦ s.behind j (omega arith) ∙ ends j (omega arith) ∙ sym (front-other d from w j (omega arith))
         ]
       ])
-
--- It clears words whose last are 0, and fills units whose last are fillers.
-pub clearing_ends : (w : List ℕ) (from to i : ℕ) (words : List ℕ) → Topping 0 w from to i words → to ≤ i → from ≤ length w → Clear w to
-    → words ≡ padded (length w) (take from w)
-clearing_ends w from to i words s l m c = topping_ends 0 w from to i words s l m c.zero
-
-pub filling_ends : (w : List ℕ) (from to i : ℕ) (units : List ℕ) → Topping filler w from to i units → to ≤ i → from ≤ length w → Filled w to
-    → units ≡ filled (length w) (take from w)
-filling_ends w from to i units s l m f = topping_ends filler w from to i units s l m f.unit

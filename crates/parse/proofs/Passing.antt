@@ -1,10 +1,8 @@
 -- A loop that tests one number after the other, and goes on while they pass.
-use mathlib.Core.Path.{◌≡◌, refl, sym, subst}
-use mathlib.Core.Bool.{Bool, true, false}
+use mathlib.Core.Path.{◌≡◌, sym, subst}
 use Prim.Native.Nat.{ℕ, ◌+◌, ◌≤◌, ◌<◌}
 use native.Mathlib.Decide.{dec_lt, ℕ_discrete}
 use native.Mathlib.Omega.{arith}
-use Rattle.laws.specs.Counts.{once}
 
 -- Every number from `from` up to `i` has passed.
 pub record Passed (P : ℕ → Type 0) (from i : ℕ) : Type 0 where
@@ -24,28 +22,6 @@ one_passed P from i h here = record {
   where
     lower : (p : ℕ) → p < i + 1 → (p ≡ i → ⊥) → p < i
     lower p b n = omega arith
-
--- A loop that counts the numbers that do not pass and looks at the count behind its last turn.
-pub record Counted (P : ℕ → Type 0) (from i others : ℕ) : Type 0 where
-  pub low : from ≤ i
-  pub few : others + from ≤ i
-  pub none : others ≡ 0 → Passed P from i
-
-pub none_counted : (P : ℕ → Type 0) (from : ℕ) → Counted P from from 0
-none_counted P from = record { low = omega arith; few = omega arith; none = λ e. none_passed P from }
-
--- A test passes once at the most.
-pub at_most : (b : Bool) → once b ≤ 1
-at_most true = omega arith
-at_most false = omega arith
-
--- A turn counts one that does not pass.
-pub one_counted : (P : ℕ → Type 0) (from i others more : ℕ) (not-passed : Bool) → more ≡ once not-passed → (not-passed ≡ false → P i) → Counted P from i others
-    → Counted P from (i + 1) (others + more)
-one_counted P from i others more true is here h =
-    record { low = omega (arith, h.low); few = omega (arith, h.few); none = λ e. absurd (omega arith) }
-one_counted P from i others more false is here h =
-    record { low = omega (arith, h.low); few = omega (arith, h.few); none = λ e. one_passed P from i (h.none (omega arith)) (here refl) }
 
 -- A block that has passed behind what has.
 pub block_passed : (P : ℕ → Type 0) (from i to : ℕ) → Passed P from i → i ≤ to → ((p : ℕ) → i ≤ p → p < to → P p) → Passed P from to

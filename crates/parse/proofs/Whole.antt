@@ -27,11 +27,11 @@ module _ (n : ℕ) (rs : List Rule) (s : State) (v : Words) where
     fit = λ k p l i. (se.each k l).fit.each p i.from i.up_to;
     rise = λ k p l i j. (se.each k l).rise.each p i.from j.up_to;
     symbols = ro.each;
-    spare_items = sp.items.zero;
-    spare_starts = sp.starts.zero;
-    spare_rows = sp.rows.zero;
-    spare_queue = λ i. sp.queue.zero i (omega arith);
-    spare_units = sp.store.unit;
+    spare_items = sp.items.each;
+    spare_starts = sp.starts.each;
+    spare_rows = sp.rows.each;
+    spare_queue = λ i. sp.queue.each i (omega arith);
+    spare_units = sp.store.each;
     reads = un.reads;
     handles = un.handles;
   }
@@ -59,11 +59,11 @@ module _ (n : ℕ) (rs : List Rule) (s : State) (v : Words) where
 
     pub its_spare : SpareClear s v
     its_spare = record {
-      items = record { zero = w.spare_items };
-      starts = record { zero = w.spare_starts };
-      rows = record { zero = w.spare_rows };
-      queue = record { zero = λ i l. w.spare_queue i };
-      store = record { unit = w.spare_units };
+      items = record { each = w.spare_items };
+      starts = record { each = w.spare_starts };
+      rows = record { each = w.spare_rows };
+      queue = record { each = λ i l. w.spare_queue i };
+      store = record { each = w.spare_units };
     }
 
     pub its_store : StoreFits v.items (used_units s v) s.items

@@ -1,10 +1,12 @@
 -- The words that a host lends to a parse, and how many of them count.
-use Rattle.std.specs.Prelude.{List, ◌++◌, ℕ, ◌+◌, ◌-◌, ◌*◌, ◌/◌, min, length, get_or, take, drop, replicate}
+use Rattle.std.specs.Prelude.{◌≡◌, List, ◌++◌, ℕ, ◌+◌, ◌-◌, ◌*◌, ◌/◌, min, length, get_or, take, drop, replicate}
 use Rattle.item.specs.Item.{item_words}
 use Rattle.bits.specs.Width.{row_words}
 use Rattle.binary_heap.specs.Entry.{entry_words}
 use Rattle.node.specs.Writing.{usable_units}
 use Rattle.node.specs.Reading.{filler}
+use Rattle.parse.specs.declared.View.{View}
+use Rattle.parse.specs.declared.Words.{Words as Lent}
 
 -- Items are three words each, origin, rule and handle; a start is a word; a predicted row is `row_words` words; a queue entry is two words, a
 -- place and a right factor; the store of nodes is u16 units.
@@ -19,13 +21,30 @@ pub record Words : Type 0 where
 abbrev pub words_of : List ℕ → List ℕ → List ℕ → List ℕ → List ℕ → Words
 words_of items starts rows queue store = record { items = items; starts = starts; rows = rows; queue = queue; store = store }
 
--- Words, and 0 behind them up to `size` words.
-abbrev pub padded : ℕ → List ℕ → List ℕ
-padded size words = words ++ replicate (size - length words) 0
+-- The words that a host lends to be changed, and those that it lends to be read.
+abbrev pub words_in : Lent → Words
+words_in lent = words_of lent.items.now lent.starts.now lent.rows.now lent.queue.now lent.store.now
 
--- Units, and fillers behind them up to `size` units.
+abbrev pub seen : View → Words
+seen view = words_of view.items.now view.starts.now view.rows.now view.queue.now view.store.now
+
+-- They are still the host's own slices.
+abbrev pub Kept : Lent → Lent → Type 0
+Kept old new =
+    (new.items.ghost_name ≡ old.items.ghost_name) × (new.starts.ghost_name ≡ old.starts.ghost_name) × (new.rows.ghost_name ≡ old.rows.ghost_name)
+    × (new.queue.ghost_name ≡ old.queue.ghost_name) × (new.store.ghost_name ≡ old.store.ghost_name)
+
+-- Words, and `spare` behind them up to `size` words.
+abbrev pub topped : {A : Type 0} → A → ℕ → List A → List A
+topped spare size words = words ++ replicate (size - length words) spare
+
+-- The spare one is 0 of words,
+abbrev pub padded : ℕ → List ℕ → List ℕ
+padded = topped 0
+
+-- and the filler of units.
 abbrev pub filled : ℕ → List ℕ → List ℕ
-filled size units = units ++ replicate (size - length units) filler
+filled = topped filler
 
 -- The most items, sets and queue entries.
 abbrev pub max_items : ℕ

@@ -7,7 +7,7 @@ ghost use Rattle.grammar.specs.Accepted.{max_rules};
 ghost use Rattle.grammar.specs.inner.Decoded.{rules_in};
 ghost use Rattle.laws.specs.Decides.{Decides};
 ghost use Rattle.node.specs.Writing.{usable_units};
-ghost use Rattle.parse.specs.Words.{words_of};
+ghost use Rattle.parse.specs.Words.{words_in, seen};
 ghost use Rattle.parse.specs.WellFormed.{WellFormed};
 
 use bits::WIDTH;
@@ -16,11 +16,11 @@ use item::ITEM_WORDS;
 
 pub mod nodes;
 pub mod order;
+pub mod padding;
 pub mod room;
 pub mod rows;
 pub mod sets;
 pub mod spare;
-pub mod words;
 
 // A parse by value: the number of the latest set, the number of items in all sets, and the number of used units of the store.
 #[derive(Clone, Copy)]
@@ -30,6 +30,41 @@ pub struct State {
     pub used: usize,
 }
 
+// The words that a host lends to a parse, to be changed.
+#[derive(Drop)]
+pub struct Words<'a> {
+    pub items: &'a mut [u32],
+    pub starts: &'a mut [u32],
+    pub rows: &'a mut [u64],
+    pub queue: &'a mut [u32],
+    pub store: &'a mut [u16],
+}
+
+// The same words, to be read alone.
+#[derive(Clone, Copy)]
+pub struct View<'a> {
+    pub items: &'a [u32],
+    pub starts: &'a [u32],
+    pub rows: &'a [u64],
+    pub queue: &'a [u32],
+    pub store: &'a [u16],
+}
+
+impl Words<'_> {
+    // The words as they are now, to be read.
+    pub fn view(&self) -> View<'_>
+        ensures { seen result ≡ words_in self.now }
+    {
+        View {
+            items: self.items,
+            starts: self.starts,
+            rows: self.rows,
+            queue: self.queue,
+            store: self.store,
+        }
+    }
+}
+
 // Whether a state and words are well formed for the first `count` rules over `symbols` symbols. The words are those within
 // the capacities; whatever they and the state hold, no word past the capacities is read. The used units are read as nodes last.
 pub fn well_formed(
@@ -37,42 +72,34 @@ pub fn well_formed(
     symbols: usize,
     count: usize,
     state: State,
-    items: &[u32],
-    starts: &[u32],
-    rows: &[u64],
-    queue: &[u32],
-    store: &[u16],
+    view: &View<'_>,
 ) -> bool
     requires { (count ≤ max_rules)
-        × ((length starts.now ≡ length rows.now / row_words + 1) × (length store.now ≤ usable_units)) }
-    ensures { Decides result
-        (WellFormed symbols (rules_in rules.now count) state
-        (words_of items.now starts.now rows.now queue.now
-        store.now)) }
+        × ((length view.now.starts.now ≡ length view.now.rows.now / row_words + 1) × (length view.now.store.now ≤ usable_units)) }
+    ensures { Decides result (WellFormed symbols (rules_in rules.now count) state (seen view.now)) }
 {
-    let set = state.set;
-    let held = state.items;
-    let used = state.used;
-    if set >= rows.len() / WIDTH {
+    let State {
+        set,
+        items: held,
+        used,
+    } = state;
+    if set >= view.rows.len() / WIDTH
+        || held > view.items.len() / ITEM_WORDS
+        || used > view.store.len()
+    {
         return false;
     }
-    if held > items.len() / ITEM_WORDS {
+    if !sets::starts_fit(state, view.starts) {
         return false;
     }
-    if used > store.len() {
+    if !sets::sets_fit(rules, count, set, view.items, view.starts) {
         return false;
     }
-    if !sets::starts_fit(state, starts) {
+    if !rows::rows_below(symbols, set, view.rows) {
         return false;
     }
-    if !sets::sets_fit(rules, count, set, items, starts) {
+    if !spare::spare_clear(state, view) {
         return false;
     }
-    if !rows::rows_below(symbols, set, rows) {
-        return false;
-    }
-    if !spare::spare_clear(state, items, starts, rows, queue, store) {
-        return false;
-    }
-    nodes::store_fits(items, held, &store[..used])
+    nodes::store_fits(view.items, held, &view.store[..used])
 }

@@ -7,10 +7,9 @@ ghost use Rattle.node.specs.Writing.{usable_units};
 ghost use Rattle.parse.specs.Heads.{ToEnd};
 ghost use Rattle.parse.specs.inner.Parts.{head_words, Unmarked, HeadsMarked, HandlesMarked, StoreFits};
 
+use crate::padding::FILLER;
 use crate::room::UNITS;
-use crate::words::FILLER;
 use bits::WORD;
-use item::wide;
 use node::Found;
 
 // The words of the marks.
@@ -24,7 +23,7 @@ fn mark(heads: &mut Heads, h: usize)
     requires { (length heads.old ≡ head_words) × (h < usable_units) }
     ensures { heads.new ≡ adding heads.old h }
 {
-    heads[h / WORD] = heads[h / WORD] | 1 << (h % WORD);
+    heads[h / WORD] |= 1 << (h % WORD);
 }
 
 // Whether `h` is a marked head.
@@ -32,10 +31,7 @@ fn is_marked(heads: &Heads, h: usize) -> bool
     requires { length heads.now ≡ head_words }
     ensures { result ≡ holds heads.now h }
 {
-    if h >= UNITS {
-        return false;
-    }
-    (heads[h / WORD] >> (h % WORD)) % 2 == 1
+    h < UNITS && (heads[h / WORD] >> (h % WORD)) % 2 == 1
 }
 
 // Whether reading units from 0 comes to their end. Marks the heads that it meets, up to the end or the first 12.
@@ -45,6 +41,7 @@ fn mark_heads(units: &[u16], heads: &mut Heads) -> bool
     ensures marks { HeadsMarked units.now heads.new }
 {
     let mut at: usize = 0;
+    // No count: a step passes a filler, or a whole node.
     while at < units.len() {
         if units[at] == FILLER {
             at += 1;
@@ -65,7 +62,7 @@ fn handles_marked(items: &[u32], held: usize, heads: &Heads) -> bool
     ensures { Decides result (HandlesMarked items.now held heads.now) }
 {
     for p in 0..held {
-        if !is_marked(heads, wide(item::handle(items, p))) {
+        if !is_marked(heads, item::handle(items, p) as usize) {
             return false;
         }
     }
@@ -78,8 +75,5 @@ pub fn store_fits(items: &[u32], held: usize, units: &[u16]) -> bool
     ensures { Decides result (StoreFits items.now units.now held) }
 {
     let mut heads = [0; HEAD_WORDS];
-    if !mark_heads(units, &mut heads) {
-        return false;
-    }
-    handles_marked(items, held, &heads)
+    mark_heads(units, &mut heads) && handles_marked(items, held, &heads)
 }

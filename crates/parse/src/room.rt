@@ -1,5 +1,5 @@
 // How many items, sets, queue entries and units the lent words have room for.
-ghost use Rattle.std.specs.Prelude.{◌≡◌, min};
+ghost use Rattle.std.specs.Prelude.{◌≡◌};
 ghost use Rattle.parse.specs.Words.{item_room_of, set_room_of, queue_room_of, store_room_of};
 
 use binary_heap::entry::ENTRY_WORDS;
@@ -15,44 +15,30 @@ pub const QUEUED: usize = 1024;
 
 pub const UNITS: usize = 32768;
 
-// The smaller of two numbers.
-pub fn least(a: usize, b: usize) -> usize
-    ensures { result ≡ min a b }
-{
-    if a < b {
-        return a;
-    }
-    b
-}
-
 // I, the room for items.
 pub fn item_room(items: &[u32]) -> usize
     ensures { result ≡ item_room_of items.now }
 {
-    least(ITEMS, items.len() / ITEM_WORDS)
+    ITEMS.min(items.len() / ITEM_WORDS)
 }
 
 // E, the room for sets. No start leaves room for none.
 pub fn set_room(starts: &[u32], rows: &[u64]) -> usize
     ensures { result ≡ set_room_of starts.now rows.now }
 {
-    let count = starts.len();
-    if count < 1 {
-        return 0;
-    }
-    least(SETS, least(count - 1, rows.len() / WIDTH))
+    SETS.min(starts.len().saturating_sub(1).min(rows.len() / WIDTH))
 }
 
 // Q, the room for queue entries.
 pub fn queue_room(queue: &[u32]) -> usize
     ensures { result ≡ queue_room_of queue.now }
 {
-    least(QUEUED, queue.len() / ENTRY_WORDS)
+    QUEUED.min(queue.len() / ENTRY_WORDS)
 }
 
 // U, the room for units.
 pub fn store_room(store: &[u16]) -> usize
     ensures { result ≡ store_room_of store.now }
 {
-    least(UNITS, store.len())
+    UNITS.min(store.len())
 }

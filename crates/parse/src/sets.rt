@@ -10,7 +10,6 @@ ghost use Rattle.parse.specs.inner.Parts.{NeverFalls, StartsFit, AllFit, Among, 
 use crate::State;
 use crate::order::precedes;
 use grammar::rules::{NONE, Rules, second};
-use item::wide;
 
 // Whether the starts never fall up to the one behind set `e`.
 fn never_falls(starts: &[u32], e: usize) -> bool
@@ -30,18 +29,10 @@ pub fn starts_fit(state: State, starts: &[u32]) -> bool
     requires { state.set + 2 ≤ length starts.now }
     ensures { Decides result (StartsFit starts.now state) }
 {
-    let set = state.set;
-    let held = state.items;
-    if starts[0] != 0 {
+    if starts[0] != 0 || starts[1] != 0 {
         return false;
     }
-    if starts[1] != 0 {
-        return false;
-    }
-    if wide(starts[set + 1]) != held {
-        return false;
-    }
-    never_falls(starts, set)
+    starts[state.set + 1] as usize == state.items && never_falls(starts, state.set)
 }
 
 // Whether the item at place `p` may be one of set `k`.
@@ -49,11 +40,8 @@ fn item_fits(rules: &Rules, count: usize, items: &[u32], k: usize, p: usize) -> 
     requires { (count ≤ max_rules) × HasPlace items.now p }
     ensures { Decides result (Fits (rules_in rules.now count) k (item_at items.now p)) }
 {
-    let rule = wide(item::rule(items, p));
-    if wide(item::origin(items, p)) >= k {
-        return false;
-    }
-    if rule >= count {
+    let rule = item::rule(items, p) as usize;
+    if item::origin(items, p) as usize >= k || rule >= count {
         return false;
     }
     second(rules, rule) != NONE
@@ -64,12 +52,10 @@ fn all_fit(rules: &Rules, count: usize, items: &[u32], k: usize, from: usize, to
     requires { (count ≤ max_rules) × (item_words * to ≤ length items.now) }
     ensures { Decides result (AllFit (rules_in rules.now count) items.now k from to) }
 {
-    let mut p = from;
-    while p < to {
+    for p in from..to {
         if !item_fits(rules, count, items, k, p) {
             return false;
         }
-        p += 1;
     }
     true
 }
@@ -80,12 +66,10 @@ fn rises(rules: &Rules, items: &[u32], from: usize, to: usize) -> bool
     ensures { (count : ℕ) → Among items.now from to count
         → Decides result (Rises (rules_in rules.now count) items.now from to) }
 {
-    let mut p = from;
-    while p + 1 < to {
+    for p in from..to.saturating_sub(1) {
         if !precedes(rules, items, p, p + 1) {
             return false;
         }
-        p += 1;
     }
     true
 }
@@ -95,10 +79,7 @@ fn set_fits(rules: &Rules, count: usize, items: &[u32], k: usize, from: usize, t
     requires { ((count ≤ max_rules) × (from ≤ to)) × (item_words * to ≤ length items.now) }
     ensures { Decides result (SetFits (rules_in rules.now count) items.now k from to) }
 {
-    if !all_fit(rules, count, items, k, from, to) {
-        return false;
-    }
-    rises(rules, items, from, to)
+    all_fit(rules, count, items, k, from, to) && rises(rules, items, from, to)
 }
 
 // Whether every set up to `e` has items that it may have. The starts are known not to fall, nor to lead past the items.
@@ -109,7 +90,14 @@ pub fn sets_fit(rules: &Rules, count: usize, e: usize, items: &[u32], starts: &[
         (SetsFit (rules_in rules.now count) items.now starts.now e) }
 {
     for k in 0..e + 1 {
-        if !set_fits(rules, count, items, k, wide(starts[k]), wide(starts[k + 1])) {
+        if !set_fits(
+            rules,
+            count,
+            items,
+            k,
+            starts[k] as usize,
+            starts[k + 1] as usize,
+        ) {
             return false;
         }
     }

@@ -3,42 +3,30 @@ ghost use Rattle.std.specs.Prelude.{◌+◌, ◌*◌, ◌≤◌, length};
 ghost use Rattle.item.specs.Item.{item_words};
 ghost use Rattle.bits.specs.Width.{row_words};
 ghost use Rattle.laws.specs.Decides.{Decides};
-ghost use Rattle.parse.specs.Words.{words_of};
+ghost use Rattle.parse.specs.Words.{seen};
 ghost use Rattle.parse.specs.inner.Parts.{SpareClear};
 
-use crate::State;
-use crate::words::{is_clear, is_clear_rows, is_filled};
+use crate::padding::is_spare;
+use crate::{State, View};
 use bits::WIDTH;
 use item::ITEM_WORDS;
 
 // Whether they are.
-pub fn spare_clear(
-    state: State,
-    items: &[u32],
-    starts: &[u32],
-    rows: &[u64],
-    queue: &[u32],
-    store: &[u16],
-) -> bool
-    requires { (item_words * state.items ≤ length items.now) × (row_words * (state.set + 1) ≤ length rows.now) }
-    ensures { Decides result
-        (SpareClear state (words_of items.now starts.now rows.now queue.now
-        store.now)) }
+pub fn spare_clear(state: State, view: &View<'_>) -> bool
+    requires { (item_words * state.items ≤ length view.now.items.now) × (row_words * (state.set + 1) ≤ length view.now.rows.now) }
+    ensures { Decides result (SpareClear state (seen view.now)) }
 {
-    let set = state.set;
-    let held = state.items;
-    let used = state.used;
-    if !is_clear(items, ITEM_WORDS * held) {
+    if !is_spare(view.items, ITEM_WORDS * state.items) {
         return false;
     }
-    if !is_clear(starts, set + 2) {
+    if !is_spare(view.starts, state.set + 2) {
         return false;
     }
-    if !is_clear_rows(rows, WIDTH * (set + 1)) {
+    if !is_spare(view.rows, WIDTH * (state.set + 1)) {
         return false;
     }
-    if !is_clear(queue, 0) {
+    if !is_spare(view.queue, 0) {
         return false;
     }
-    is_filled(store, used)
+    is_spare(view.store, state.used)
 }

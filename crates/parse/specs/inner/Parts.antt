@@ -14,13 +14,19 @@ use Rattle.parse.specs.WellFormed.{Fits, placing}
 abbrev pub block_words : ℕ
 block_words = 64
 
--- The words from `from` up to `to` are 0.
-pub record ClearBetween (words : List ℕ) (from to : ℕ) : Type 0 where
-  pub zero : (i : ℕ) → from ≤ i → i < to → get_or words i 0 ≡ 0
+-- The words from `from` up to `to` are all `spare`.
+pub record SpareBetween {A : Type 0} (spare : A) (words : List A) (from to : ℕ) : Type 0 where
+  pub each : (i : ℕ) → from ≤ i → i < to → get_or words i spare ≡ spare
 
--- Every word from `from` on is 0.
-pub record Clear (words : List ℕ) (from : ℕ) : Type 0 where
-  pub zero : (i : ℕ) → from ≤ i → get_or words i 0 ≡ 0
+-- Every word from `from` on is `spare`: 0, or of the store's units the filler.
+pub record Spare {A : Type 0} (spare : A) (words : List A) (from : ℕ) : Type 0 where
+  pub each : (i : ℕ) → from ≤ i → get_or words i spare ≡ spare
+
+abbrev pub Clear : List ℕ → ℕ → Type 0
+Clear = Spare 0
+
+abbrev pub Filled : List ℕ → ℕ → Type 0
+Filled = Spare filler
 
 -- The starts never fall up to the one behind set `e`.
 pub record NeverFalls (starts : List ℕ) (e : ℕ) : Type 0 where
@@ -61,14 +67,6 @@ pub record WordBelow (n i word : ℕ) : Type 0 where
 -- No row up to row `e` has a bit at `n` or above.
 pub record RowsBelow (n : ℕ) (rows : List ℕ) (e : ℕ) : Type 0 where
   pub each : (k : ℕ) → k ≤ e → Below n (row_of row_words rows k)
-
--- The units from `from` up to `to` are fillers.
-pub record FilledBetween (units : List ℕ) (from to : ℕ) : Type 0 where
-  pub unit : (i : ℕ) → from ≤ i → i < to → get_or units i filler ≡ filler
-
--- Every unit from `from` on is a filler.
-pub record Filled (units : List ℕ) (from : ℕ) : Type 0 where
-  pub unit : (i : ℕ) → from ≤ i → get_or units i filler ≡ filler
 
 -- All spare words, the queue included, are 0, and all spare units fillers.
 pub record SpareClear (s : State) (v : Words) : Type 0 where

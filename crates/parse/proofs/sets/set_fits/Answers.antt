@@ -1,20 +1,18 @@
 -- `sets::set_fits` meets its contract: the items fit, and then rise.
-use mathlib.Core.Path.{ap}
-use mathlib.Core.Bool.{not}
 use Rattle.parse.specs.inner.Parts.{SetFits}
 use Rattle.parse.proofs.Fitting.{fit_among, among_more}
-use Rattle.laws.proofs.Decides.{part_fails, passes, decides_map}
+use Rattle.laws.proofs.Decides.{known_no, decides_map}
 use Rattle.parse.proofs.sets.set_fits.Goals as goal
 
-pub returns-then-not-all_fit : goal.returns-then-not-all_fit
-returns-then-not-all_fit c = part_fails c.all_fit.ensures (ap not c.if-not-all_fit.true) (λ (h : SetFits _ _ _ _ _). h.fit)
+pub returns-else-all_fit : goal.returns-else-all_fit
+returns-else-all_fit c = known_no c.if-all_fit.false (λ (h : SetFits _ _ _ _ _). c.all_fit.ensures.if_no c.if-all_fit.false h.fit)
 
 pub rises-requires : goal.rises-requires
 rises-requires c =
-    ((c.requires.0.1, c.requires.1), among_more _ _ _ _ _ (fit_among _ _ c.args.count _ _ _ (passes c.all_fit.ensures (ap not c.if-not-all_fit.false))) c.requires.0.0)
+    ((c.requires.0.1, c.requires.1), among_more _ _ _ _ _ (fit_among _ _ c.args.count _ _ _ (c.all_fit.ensures.if_yes c.if-all_fit.true)) c.requires.0.0)
 
-pub returns : goal.returns
-returns c =
+pub returns-then-all_fit : goal.returns-then-all_fit
+returns-then-all_fit c =
     let count = c.args.count in
-    decides_map (λ rise. record { fit = passes c.all_fit.ensures (ap not c.if-not-all_fit.false); rise = rise }) (λ (h : SetFits _ _ _ _ _). h.rise)
-    (c.rises.ensures count (fit_among _ _ count _ _ _ (passes c.all_fit.ensures (ap not c.if-not-all_fit.false))))
+    decides_map (λ rise. record { fit = c.all_fit.ensures.if_yes c.if-all_fit.true; rise = rise }) (λ (h : SetFits _ _ _ _ _). h.rise)
+    (c.rises.ensures count (fit_among _ _ count _ _ _ (c.all_fit.ensures.if_yes c.if-all_fit.true)))
