@@ -4,7 +4,7 @@
 ghost use Rattle.std.specs.Prelude.{◌≡◌, ◌+◌, ◌/◌, ◌≤◌, length};
 ghost use Rattle.bits.specs.Width.{row_words};
 ghost use Rattle.grammar.specs.Accepted.{max_rules};
-ghost use Rattle.grammar.specs.inner.Decoded.{rules_in};
+ghost use Rattle.grammar.specs.inner.Decoded.{rules_of};
 ghost use Rattle.laws.specs.Decides.{Decides};
 ghost use Rattle.node.specs.Writing.{usable_units};
 ghost use Rattle.parse.specs.Words.{words_in, seen};
@@ -65,18 +65,12 @@ impl Words<'_> {
     }
 }
 
-// Whether a state and words are well formed for the first `count` rules over `symbols` symbols. The words are those within
-// the capacities; whatever they and the state hold, no word past the capacities is read. The used units are read as nodes last.
-pub fn well_formed(
-    rules: &Rules,
-    symbols: usize,
-    count: usize,
-    state: State,
-    view: &View<'_>,
-) -> bool
-    requires { (count ≤ max_rules)
+// Whether a state and words are well formed for rules over `symbols` symbols. The words are those within the capacities;
+// whatever they and the state hold, no word past the capacities is read. The used units are read as nodes last.
+pub fn well_formed(rules: &Rules, symbols: usize, state: State, view: &View<'_>) -> bool
+    requires { (rules.now.count ≤ max_rules)
         × ((length view.now.starts.now ≡ length view.now.rows.now / row_words + 1) × (length view.now.store.now ≤ usable_units)) }
-    ensures { Decides result (WellFormed symbols (rules_in rules.now count) state (seen view.now)) }
+    ensures { Decides result (WellFormed symbols (rules_of rules.now) state (seen view.now)) }
 {
     let State {
         set,
@@ -92,7 +86,7 @@ pub fn well_formed(
     if !sets::starts_fit(state, view.starts) {
         return false;
     }
-    if !sets::sets_fit(rules, count, set, view.items, view.starts) {
+    if !sets::sets_fit(rules, set, view.items, view.starts) {
         return false;
     }
     if !rows::rows_below(symbols, set, view.rows) {

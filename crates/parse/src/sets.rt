@@ -2,14 +2,14 @@
 ghost use Rattle.std.specs.Prelude.{◌≡◌, ℕ, ◌+◌, ◌*◌, ◌≤◌, ◌<◌, length, get_or};
 ghost use Rattle.item.specs.Item.{HasPlace, item_words, item_at};
 ghost use Rattle.grammar.specs.Accepted.{max_rules};
-ghost use Rattle.grammar.specs.inner.Decoded.{rules_in};
+ghost use Rattle.grammar.specs.inner.Decoded.{rules_in, rules_of};
 ghost use Rattle.laws.specs.Decides.{Decides};
 ghost use Rattle.parse.specs.WellFormed.{Fits};
 ghost use Rattle.parse.specs.inner.Parts.{NeverFalls, StartsFit, AllFit, Among, Rises, SetFits, SetsFit};
 
 use crate::State;
 use crate::order::precedes;
-use grammar::rules::{NONE, Rules, second};
+use grammar::rules::{NONE, Rules};
 
 // Whether the starts never fall up to the one behind set `e`.
 fn never_falls(starts: &[u32], e: usize) -> bool
@@ -36,24 +36,24 @@ pub fn starts_fit(state: State, starts: &[u32]) -> bool
 }
 
 // Whether the item at place `p` may be one of set `k`.
-fn item_fits(rules: &Rules, count: usize, items: &[u32], k: usize, p: usize) -> bool
-    requires { (count ≤ max_rules) × HasPlace items.now p }
-    ensures { Decides result (Fits (rules_in rules.now count) k (item_at items.now p)) }
+fn item_fits(rules: &Rules, items: &[u32], k: usize, p: usize) -> bool
+    requires { (rules.now.count ≤ max_rules) × HasPlace items.now p }
+    ensures { Decides result (Fits (rules_of rules.now) k (item_at items.now p)) }
 {
     let rule = item::rule(items, p) as usize;
-    if item::origin(items, p) as usize >= k || rule >= count {
+    if item::origin(items, p) as usize >= k || rule >= rules.count {
         return false;
     }
-    second(rules, rule) != NONE
+    rules.second(rule) != NONE
 }
 
 // Whether the items at the places from `from` up to `to` may all be items of set `k`.
-fn all_fit(rules: &Rules, count: usize, items: &[u32], k: usize, from: usize, to: usize) -> bool
-    requires { (count ≤ max_rules) × (item_words * to ≤ length items.now) }
-    ensures { Decides result (AllFit (rules_in rules.now count) items.now k from to) }
+fn all_fit(rules: &Rules, items: &[u32], k: usize, from: usize, to: usize) -> bool
+    requires { (rules.now.count ≤ max_rules) × (item_words * to ≤ length items.now) }
+    ensures { Decides result (AllFit (rules_of rules.now) items.now k from to) }
 {
     for p in from..to {
-        if !item_fits(rules, count, items, k, p) {
+        if !item_fits(rules, items, k, p) {
             return false;
         }
     }
@@ -64,7 +64,7 @@ fn all_fit(rules: &Rules, count: usize, items: &[u32], k: usize, from: usize, to
 fn rises(rules: &Rules, items: &[u32], from: usize, to: usize) -> bool
     requires { ((from ≤ to) × (item_words * to ≤ length items.now)) × Among items.now from to max_rules }
     ensures { (count : ℕ) → Among items.now from to count
-        → Decides result (Rises (rules_in rules.now count) items.now from to) }
+        → Decides result (Rises (rules_in rules.now.words count) items.now from to) }
 {
     for p in from..to.saturating_sub(1) {
         if !precedes(rules, items, p, p + 1) {
@@ -75,29 +75,22 @@ fn rises(rules: &Rules, items: &[u32], from: usize, to: usize) -> bool
 }
 
 // Whether they are the items of a set `k`.
-fn set_fits(rules: &Rules, count: usize, items: &[u32], k: usize, from: usize, to: usize) -> bool
-    requires { ((count ≤ max_rules) × (from ≤ to)) × (item_words * to ≤ length items.now) }
-    ensures { Decides result (SetFits (rules_in rules.now count) items.now k from to) }
+fn set_fits(rules: &Rules, items: &[u32], k: usize, from: usize, to: usize) -> bool
+    requires { ((rules.now.count ≤ max_rules) × (from ≤ to)) × (item_words * to ≤ length items.now) }
+    ensures { Decides result (SetFits (rules_of rules.now) items.now k from to) }
 {
-    all_fit(rules, count, items, k, from, to) && rises(rules, items, from, to)
+    all_fit(rules, items, k, from, to) && rises(rules, items, from, to)
 }
 
 // Whether every set up to `e` has items that it may have. The starts are known not to fall, nor to lead past the items.
-pub fn sets_fit(rules: &Rules, count: usize, e: usize, items: &[u32], starts: &[u32]) -> bool
-    requires { ((count ≤ max_rules) × (e + 2 ≤ length starts.now))
+pub fn sets_fit(rules: &Rules, e: usize, items: &[u32], starts: &[u32]) -> bool
+    requires { ((rules.now.count ≤ max_rules) × (e + 2 ≤ length starts.now))
         × ((item_words * get_or starts.now (e + 1) 0 ≤ length items.now) × NeverFalls starts.now e) }
     ensures { Decides result
-        (SetsFit (rules_in rules.now count) items.now starts.now e) }
+        (SetsFit (rules_of rules.now) items.now starts.now e) }
 {
     for k in 0..e + 1 {
-        if !set_fits(
-            rules,
-            count,
-            items,
-            k,
-            starts[k] as usize,
-            starts[k + 1] as usize,
-        ) {
+        if !set_fits(rules, items, k, starts[k] as usize, starts[k + 1] as usize) {
             return false;
         }
     }
