@@ -10,9 +10,9 @@ ghost use Rattle.prediction.specs.inner.Tables.{Within, Shape, Seeded, NotAbove,
 
 pub mod follow;
 
-use bits::{Row, add, has, join};
+use bits::{Row, WIDTH, add, has, join};
 use grammar::limits::SYMBOLS;
-use grammar::rules::{Rules, first, left};
+use grammar::rules::Rules;
 
 // A row for each symbol.
 pub type Table = [Row; SYMBOLS];
@@ -22,40 +22,34 @@ fn own(n: usize) -> Table
     requires { n ≤ max_symbols }
     ensures { (from to : ℕ → ℕ) → Seeded from to row_words n 0 result }
 {
-    let mut table = [[0; 8]; 512];
+    let mut table = [[0; WIDTH]; SYMBOLS];
     for x in 0..n {
-        let row = table[x];
-        table[x] = add(row, x);
+        table[x] = add(table[x], x);
     }
     table
 }
 
 // And the first symbol of each rule in its left side's row.
-fn seed(rules: &Rules, n: usize, count: usize) -> Table
-    requires { (count ≤ max_rules) × Within rules.now n count }
-    ensures { Seeded (left_in rules.now) (first_in rules.now) row_words n count result }
+fn seed(rules: &Rules, n: usize) -> Table
+    requires { (rules.now.count ≤ max_rules) × Within rules.now.words n rules.now.count }
+    ensures { Seeded (left_in rules.now.words) (first_in rules.now.words) row_words n rules.now.count result }
 {
     let mut table = own(n);
-    for r in 0..count {
-        let a = left(rules, r);
-        let row = table[a];
-        table[a] = add(row, first(rules, r));
+    for r in 0..rules.count {
+        let a = rules.left(r);
+        table[a] = add(table[a], rules.first(r));
     }
     table
 }
 
 // The lowest left side of a rule, or `n`. A symbol below it leads to itself alone, as every token does.
-fn lowest_left(rules: &Rules, n: usize, count: usize) -> usize
-    requires { count ≤ max_rules }
-    ensures { NotAbove rules.now count result }
+fn lowest_left(rules: &Rules, n: usize) -> usize
+    requires { rules.now.count ≤ max_rules }
+    ensures { NotAbove rules.now.words rules.now.count result }
 {
     let mut low = n;
-    for r in 0..count {
-        let a = left(rules, r);
-        if low <= a {
-            continue;
-        }
-        low = a;
+    for r in 0..rules.count {
+        low = low.min(rules.left(r));
     }
     low
 }
@@ -69,21 +63,19 @@ fn close(seed: Table, from: usize, n: usize) -> Table
     let mut table = seed;
     for k in from..n {
         for i in from..n {
-            let row = table[i];
-            if !has(&row, k) {
+            if !has(&table[i], k) {
                 continue;
             }
-            let other = table[k];
-            table[i] = join(&row, &other);
+            table[i] = join(&table[i], &table[k]);
         }
     }
     table
 }
 
 // The prediction table of a grammar whose symbols are below `n`, whatever its number of tokens.
-pub fn table(rules: &Rules, n: usize, count: usize) -> Table
-    requires { (count ≤ max_rules) × Within rules.now n count }
-    ensures { (t : ℕ) → Predicts (grammar_in rules.now n t count) row_words result }
+pub fn table(rules: &Rules, n: usize) -> Table
+    requires { (rules.now.count ≤ max_rules) × Within rules.now.words n rules.now.count }
+    ensures { (t : ℕ) → Predicts (grammar_in rules.now.words n t rules.now.count) row_words result }
 {
-    close(seed(rules, n, count), lowest_left(rules, n, count), n)
+    close(seed(rules, n), lowest_left(rules, n), n)
 }

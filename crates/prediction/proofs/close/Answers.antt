@@ -15,15 +15,6 @@ loop-i-preserved-then-not-has c =
     let rows-looped = c.loop-i in
     λ s lone h. row_passed _ _ _ _ _ (rows-looped.invariant s lone h) (holds_false _ _ (sym c.has.ensures ∙ c.if-not-has.true))
 
-pub join-requires : goal.join-requires
-join-requires c =
-    let looped = c.loop-k in
-    let lone = c.requires.3 in
-    let rows-looped = c.loop-i in (
-      ((rows-looped.invariant _ lone looped.invariant).shape.row rows-looped.i (omega arith)).width_is,
-      ((rows-looped.invariant _ lone looped.invariant).shape.row looped.k (omega arith)).width_is,
-    )
-
 pub loop-i-preserved : goal.loop-i-preserved
 loop-i-preserved c =
     let rows-looped = c.loop-i in

@@ -1,11 +1,8 @@
 -- `prediction::own` meets its contract. The invariant, `Seeded`: the table of the symbols passed, whatever the rules are asked for.
 use Rattle.bits.specs.Width.{row_words}
 use Rattle.prediction.specs.inner.Tables.{Seeded}
-use Prim.Native.Nat.{ℕ, ◌-◌, ◌≤◌}
+use Prim.Native.Nat.{ℕ}
 use Rattle.prediction.proofs.own.Given as goal
 
 abbrev pub invariant-loop-x : goal.invariant-loop-x
-invariant-loop-x l = (l.x ≤ l.n) × ((from to : ℕ → ℕ) → Seeded from to row_words l.x 0 l.table)
-
-abbrev pub decreases-loop-x : goal.decreases-loop-x
-decreases-loop-x l = l.n - l.x
+invariant-loop-x l = (from to : ℕ → ℕ) → Seeded from to row_words l.x 0 l.table

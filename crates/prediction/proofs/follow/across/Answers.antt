@@ -1,5 +1,5 @@
 use Rattle.laws.proofs.Bits.{holds_true, holds_false}
-use Rattle.prediction.proofs.Across.{across_none, across_passed, across_joined, across_row, across_all}
+use Rattle.prediction.proofs.Across.{across_none, across_passed, across_joined, across_row}
 use native.Mathlib.Omega.{arith}
 use mathlib.Core.Path.{sym, ◌∙◌}
 use Rattle.prediction.proofs.follow.across.Goals as goal
@@ -12,15 +12,6 @@ loop-m-preserved-then-not-has c =
     let symbols-looped = c.loop-m in
     across_passed _ _ _ _ _ _ _ (holds_false _ _ (sym c.has.ensures ∙ c.if-not-has.true)) symbols-looped.invariant
 
-pub join-requires : goal.join-requires
-join-requires c =
-    let required = c.requires in
-    let rows-looped = c.loop-x in
-    let symbols-looped = c.loop-m in (
-      (symbols-looped.invariant.shape.row rows-looped.x (omega arith)).width_is,
-      (required.2.row symbols-looped.m (omega arith)).width_is,
-    )
-
 pub loop-m-preserved : goal.loop-m-preserved
 loop-m-preserved c =
     let required = c.requires in
@@ -32,6 +23,3 @@ loop-m-preserved c =
 
 pub loop-x-preserved : goal.loop-x-preserved
 loop-x-preserved c = across_row _ _ _ _ _ _ _ c.loop-m-test.false c.loop-m.invariant
-
-pub returns : goal.returns
-returns c = across_all _ _ _ _ _ _ c.loop-x-test.false c.loop-x.invariant

@@ -2,17 +2,10 @@
 use Rattle.bits.specs.Width.{row_words}
 use Rattle.prediction.specs.inner.Tables.{Tells}
 use Rattle.prediction.proofs.Across.{Passed}
-use Prim.Native.Nat.{◌-◌}
 use Rattle.prediction.proofs.follow.across.Given as goal
 
 abbrev pub invariant-loop-m : goal.invariant-loop-m
 invariant-loop-m l = Tells row_words (Passed l.to l.on l.n l.x l.m) l.table
 
-abbrev pub decreases-loop-m : goal.decreases-loop-m
-decreases-loop-m l = l.n - l.m
-
 abbrev pub invariant-loop-x : goal.invariant-loop-x
 invariant-loop-x l = Tells row_words (Passed l.to l.on l.n l.x 0) l.table
-
-abbrev pub decreases-loop-x : goal.decreases-loop-x
-decreases-loop-x l = l.n - l.x

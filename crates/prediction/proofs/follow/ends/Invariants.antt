@@ -2,11 +2,7 @@
 use Rattle.bits.specs.Width.{row_words}
 use Rattle.grammar.specs.inner.Decoded.{left_in}
 use Rattle.prediction.specs.inner.Tables.{last_in, Seeded}
-use Prim.Native.Nat.{◌-◌, ◌≤◌}
 use Rattle.prediction.proofs.follow.ends.Given as goal
 
 abbrev pub invariant-loop-r : goal.invariant-loop-r
-invariant-loop-r l = (l.r ≤ l.count) × Seeded (last_in l.rules) (left_in l.rules) row_words l.n l.r l.table
-
-abbrev pub decreases-loop-r : goal.decreases-loop-r
-decreases-loop-r l = l.count - l.r
+invariant-loop-r l = Seeded (last_in l.rules.words) (left_in l.rules.words) row_words l.n l.r l.table

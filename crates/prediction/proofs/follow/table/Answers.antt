@@ -15,12 +15,6 @@ beside-behind-requires c =
     let predicted = c.table-begins.ensures 0 in
     (required.0, required.1, record { rows = predicted.rows; row = predicted.row })
 
-pub across-requires : goal.across-requires
-across-requires c =
-    let required = c.requires in
-    let closed = c.close-ended in
-    (required.1.within.few, closed.ensures.shape, c.beside-behind.ensures.shape)
-
 pub returns : goal.returns
 returns c =
     let required = c.requires in
