@@ -6,7 +6,7 @@ use native.Mathlib.Omega.{arith}
 use native.Mathlib.Decide.{ℕ_discrete}
 use lib.ListN.{length}
 use Rattle.grammar.specs.Accepted.{Accepted, max_rules}
-use Rattle.grammar.specs.inner.Decoded.{grammar_in, HoldsFile, Decodes}
+use Rattle.grammar.specs.inner.Decoded.{grammar_in, decoded, HoldsFile, Decodes}
 use Rattle.grammar.specs.File as bytes
 use Rattle.grammar.specs.File.{grammar_of, symbols_of, tokens_of, rule_count_of, header_bytes, rule_bytes}
 use Rattle.grammar.specs.inner.Checking.{Sized}
@@ -156,8 +156,10 @@ accepted-file file a v number = record {
     yes-accepted : Accepted (grammar_of file)
     yes-accepted = v.zero number
 
--- The grammar in the decoded words is accepted too.
-pub accepted-words : (file words : List ℕ) (n t count : ℕ) → AcceptedFile file → n ≡ symbols_of file → t ≡ tokens_of file → count ≡ rule_count_of file
-    → grammar_in words (symbols_of file) (tokens_of file) (rule_count_of file) ≡ grammar_of file → Accepted (grammar_in words n t count)
-accepted-words file words n t count a en et ec d =
-    subst⁻¹ Accepted (read_grammar file n t count words (record { symbols = en; tokens = et; rules = ec }) d) a.accepted
+-- A grammar that holds a file is the file's, and is accepted with it.
+pub holds-grammar : (file : List ℕ) (g : held.Grammar) → HoldsFile file g → decoded g ≡ grammar_of file
+holds-grammar file g h =
+    read_grammar file g.symbols g.tokens g.rules.count g.rules.words (record { symbols = h.symbols; tokens = h.tokens; rules = h.count }) h.words.rules
+
+pub holds-accepted : (file : List ℕ) (g : held.Grammar) → AcceptedFile file → HoldsFile file g → Accepted (decoded g)
+holds-accepted file g a h = subst⁻¹ Accepted (holds-grammar file g h) a.accepted

@@ -7,10 +7,8 @@
 ghost use Rattle.std.specs.Prelude.{◌≤◌, ◌<◌};
 ghost use Rattle.grammar.specs.Accepted.{max_symbols};
 
-use bits::{Row, WIDTH};
-use grammar::Checked;
-use grammar::file::{rule_count, symbols};
-use grammar::rules::decode;
+use bits::Row;
+use grammar::{Fault, Grammar, check, read};
 use prediction::{Table, table};
 use programs::reading::read_full;
 use std::io;
@@ -31,17 +29,11 @@ fn read_part<R: Read>(from: &mut R, buf: &mut [u8], n: usize) -> usize {
 }
 
 fn digit(file: &[u8]) -> u8 {
-    match grammar::check(file) {
-        Checked::Accepted => b'0',
-        Checked::Malformed => b'1',
-        Checked::Broken => b'2',
+    match check(file) {
+        Ok(()) => b'0',
+        Err(Fault::Malformed) => b'1',
+        Err(Fault::Broken) => b'2',
     }
-}
-
-fn wide(byte: u8) -> usize
-    ensures { result < 256 }
-{
-    byte as usize
 }
 
 // The answer to the first `n` bytes of `buf`.
@@ -65,10 +57,10 @@ fn print(rt: &impl Print, label: &[u8], n: usize, number: u8) -> io::Result<()> 
 }
 
 // The words of a row, sixteen digits each, parted by blanks.
-fn print_row(rt: &impl Print, row: Row) -> io::Result<()> {
+fn print_row(rt: &impl Print, row: &Row) -> io::Result<()> {
     print!(rt; "{:016x}", row[0])?;
-    for i in 1..WIDTH {
-        print!(rt; " {:016x}", row[i])?;
+    for word in &row[1..] {
+        print!(rt; " {word:016x}")?;
     }
     println!(rt)
 }
@@ -77,8 +69,7 @@ fn print_row(rt: &impl Print, row: Row) -> io::Result<()> {
 fn print_rows(rt: &impl Print, table: &Table, n: usize) -> io::Result<()>
     requires { n ≤ max_symbols }
 {
-    for x in 0..n {
-        let row = table[x];
+    for row in &table[..n] {
         print_row(rt, row)?;
     }
     Ok(())
@@ -86,14 +77,12 @@ fn print_rows(rt: &impl Print, table: &Table, n: usize) -> io::Result<()>
 
 // The table of a file that is accepted; nothing of any other.
 fn show(rt: &impl Print, file: &[u8]) -> io::Result<()> {
-    let Checked::Accepted = grammar::check(file) else {
+    let mut grammar = Grammar::new();
+    let Ok(()) = read(file, &mut grammar) else {
         return Ok(());
     };
-    let n = symbols(file);
-    let count = rule_count(file);
-    let rules = decode(file);
-    let made = table(&rules, n, count);
-    print_rows(rt, &made, n)
+    let made = table(&grammar.rules, grammar.symbols);
+    print_rows(rt, &made, grammar.symbols)
 }
 
 // The table of the first `n` bytes of `buf`.
@@ -110,8 +99,8 @@ fn replay<R: Read>(rt: &impl Print, from: &mut R) -> io::Result<bool> {
     if read_full(from, &mut head) < 3 {
         return Ok(false);
     }
-    let named = wide(head[0]);
-    let long = wide(head[1]) * 256 + wide(head[2]);
+    let named = usize::from(head[0]);
+    let long = usize::from(u16::from_be_bytes([head[1], head[2]]));
     let mut label = [0u8; LABEL];
     let mut file = [0u8; FILE];
     read_part(from, &mut label, named);
