@@ -7,12 +7,10 @@ ghost use Rattle.std.specs.Prelude.{◌≡◌};
 ghost use Rattle.binary_heap.specs.Entry.{entries_in};
 ghost use Rattle.binary_heap.specs.Queue.{Places};
 
-use binary_heap::entry::ENTRY_WORDS;
-use binary_heap::{Popped, Pushed};
-use item::ITEM_WORDS;
+use binary_heap::entry::{ENTRY_WORDS, Entry};
+use item::{ITEM_WORDS, Item};
 use programs::reading::read_full;
 use std::io;
-use std::num::wrapping_add_u64;
 
 // The text, the words of a record's items, and those of its queue at most: 1,024 items and as many entries.
 const TEXT: usize = 262_144;
@@ -32,6 +30,20 @@ struct Replay {
     different: u64,
 }
 
+impl Replay {
+    // An operation that cannot be done counts as different.
+    fn refused(self, operation: usize, answer: usize) -> Replay
+        ensures { result.entries ≡ self.entries }
+    {
+        Replay {
+            operation,
+            answer,
+            different: self.different.wrapping_add(1),
+            ..self
+        }
+    }
+}
+
 fn main(rt: HostRuntime) -> io::Result<()> {
     let mut text = [0u8; TEXT];
     let length = read_full(&mut rt.reader(), &mut text);
@@ -45,18 +57,14 @@ fn main(rt: HostRuntime) -> io::Result<()> {
         records.next,
         records.value,
     );
-    tell(&rt, "records", records.value)?;
-    tell(&rt, "pops", end.pops)?;
-    tell(&rt, "different", end.different)?;
-    tell(&rt, "uncleared", uncleared(&queue))
+    let uncleared = queue.iter().filter(|&&word| word != 0).count();
+    println!(rt; "records {}", records.value)?;
+    println!(rt; "pops {}", end.pops)?;
+    println!(rt; "different {}", end.different)?;
+    println!(rt; "uncleared {uncleared}")
 }
 
-// Writes a line: a word and a number.
-fn tell(rt: &impl Print, word: &str, number: u64) -> io::Result<()> {
-    println!(rt; "{word} {number}")
-}
-
-// Replays records one after the other, from a place of the text on. A record begins with an empty queue.
+// Replays records one after the other, from a place of the text on.
 fn replay_records(
     text: &[u8],
     items: &mut [u32],
@@ -71,32 +79,23 @@ fn replay_records(
         pops: 0,
         different: 0,
     };
-    let mut left = records;
-    while left > 0 {
-        end = replay_record(text, items, queue, end.answer, end.pops, end.different);
-        left -= 1;
+    for _ in 0..records {
+        end = replay_record(text, items, queue, end);
     }
     end
 }
 
-// Replays the record at a place of the text: its items, then its operations. The recorded answers stand behind these.
-fn replay_record(
-    text: &[u8],
-    items: &mut [u32],
-    queue: &mut [u32],
-    at: usize,
-    pops: u64,
-    different: u64,
-) -> Replay {
-    let count = numbers::read(text, at);
+// Replays the record behind the answers of the one before: its items, then its operations on an empty queue. Its own recorded answers
+// stand behind these.
+fn replay_record(text: &[u8], items: &mut [u32], queue: &mut [u32], before: Replay) -> Replay {
+    let count = numbers::read(text, before.answer);
     let behind = load(text, items, count.next, count.value);
     let operations = numbers::read(text, behind);
     let start = Replay {
         operation: operations.next,
         answer: answers_of(text, operations.next, operations.value),
         entries: 0,
-        pops,
-        different,
+        ..before
     };
     operate(text, items, queue, start, operations.value)
 }
@@ -104,39 +103,36 @@ fn replay_record(
 // Stores as many items as there is room for, and answers the place behind the items in the text.
 fn load(text: &[u8], items: &mut [u32], at: usize, count: u64) -> usize {
     let mut next = at;
-    let mut place = 0;
-    let mut left = count;
-    while left > 0 {
+    for place in 0..count {
         let origin = numbers::read(text, next);
         let rule = numbers::read(text, origin.next);
         next = rule.next;
-        place = store(items, place, low(origin.value), low(rule.value));
-        left -= 1;
+        let item = Item {
+            origin: low(origin.value),
+            rule: low(rule.value),
+            handle: 0,
+        };
+        store(items, place, item);
     }
     next
 }
 
-// Stores an item, if there is room, and answers the place for the next.
-fn store(items: &mut [u32], place: usize, origin: u32, rule: u32) -> usize {
-    if place >= items.len() / ITEM_WORDS {
-        return place;
+// Stores an item, if there is room.
+fn store(items: &mut [u32], place: u64, item: Item) {
+    if place < (items.len() / ITEM_WORDS) as u64 {
+        item::write(items, place as usize, item);
     }
-    item::write(items, place, origin, rule, 0);
-    place + 1
 }
 
 // The place behind the operations: two numbers for a push, one for a pop.
 fn answers_of(text: &[u8], at: usize, operations: u64) -> usize {
     let mut next = at;
-    let mut left = operations;
-    while left > 0 {
+    for _ in 0..operations {
         let operation = numbers::read(text, next);
         next = operation.next;
         if operation.value == 0 {
-            let place = numbers::read(text, next);
-            next = place.next;
+            next = numbers::read(text, next).next;
         }
-        left -= 1;
     }
     next
 }
@@ -146,10 +142,8 @@ fn operate(text: &[u8], items: &[u32], queue: &mut [u32], start: Replay, operati
     requires { Places items.now (entries_in queue.old) start.entries }
 {
     let mut r = start;
-    let mut left = operations;
-    while left > 0 {
+    for _ in 0..operations {
         r = step(text, items, queue, r);
-        left -= 1;
     }
     r
 }
@@ -173,18 +167,20 @@ fn push(items: &[u32], queue: &mut [u32], r: Replay, next: usize, place: u32) ->
     ensures { Places items.now (entries_in queue.new) result.entries }
 {
     if (place as usize) >= items.len() / ITEM_WORDS {
-        return refused(r, next, r.answer);
+        return r.refused(next, r.answer);
     }
+    let entry = Entry {
+        place,
+        right: factor(place),
+    };
     let capacity = queue.len() / ENTRY_WORDS;
-    match binary_heap::push(items, queue, capacity, r.entries, place, factor(place)) {
-        Pushed::Count(entries) => Replay {
+    match binary_heap::push(items, queue, capacity, r.entries, entry) {
+        Some(entries) => Replay {
             operation: next,
-            answer: r.answer,
             entries,
-            pops: r.pops,
-            different: r.different,
+            ..r
         },
-        Pushed::Full => refused(r, next, r.answer),
+        None => r.refused(next, r.answer),
     }
 }
 
@@ -195,57 +191,28 @@ fn pop(text: &[u8], items: &[u32], queue: &mut [u32], r: Replay, next: usize) ->
 {
     let recorded = numbers::read(text, r.answer);
     match binary_heap::pop(items, queue, r.entries) {
-        Popped::Entry { place, right, left } => Replay {
+        Some((entry, left)) => Replay {
             operation: next,
             answer: recorded.next,
             entries: left,
-            pops: wrapping_add_u64(r.pops, 1),
-            different: wrapping_add_u64(r.different, differs(place, right, recorded.value)),
+            pops: r.pops.wrapping_add(1),
+            different: r.different.wrapping_add(differs(entry, recorded.value) as u64),
         },
-        Popped::Empty => refused(r, next, recorded.next),
-    }
-}
-
-// An operation that cannot be done counts as different.
-fn refused(r: Replay, operation: usize, answer: usize) -> Replay
-    ensures { result.entries ≡ r.entries }
-{
-    Replay {
-        operation,
-        answer,
-        entries: r.entries,
-        pops: r.pops,
-        different: wrapping_add_u64(r.different, 1),
+        None => r.refused(next, recorded.next),
     }
 }
 
 // The right factor that a place is pushed with, another for each.
 fn factor(place: u32) -> u32 {
-    low(place as u64 + 1)
+    low(u64::from(place) + 1)
 }
 
-// 1 where the entry is not the recorded one, or has not its right factor.
-fn differs(place: u32, right: u32, recorded: u64) -> u64 {
-    if right != factor(place) {
-        return 1;
-    }
-    if place as u64 == recorded { 0 } else { 1 }
+// Whether an entry is not the recorded one, or has not its right factor.
+fn differs(entry: Entry, recorded: u64) -> bool {
+    entry.right != factor(entry.place) || u64::from(entry.place) != recorded
 }
 
 // The low 32 bits.
 fn low(value: u64) -> u32 {
     (value % 4_294_967_296) as u32
-}
-
-// How many words of the queue are not 0.
-fn uncleared(queue: &[u32]) -> u64 {
-    let mut words: u64 = 0;
-    let mut k = 0;
-    while k < queue.len() {
-        if queue[k] != 0 {
-            words = wrapping_add_u64(words, 1);
-        }
-        k += 1;
-    }
-    words
 }

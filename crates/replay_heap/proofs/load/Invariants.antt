@@ -4,6 +4,3 @@ use Rattle.replay_heap.proofs.load.Given as goal
 
 abbrev pub invariant-loop-left : goal.invariant-loop-left
 invariant-loop-left l = length l.items ≡ length l.initial.items
-
-abbrev pub decreases-loop-left : goal.decreases-loop-left
-decreases-loop-left l = l.left

@@ -6,6 +6,3 @@ use Rattle.replay_heap.proofs.operate.Given as goal
 
 abbrev pub invariant-loop-left : goal.invariant-loop-left
 invariant-loop-left l = (length l.queue ≡ length l.initial.queue) × Places l.items (entries_in l.queue) l.r.entries
-
-abbrev pub decreases-loop-left : goal.decreases-loop-left
-decreases-loop-left l = l.left
