@@ -5,15 +5,15 @@ use Rattle.binary_heap.specs.Queue.{Places}
 use Rattle.binary_heap.proofs.Kept.{kept-empty, kept_entry}
 use Rattle.replay_heap.proofs.pop.Goals as goal
 
-pub returns-in-Entry : goal.returns-in-Entry
-returns-in-Entry c =
+pub returns-in-Some : goal.returns-in-Some
+returns-in-Some c =
     let called = c.pop in
-    kept_entry (entry_key c.args.items.now) c.args.items.now (entries_in c.args.queue.now) _ _ c.requires _ _ _
-    (sym called.ensures.answer ∙ c.in-Entry.is) called.ensures.words
+    kept_entry (entry_key c.args.items.now) c.args.items.now (entries_in c.args.queue.now) _ _ c.requires _ _
+    (sym called.ensures.answer ∙ c.in-Some.is) called.ensures.words
 
-pub returns-in-Empty : goal.returns-in-Empty
-returns-in-Empty c =
+pub returns-in-None : goal.returns-in-None
+returns-in-None c =
     let called = c.pop in
     subst (λ (n : ℕ). Places c.args.items.now (entries_in called.new.queue) n) (sym c.refused.ensures)
     (kept-empty (entry_key c.args.items.now) c.args.items.now (entries_in c.args.queue.now) _ _ c.requires
-    (sym called.ensures.answer ∙ c.in-Empty.is) called.ensures.words)
+    (sym called.ensures.answer ∙ c.in-None.is) called.ensures.words)

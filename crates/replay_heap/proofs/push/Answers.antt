@@ -14,17 +14,15 @@ pub push-requires : goal.push-requires
 push-requires c =
     (c.requires, omega (arith, held-length c.args.queue.now), omega arith)
 
-pub returns-in-Count : goal.returns-in-Count
-returns-in-Count c =
+pub returns-in-Some : goal.returns-in-Some
+returns-in-Some c =
     let called = c.push in
-    let factor = c.factor in
-    kept-count (entry_key c.args.items.now) c.args.items.now (entries_in c.args.queue.now) _ _ c.requires _ (record { place = c.args.place; right = factor.result }) _ (omega arith)
-    (sym called.ensures.answer ∙ c.in-Count.is) called.ensures.words
+    kept-count (entry_key c.args.items.now) c.args.items.now (entries_in c.args.queue.now) _ _ c.requires _ _ _ (omega arith)
+    (sym called.ensures.answer ∙ c.in-Some.is) called.ensures.words
 
-pub returns-in-Full : goal.returns-in-Full
-returns-in-Full c =
+pub returns-in-None : goal.returns-in-None
+returns-in-None c =
     let called = c.push in
-    let factor = c.factor in
-    subst (λ (n : ℕ). Places c.args.items.now (entries_in called.new.queue) n) (sym c.refused-in-Full.ensures)
-    (kept_full (entry_key c.args.items.now) c.args.items.now (entries_in c.args.queue.now) _ _ c.requires _ (record { place = c.args.place; right = factor.result })
-    (sym called.ensures.answer ∙ c.in-Full.is) called.ensures.words)
+    subst (λ (n : ℕ). Places c.args.items.now (entries_in called.new.queue) n) (sym c.refused-in-None.ensures)
+    (kept_full (entry_key c.args.items.now) c.args.items.now (entries_in c.args.queue.now) _ _ c.requires _ _
+    (sym called.ensures.answer ∙ c.in-None.is) called.ensures.words)
