@@ -23,7 +23,7 @@ use Rattle.grammar.specs.Accepted.{Accepted, Nonterminal, Reachable}
 use Rattle.grammar.specs.Prediction.{Reaches, here as itself, by_first}
 use Rattle.grammar.proofs.Facts.{rule-says}
 use Rattle.node.specs.Choice.{both_below}
-use Rattle.node.specs.Rows.{units_of, row_of, sum_row, long_product, alone_row, pair_row, product_row, leaf_row, unfit, unfit_right, unfit_product}
+use Rattle.node.specs.Rows.{units_at, row_of, sum_row, long_product, alone_row, pair_row, product_row, leaf_row, unfit, unfit_right, unfit_product}
 use Rattle.node.specs.Writing.{put, place, write_units}
 use Rattle.node.specs.declared.Node.TheVariants.{Sum, Evaluated}
 use Rattle.node.proofs.InOrder.{WrittenFrom}
@@ -243,11 +243,11 @@ abbrev store : List ℕ
 store = 0x8000 ∷ 0x0101 ∷ 0x2201 ∷ []
 
 leaf-written : WrittenFrom empty-store 0 (Evaluated 0 ∷ []) one_leaf 1
-unfolding write_units place put units_of row_of sum_row long_product alone_row pair_row product_row leaf_row unfit unfit_right unfit_product both_below
+unfolding write_units place put units_at row_of sum_row long_product alone_row pair_row product_row leaf_row unfit unfit_right unfit_product both_below
 leaf-written = WrittenFrom.more {q = 1} refl WrittenFrom.none
 
 sum-written : WrittenFrom one_leaf 1 (Sum 1 1 ∷ spell (alone 1 0) ∷ []) store 3
-unfolding write_units place put units_of row_of sum_row long_product alone_row pair_row product_row leaf_row unfit unfit_right unfit_product both_below
+unfolding write_units place put units_at row_of sum_row long_product alone_row pair_row product_row leaf_row unfit unfit_right unfit_product both_below
 sum-written = WrittenFrom.more {t = 0x8000 ∷ 0x0101 ∷ 0xFFFF ∷ []} {q = 2} refl (WrittenFrom.more {q = 3} refl WrittenFrom.none)
 
 leaf-node : NodeOf g is scanned (token 0)

@@ -9,7 +9,7 @@ use Rattle.node.specs.Choice.{pick}
 use Rattle.node.specs.Rows.{units_at}
 use Rattle.node.specs.Writing.{usable}
 use Rattle.node.specs.Reading.{stand, spelt}
-use Rattle.node.specs.declared.Right.TheVariants.{At, Nothing}
+use Rattle.std.specs.Prelude.{Some, None}
 use Rattle.node.specs.declared.Node.{Node as Written}
 use Rattle.node.specs.declared.Node.TheVariants.{Sum, Product as Factors, Evaluated}
 use Rattle.node.proofs.Stands.{Holds, all_held, all-stand}
@@ -74,8 +74,8 @@ used-more w = row_rises (written_row w)
 
 -- The node of a product.
 abbrev pub spell : Product → Written
-spell (alone r a) = Factors r a Nothing
-spell (paired r a b) = Factors r a (At b)
+spell (alone r a) = Factors r a None
+spell (paired r a b) = Factors r a (Some b)
 
 with_spelt : (p : Product) (l : List Product) → with_product (spell p) l ≡ p ∷ l
 with_spelt (alone r a) l = refl

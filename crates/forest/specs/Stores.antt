@@ -1,26 +1,23 @@
 -- The nodes of a store of units as a forest: the node that stands at a handle and, of a Sum, the Products behind it.
-use Rattle.std.specs.Prelude.{List, [], ◌∷◌, ℕ, zero, suc, ◌+◌, length}
+use Rattle.std.specs.Prelude.{Option, Some, None, List, [], ◌∷◌, ℕ, zero, suc, ◌+◌, length}
 use Rattle.node.specs.Choice.{pick}
 use Rattle.node.specs.Rows.{units_at}
 use Rattle.node.specs.Writing.{usable}
 use Rattle.node.specs.Reading.{head_from, stand, spelt}
-use Rattle.node.specs.declared.Spelt.{Spelt}
-use Rattle.node.specs.declared.Spelt.TheVariants.{Like, Unknown}
-use Rattle.node.specs.declared.Right.TheVariants.{At, Nothing}
 use Rattle.node.specs.declared.Node.{Node as Written}
 use Rattle.node.specs.declared.Node.TheVariants.{Sum, Product as Factors, NullingLeaf, Evaluated}
 use Rattle.forest.specs.Trees.{Tree}
 use Rattle.forest.specs.Forests.{Product, alone, paired, Node, token, sum, other, listed}
 
 -- What is made of the node whose units stand at q, nothing skipped; or what is said where none stands there.
-abbrev pub standing : {A : Type 0} → List ℕ → ℕ → Spelt → (Written → A) → A → A
-standing s q (Like n) found none = pick (stand s q (units_at q n)) (found n) none
-standing s q Unknown found none = none
+abbrev pub standing : {A : Type 0} → List ℕ → ℕ → Option Written → (Written → A) → A → A
+standing s q (Some n) found none = pick (stand s q (units_at q n)) (found n) none
+standing s q None found none = none
 
 -- A Product is put before those behind it; any other node ends them.
 abbrev pub with_product : Written → List Product → List Product
-with_product (Factors r a (At b)) l = paired r a b ∷ l
-with_product (Factors r a Nothing) l = alone r a ∷ l
+with_product (Factors r a (Some b)) l = paired r a b ∷ l
+with_product (Factors r a None) l = alone r a ∷ l
 with_product (Sum n x) l = []
 with_product (NullingLeaf x) l = []
 with_product (Evaluated x) l = []

@@ -1,24 +1,22 @@
 -- The reader takes exactly what the writer writes.
-use Prim.Native.Nat.{ℕ, suc, ◌+◌, ◌≤◌, ◌<◌}
+use Prim.Native.Nat.{ℕ, suc, ◌+◌, ◌-◌, ◌≤◌, ◌<◌}
 use mathlib.Core.Path.{◌≡◌, refl, sym, ap, subst, ◌∙◌}
 use mathlib.Core.Bool.{Bool, true, false}
 use mathlib.Core.List.{List, [], ◌∷◌}
 use native.Mathlib.Omega.{arith}
 use lib.ListN.{length, get_or, length-set}
 use lib.Dec.{ltb}
-use borrow.Author.Tests.{ltb-false, lt-ltb, le-ltb, ltb-true, le-leb}
-use Rattle.node.specs.Choice.{pick}
-use Rattle.node.specs.Rows.{units_at, units_of, list_of}
+use borrow.Author.Tests.{ltb-false, lt-ltb, le-ltb, ltb-true, le-leb, lt-leb}
+use Rattle.node.specs.Choice.{pick, both}
+use Rattle.node.specs.Rows.{units_at}
 use Rattle.node.specs.Answers.{Answer, answer, refused, done, no_node, node, end, nothing}
 use Rattle.node.specs.Reading.{head_from, stand, stand_all, spelt, head_stands, head_right, faults, lowest, take_node, read_here, read_units}
 use Rattle.node.specs.Reading.{NoNodeAt, zero_behind, Exactly}
 use Rattle.node.specs.declared.Node.{Node}
-use Rattle.node.specs.declared.Units.{Units}
-use Rattle.node.specs.declared.Spelt.{Spelt}
-use Rattle.node.specs.declared.Spelt.TheVariants.{Like, Unknown}
+use Rattle.std.specs.Prelude.{Option, Some, None}
 use Rattle.node.proofs.Stands.{hold, First, first-stands}
 use Rattle.node.proofs.Spells.{units_spell}
-use Rattle.node.proofs.Lowest.{wrong_head, second_told}
+use Rattle.node.proofs.Lowest.{wrong_head, other-head, second_told}
 use Rattle.node.proofs.Almost.{Narrow, Almost, almost, stands, wide}
 use Rattle.node.proofs.Mends.{Mends, mends, standing, leaf, zero-stands}
 
@@ -80,9 +78,9 @@ data Standing (s : List ℕ) (q : ℕ) : Type 0 where
   none : NoNodeAt s q → Standing s q
 
 -- Where the node that units spell does not stand, none does.
-none_stands : (s : List ℕ) (q : ℕ) (m : Node) → spelt s q ≡ Like m → stand s q (units_at q m) ≡ false → NoNodeAt s q
+none_stands : (s : List ℕ) (q : ℕ) (m : Node) → spelt s q ≡ Some m → stand s q (units_at q m) ≡ false → NoNodeAt s q
 none_stands s q m like st n sn =
-    let both : Like m ≡ Like n = sym like ∙ units_spell s q n sn in
+    let both : Some m ≡ Some n = sym like ∙ units_spell s q n sn in
     let same : n ≡ m = cc in
     let z : ◌≡◌ {A = Bool} true false = sym (subst (λ k. stand s q (units_at q k) ≡ true) same sn) ∙ st in
     let y : ◌≡◌ {A = ℕ} 0 1 = cc in omega arith
@@ -90,29 +88,29 @@ none_stands s q m like st n sn =
 standing_or_none : (s : List ℕ) (q : ℕ) → Standing s q
 standing_or_none s q = spelt_case (spelt s q) refl
   where
-    stand_case : (m : Node) → spelt s q ≡ Like m → (t : Bool) → stand s q (units_at q m) ≡ t → Standing s q
+    stand_case : (m : Node) → spelt s q ≡ Some m → (t : Bool) → stand s q (units_at q m) ≡ t → Standing s q
     stand_case m like true st = some m st
     stand_case m like false st = none (none_stands s q m like st)
 
-    spelt_case : (x : Spelt) → spelt s q ≡ x → Standing s q
-    spelt_case (Like m) like = stand_case m like (stand s q (units_at q m)) refl
-    spelt_case Unknown like =
+    spelt_case : (x : Option Node) → spelt s q ≡ x → Standing s q
+    spelt_case (Some m) like = stand_case m like (stand s q (units_at q m)) refl
+    spelt_case None like =
         none (λ n sn.
-        let both : Unknown ≡ Like n = sym like ∙ units_spell s q n sn in
+        let both : None ≡ Some n = sym like ∙ units_spell s q n sn in
         let z : ◌≡◌ {A = ℕ} 0 1 = cc in omega arith)
 
 -- A node that units spell is taken where its own units stand, and nowhere else.
 pub take_like :
-    (s : List ℕ) (h : ℕ) (n : Node) (u : Units) → u ≡ units_of h n → stand s h (list_of u) ≡ true
-    → take_node s h (Like n) ≡ answer done (node n (h + length (list_of u)))
+    (s : List ℕ) (h : ℕ) (n : Node) (u : List ℕ) → u ≡ units_at h n → stand s h u ≡ true
+    → take_node s h (Some n) ≡ answer done (node n (h + length u))
 unfolding take_node
 take_like s h n u is st = rw (sym is, st)
 
 pub take_none :
-    (s : List ℕ) (h : ℕ) (n : Node) (u : Units) → u ≡ units_of h n → stand s h (list_of u) ≡ false
-    → take_node s h (Like n) ≡ refused no_node (lowest (faults s h (Like n))) nothing
+    (s : List ℕ) (h : ℕ) (n : Node) (u : List ℕ) → u ≡ units_at h n → stand s h u ≡ false
+    → take_node s h (Some n) ≡ refused no_node (lowest (faults s h (Some n))) nothing
 unfolding take_node
-take_none s h n u is st = rw (sym (ap (λ v. stand s h (list_of v)) is) ∙ st)
+take_none s h n u is st = rw (sym (ap (λ v. stand s h v) is) ∙ st)
 
 -- What the reader answers at a head.
 pub here-taken : {k : ℕ} (s : List ℕ) (h : ℕ) (n : Node) (b : ℕ) → read_here s h ≡ answer k (node n b) → Taken s h n b
@@ -120,7 +118,7 @@ unfolding read_here take_node
 here-taken {k} s h n b e = spelt_case (spelt s h) e
   where
     stand_case : (m : Node) (t : Bool) → stand s h (units_at h m) ≡ t
-        → pick t (answer done (node m (h + length (units_at h m)))) (refused no_node (lowest (faults s h (Like m))) nothing) ≡ answer k (node n b)
+        → pick t (answer done (node m (h + length (units_at h m)))) (refused no_node (lowest (faults s h (Some m))) nothing) ≡ answer k (node n b)
         → Taken s h n b
     stand_case m true st e =
         let same : m ≡ n = cc in
@@ -128,9 +126,9 @@ here-taken {k} s h n b e = spelt_case (spelt s h) e
         subst (λ x. Taken s h x b) same (record { stands = st; behind = sym at })
     stand_case m false st e = record { stands = cc; behind = cc }
 
-    spelt_case : (x : Spelt) → take_node s h x ≡ answer k (node n b) → Taken s h n b
-    spelt_case (Like m) e = stand_case m (stand s h (units_at h m)) refl e
-    spelt_case Unknown e = record { stands = cc; behind = cc }
+    spelt_case : (x : Option Node) → take_node s h x ≡ answer k (node n b) → Taken s h n b
+    spelt_case (Some m) e = stand_case m (stand s h (units_at h m)) refl e
+    spelt_case None e = record { stands = cc; behind = cc }
 
 pub here-read :
     (s :
@@ -162,13 +160,13 @@ read-stands s p n st =
 
 -- Where the spelt node's head is wrong, 12 is told at the head.
 pub read_head-fault :
-    (s : List ℕ) (p : ℕ) (n : Node) → head_from s p < length s → spelt s (head_from s p) ≡ Like n
+    (s : List ℕ) (p : ℕ) (n : Node) → head_from s p < length s → spelt s (head_from s p) ≡ Some n
     → head_right s (head_from s p) (units_at (head_from s p) n) ≡ false
     → read_units s p ≡ refused no_node (head_from s p) nothing
 unfolding read_units read_here
 read_head-fault s p n before like wrong =
     rw (lt-ltb (head_from s p) (length s) before)
-    (ap (take_node s (head_from s p)) like ∙ take_none s (head_from s p) n (units_of (head_from s p) n) refl (wrong_falls s (head_from s p) _ wrong)
+    (ap (take_node s (head_from s p)) like ∙ take_none s (head_from s p) n (units_at (head_from s p) n) refl (wrong_falls s (head_from s p) _ wrong)
     ∙ ap (λ u. refused no_node u nothing) (wrong_head s (head_from s p) n wrong))
 
 -- Where no node stands at a head, 12: at the second unit of a wide leaf that a zero there would mend, and otherwise at the head.
@@ -183,11 +181,11 @@ module _ (s : List ℕ) (h : ℕ) (narrow : Narrow s) (never : NoNodeAt s h) whe
   -- Where no node stands, but a wide leaf's units do but for the second, the second is told.
   pub wide_told :
       (n : Node) (w l r : ℕ) → (w ≡ 0 → ⊥) → units_at h n ≡ w ∷ 0 ∷ l ∷ r ∷ []
-      → stand_all s h (w ∷ get_or s (h + 1) 0 ∷ l ∷ r ∷ []) ≡ true → lowest (faults s h (Like n)) ≡ h + 1
+      → stand_all s h (w ∷ get_or s (h + 1) 0 ∷ l ∷ r ∷ []) ≡ true → lowest (faults s h (Some n)) ≡ h + 1
   unfolding stand
   wide_told n w l r nonzero is st = on (ltb 0 (get_or s (h + 1) 0)) refl
     where
-      on : (t : Bool) → ltb 0 (get_or s (h + 1) 0) ≡ t → lowest (faults s h (Like n)) ≡ h + 1
+      on : (t : Bool) → ltb 0 (get_or s (h + 1) 0) ≡ t → lowest (faults s h (Some n)) ≡ h + 1
       on true e = second_told s h w (l ∷ r ∷ []) n is nonzero (right_of s h w _ (0 ∷ l ∷ r ∷ []) refl st) (ltb-true 0 (get_or s (h + 1) 0) e)
       on false e =
           let none : get_or s (h + 1) 0 ≡ 0 = omega (arith, ltb-false 0 (get_or s (h + 1) 0) e) in
@@ -195,10 +193,10 @@ module _ (s : List ℕ) (h : ℕ) (narrow : Narrow s) (never : NoNodeAt s h) whe
 
   -- The head is right of no units but a wide leaf's.
   pub right_told :
-      (n : Node) → spelt s h ≡ Like n → head_right s h (units_at h n) ≡ true → lowest (faults s h (Like n)) ≡ h + 1
+      (n : Node) → spelt s h ≡ Some n → head_right s h (units_at h n) ≡ true → lowest (faults s h (Some n)) ≡ h + 1
   right_told n like right = on (almost s h narrow n like right)
     where
-      on : Almost s h (units_at h n) → lowest (faults s h (Like n)) ≡ h + 1
+      on : Almost s h (units_at h n) → lowest (faults s h (Some n)) ≡ h + 1
       on (stands st) = absurd (never n (stand-right s h (units_at h n) right st))
       on (wide w l r nonzero is st) = wide_told n w l r nonzero is st
 
@@ -209,45 +207,74 @@ module _ (s : List ℕ) (h : ℕ) (narrow : Narrow s) (never : NoNodeAt s h) whe
       on : Mends s h n → take_node s h (spelt s h) ≡ refused no_node (h + 1) nothing
       on (standing m st) = absurd (never m st)
       on (leaf w l r nonzero is like st) =
-          ap (take_node s h) like ∙ take_none s h n (units_of h n) refl (falls n)
+          ap (take_node s h) like ∙ take_none s h n (units_at h n) refl (falls n)
           ∙ ap (λ u. refused no_node u nothing) (wide_told n w l r nonzero is st)
 
   here-fault : NoNodeAt (zero_behind s h) h → read_here s h ≡ refused no_node h nothing
   unfolding read_here take_node faults lowest
   here-fault not-mended = spelt_case (spelt s h) refl
     where
-      right_case : (m : Node) (t : Bool) → spelt s h ≡ Like m → head_right s h (units_at h m) ≡ t → lowest (faults s h (Like m)) ≡ h
+      right_case : (m : Node) (t : Bool) → spelt s h ≡ Some m → head_right s h (units_at h m) ≡ t → lowest (faults s h (Some m)) ≡ h
       right_case m true like right = on (almost s h narrow m like right)
         where
-          on : Almost s h (units_at h m) → lowest (faults s h (Like m)) ≡ h
+          on : Almost s h (units_at h m) → lowest (faults s h (Some m)) ≡ h
           on (stands st) = absurd (never m (stand-right s h (units_at h m) right st))
           on (wide w l r nonzero is st) =
               absurd (not-mended m (subst (λ us. stand (zero_behind s h) h us ≡ true) (sym is) (zero-stands s h w (get_or s (h + 1) 0) _ st)))
       right_case m false like right = wrong_head s h m right
 
-      spelt_case : (x : Spelt) → spelt s h ≡ x → take_node s h x ≡ refused no_node h nothing
-      spelt_case (Like m) like =
-          take_none s h m (units_of h m) refl (falls m) ∙ ap (λ u. refused no_node u nothing)
+      spelt_case : (x : Option Node) → spelt s h ≡ x → take_node s h x ≡ refused no_node h nothing
+      spelt_case (Some m) like =
+          take_none s h m (units_at h m) refl (falls m) ∙ ap (λ u. refused no_node u nothing)
           (right_case m (head_right s h (units_at h m)) like refl)
-      spelt_case Unknown like = refl
+      spelt_case None like = refl
 
 -- What is answered where the spelt node's units do not stand: the second unit where the head is right, and the head where it is wrong.
 pub take_second :
-    (s : List ℕ) (h : ℕ) (n : Node) (u : Units) → Narrow s → spelt s h ≡ Like n → u ≡ units_of h n → stand s h (list_of u) ≡ false
-    → head_right s h (list_of u) ≡ true
-    → take_node s h (Like n) ≡ refused no_node (h + 1) nothing
+    (s : List ℕ) (h : ℕ) (n : Node) (u : List ℕ) → Narrow s → spelt s h ≡ Some n → u ≡ units_at h n → stand s h u ≡ false
+    → head_right s h u ≡ true
+    → take_node s h (Some n) ≡ refused no_node (h + 1) nothing
 take_second s h n u narrow like is st right =
-    let fallen : stand s h (units_at h n) ≡ false = ap (λ v. stand s h (list_of v)) (sym is) ∙ st in
+    let fallen : stand s h (units_at h n) ≡ false = ap (λ v. stand s h v) (sym is) ∙ st in
     take_none s h n u is st
     ∙ ap (λ v. refused no_node v nothing)
-    (right_told s h narrow (none_stands s h n like fallen) n like (ap (λ v. head_right s h (list_of v)) (sym is) ∙ right))
+    (right_told s h narrow (none_stands s h n like fallen) n like (ap (λ v. head_right s h v) (sym is) ∙ right))
 
 pub take_head :
-    (s : List ℕ) (h : ℕ) (n : Node) (u : Units) → u ≡ units_of h n → stand s h (list_of u) ≡ false → head_right s h (list_of u) ≡ false
-    → take_node s h (Like n) ≡ refused no_node h nothing
+    (s : List ℕ) (h : ℕ) (n : Node) (u : List ℕ) → u ≡ units_at h n → stand s h u ≡ false → head_right s h u ≡ false
+    → take_node s h (Some n) ≡ refused no_node h nothing
 take_head s h n u is st wrong =
     take_none s h n u is st
-    ∙ ap (λ v. refused no_node v nothing) (wrong_head s h n (ap (λ v. head_right s h (list_of v)) (sym is) ∙ wrong))
+    ∙ ap (λ v. refused no_node v nothing) (wrong_head s h n (ap (λ v. head_right s h v) (sym is) ∙ wrong))
+
+-- An unfit node has no units, and stands nowhere.
+pub take_unfit : (s : List ℕ) (h : ℕ) (n : Node) → [] ≡ units_at h n → take_node s h (Some n) ≡ refused no_node h nothing
+unfolding stand head_right head_stands
+take_unfit s h n is = take_head s h n [] is refl refl
+
+-- What a test of the head and of the room says, of units of which there is one at least.
+pub head_told :
+    (s : List ℕ) (h : ℕ) (us : List ℕ) → h < length s → 0 < length us → get_or s h 0 ≡ get_or us 0 0 → length us ≤ length s - h
+    → head_right s h us ≡ true
+unfolding head_right head_stands
+head_told s h [] before least is room = absurd (omega (arith, least))
+head_told s h (u ∷ us) before least is room =
+    simp (hold s h u before is, le-leb (h + suc (length us)) (length s) (omega (arith, before, room)))
+
+pub head_other :
+    (s : List ℕ) (h : ℕ) (us : List ℕ) → 0 < length us → (get_or s h 0 ≡ get_or us 0 0 → ⊥) → head_right s h us ≡ false
+head_other s h [] least other = absurd (omega (arith, least))
+head_other s h (u ∷ us) least other = other-head s h u us other
+
+pub head_cut :
+    (s : List ℕ) (h : ℕ) (us : List ℕ) → h < length s → length s - h < length us → head_right s h us ≡ false
+unfolding head_right
+head_cut s h us before cut =
+    rw (lt-leb (h + length us) (length s) (omega (arith, before, cut))) (both_no (head_stands s h us))
+  where
+    both_no : (t : Bool) → both t false ≡ false
+    both_no true = refl
+    both_no false = refl
 
 -- The reader's answer is exact.
 pub reads-exactly : (s : List ℕ) (p : ℕ) → Narrow s → Exactly s p (read_units s p)

@@ -1,7 +1,11 @@
 -- Skipping fillers, one unit at a time.
 use Prim.Native.Nat.{ℕ, suc, ◌+◌, ◌≤◌, ◌<◌}
-use mathlib.Core.Path.{◌≡◌, sym, ap, ◌∙◌}
-use mathlib.Core.List.{List}
+use mathlib.Core.Path.{◌≡◌, refl, sym, ap, ◌∙◌}
+use mathlib.Core.Bool.{Bool, true, false, cond}
+use Rattle.std.specs.List.{prefix_len}
+use Rattle.std.proofs.lemmas.List.Sums.{prefix_len-le-length}
+use lib.Dec.{eqb}
+use mathlib.Core.List.{List, [], ◌∷◌}
 use native.Mathlib.Nat.{add-zero}
 use native.Mathlib.Numerals.{add-one}
 use native.Mathlib.Omega.{arith}
@@ -10,6 +14,20 @@ use lib.Seq.{drop-cons}
 use borrow.Author.Tests.{eq-eqb, ne_eqb}
 use Rattle.node.specs.Choice.{pick}
 use Rattle.node.specs.Reading.{filler, fillers, head_from}
+
+-- The library's word for it.
+pub fillers_are : (us : List ℕ) → fillers us ≡ prefix_len (λ u. eqb u filler) us
+unfolding fillers
+fillers_are [] = refl
+fillers_are (u ∷ us) = on (eqb u filler) (fillers_are us)
+  where
+    on : (t : Bool) → fillers us ≡ prefix_len (λ u. eqb u filler) us
+        → pick t (suc (fillers us)) 0 ≡ cond t (1 + prefix_len (λ u. eqb u filler) us) 0
+    on true rest = omega (arith, rest)
+    on false rest = refl
+
+pub fillers-few : (us : List ℕ) → fillers us ≤ length us
+fillers-few us = omega (arith, fillers_are us, prefix_len-le-length (λ u. eqb u filler) us)
 
 -- Past the end there is nothing to skip.
 pub head_past : (s : List ℕ) (q : ℕ) → length s ≤ q → head_from s q ≡ q

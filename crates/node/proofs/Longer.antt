@@ -7,13 +7,12 @@ use native.Mathlib.Omega.{arith}
 use lib.ListN.{length, get_or}
 use borrow.Author.Tests.{ne_eqb}
 use Rattle.node.specs.Choice.{both_below}
-use Rattle.node.specs.Rows.{units_at, list_of, long_product, distance, low, high, all_ones}
+use Rattle.node.specs.Rows.{units_at, long_product, distance, low, high, all_ones}
 use Rattle.node.specs.Answers.{refused, no_node, nothing}
 use Rattle.node.specs.Reading.{filler, head_from, stand, spelt, head_right, read_units}
-use Rattle.node.specs.declared.Right.TheVariants.{At, Nothing}
+use Rattle.std.specs.Prelude.{Some, None}
 use Rattle.node.specs.declared.Node.{Node}
 use Rattle.node.specs.declared.Node.TheVariants.{Sum, Product, NullingLeaf, Evaluated}
-use Rattle.node.specs.declared.Spelt.TheVariants.{Like}
 use Rattle.node.proofs.Choices.{BothBelow, below}
 use Rattle.node.proofs.Due.{due-sum, due-short, due-middle, due-pair, due-evaluated, due_nulling}
 use Rattle.node.proofs.Lowest.{other-head}
@@ -28,23 +27,23 @@ pub data Longer (p : ℕ) : Node → List ℕ → Type 0 where
   sum : {count nonterminal : ℕ} → count < 32 → nonterminal < 256
       → Longer p (Sum count nonterminal) ((0xE000 + high count) ∷ low count ∷ low nonterminal ∷ high nonterminal ∷ [])
   middle : {action left : ℕ} → left < p → distance p left < 32 → action < 256
-      → Longer p (Product action left Nothing) ((0x4000 + distance p left) ∷ action ∷ [])
+      → Longer p (Product action left None) ((0x4000 + distance p left) ∷ action ∷ [])
   alone : {action left : ℕ} → left < p → distance p left < 8192 → action < 65536
-      → Longer p (Product action left Nothing) (list_of (long_product action left all_ones))
+      → Longer p (Product action left None) (long_product action left all_ones)
   pair : {action left right : ℕ} → left < p → right < p → distance p right < 32 → distance p left < 256 → action < 65536
       → (right ≡ all_ones → ⊥)
-      → Longer p (Product action left (At right)) (list_of (long_product action left right))
+      → Longer p (Product action left (Some right)) (long_product action left right)
   evaluated : {symbol : ℕ} → symbol < 4096 → Longer p (Evaluated symbol) (0xA000 ∷ 0 ∷ low symbol ∷ high symbol ∷ [])
   nulling : {symbol : ℕ} → symbol < 4096 → Longer p (NullingLeaf symbol) (0xA001 ∷ 0 ∷ low symbol ∷ high symbol ∷ [])
 
 -- Units that spell a node and begin otherwise than its own are 12, seen at the head.
 not_own :
-    (s : List ℕ) (p x : ℕ) (n : Node) (u : ℕ) (us : List ℕ) → p < length s → get_or s p 0 ≡ x → (x ≡ filler → ⊥) → spelt s p ≡ Like n
+    (s : List ℕ) (p x : ℕ) (n : Node) (u : ℕ) (us : List ℕ) → p < length s → get_or s p 0 ≡ x → (x ≡ filler → ⊥) → spelt s p ≡ Some n
     → units_at p n ≡ u ∷ us → (x ≡ u → ⊥) → read_units s p ≡ refused no_node p nothing
 not_own s p x n u us before is no_filler like own other =
     let at : head_from s p ≡ p = head-here s p before (λ e. no_filler (sym is ∙ e)) in
     read_head-fault s p n (omega (arith, at))
-    (subst (λ h. spelt s h ≡ Like n) (sym at) like)
+    (subst (λ h. spelt s h ≡ Some n) (sym at) like)
     (subst (λ h. head_right s h (units_at h n) ≡ false) (sym at)
     (ap (head_right s p) own ∙ other-head s p u us (λ e. other (sym is ∙ e))))
     ∙ ap (λ h. refused no_node h nothing) at
@@ -59,14 +58,14 @@ longer_is_12 s p (sum {count = c} {nonterminal = n} hc hn) st =
     (due-sum p c n hc hn) (λ e. omega (arith, e))
 longer_is_12 s p (middle {action = a} {left = l} before hl ha) st =
     let f : S.First s p (0x4000 + distance p l) (a ∷ []) = S.first-stands s p _ _ st in
-    not_own s p (0x4000 + distance p l) (Product a l Nothing) _ _ f.first.within f.first.there (λ e. omega (arith, e))
+    not_own s p (0x4000 + distance p l) (Product a l None) _ _ f.first.within f.first.there (λ e. omega (arith, e))
     (Sp.middle-alone s p _ (distance p l) a l (omega arith) f.first.there (S.first-stands s (p + 1) _ _ f.others).first.there
     (Sp.factor_back p l before))
     (due-short p a l before hl ha) (λ e. omega (arith, e))
 longer_is_12 s p (alone {action = a} {left = l} before hl ha) st = on (both_below (distance p l) 32 a 256) refl
   where
-    spells : spelt s p ≡ Like (Product a l Nothing)
-    spells = Sp.product-spells s p a l all_ones Nothing (omega arith) Sp.long_none st
+    spells : spelt s p ≡ Some (Product a l None)
+    spells = Sp.product-spells s p a l all_ones None (omega arith) Sp.long_none st
 
     begins : get_or s p 0 ≡ 0xC000 + high a
     begins = (S.first-stands s p _ _ st).first.there
@@ -74,20 +73,20 @@ longer_is_12 s p (alone {action = a} {left = l} before hl ha) st = on (both_belo
     on : (t : Bool) → both_below (distance p l) 32 a 256 ≡ t → read_units s p ≡ refused no_node p nothing
     on true e =
         let b : BothBelow (distance p l) 32 a 256 = below (sym e) refl in
-        not_own s p (0xC000 + high a) (Product a l Nothing) _ _ (S.first-stands s p _ _ st).first.within begins (λ e. omega (
+        not_own s p (0xC000 + high a) (Product a l None) _ _ (S.first-stands s p _ _ st).first.within begins (λ e. omega (
           arith,
           e,
         ))
         spells (due-short p a l before b.first b.second) (λ e. omega (arith, e, b.first, b.second))
     on false e =
-        not_own s p (0xC000 + high a) (Product a l Nothing) _ _ (S.first-stands s p _ _ st).first.within begins (λ e. omega (
+        not_own s p (0xC000 + high a) (Product a l None) _ _ (S.first-stands s p _ _ st).first.within begins (λ e. omega (
           arith,
           e,
         ))
         spells (due-middle p a l before e hl ha) (λ e. omega (arith, e))
 longer_is_12 s p (pair {action = a} {left = l} {right = r} left-before right-before hr hl ha present) st =
-    not_own s p (0xC000 + high a) (Product a l (At r)) _ _ (S.first-stands s p _ _ st).first.within (S.first-stands s p _ _ st).first.there
-    (λ e. omega (arith, e)) (Sp.product-spells s p a l r (At r) (omega arith) (Sp.long_present r (ne_eqb r all_ones present)) st)
+    not_own s p (0xC000 + high a) (Product a l (Some r)) _ _ (S.first-stands s p _ _ st).first.within (S.first-stands s p _ _ st).first.there
+    (λ e. omega (arith, e)) (Sp.product-spells s p a l r (Some r) (omega arith) (Sp.long_present r (ne_eqb r all_ones present)) st)
     (due-pair p a l r left-before right-before hr hl ha present) (λ e. omega (arith, e))
 longer_is_12 s p (evaluated {symbol = n} h) st =
     let f : S.Four s p 0xA000 0 (high n * 65536 + low n) = S.four_stand s p _ _ _ _ _ st in

@@ -11,7 +11,7 @@ use Rattle.node.specs.Choice.{pick, both}
 use Rattle.node.specs.Rows.{units_at}
 use Rattle.node.specs.Reading.{holds, head_stands, head_right, not_zero, faults, lowest}
 use Rattle.node.specs.declared.Node.{Node}
-use Rattle.node.specs.declared.Spelt.TheVariants.{Like}
+use Rattle.std.specs.Prelude.{Some}
 use Rattle.node.proofs.Choices.{Both, both_true}
 use Rattle.node.proofs.Stands.{held}
 
@@ -28,7 +28,7 @@ head-lowest s q k (u ∷ us) le =
     on false from-q from-k = from-q
 
 -- Where the head is wrong, the head is told.
-pub wrong_head : (s : List ℕ) (q : ℕ) (n : Node) → head_right s q (units_at q n) ≡ false → lowest (faults s q (Like n)) ≡ q
+pub wrong_head : (s : List ℕ) (q : ℕ) (n : Node) → head_right s q (units_at q n) ≡ false → lowest (faults s q (Some n)) ≡ q
 unfolding faults
 wrong_head s q n wrong = rw wrong (head-lowest s q q (units_at q n) (omega arith))
 
@@ -56,7 +56,7 @@ right-head s q u us e =
 pub second_told :
     (s : List ℕ) (q w : ℕ) (us : List ℕ) (n : Node) → units_at q n ≡ w ∷ 0 ∷ us → (w ≡ 0 → ⊥) → head_right s q (w ∷ 0 ∷ us) ≡ true
     → 0 < get_or s (q + 1) 0
-    → lowest (faults s q (Like n)) ≡ q + 1
+    → lowest (faults s q (Some n)) ≡ q + 1
 unfolding faults not_zero
 second_told s q w us n is some right not-zero =
     rw is (simp (right, ne_eqb w 0 some, lt-ltb 0 (get_or s (q + 1) 0) not-zero) (head-lowest s (q + 1) (q + 1 + 1) us (omega arith)))

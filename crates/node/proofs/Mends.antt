@@ -9,14 +9,12 @@ use lib.Seq.{get_or-set_same, get_or-set_other}
 use lib.Dec.{ltb}
 use borrow.Author.Tests.{lt-ltb, ltb-true, eqb-false}
 use Rattle.node.specs.Choice.{pick, both, both_below}
-use Rattle.node.specs.Rows.{distance, units_of, units_at, list_of, row_of, sum_row, long_product, alone_row, pair_row, product_row}
+use Rattle.node.specs.Rows.{distance, units_at, row_of, sum_row, long_product, alone_row, pair_row, product_row}
 use Rattle.node.specs.Rows.{leaf_row, unfit, unfit_right, low, high, all_ones, count_limit, action_limit}
 use Rattle.node.specs.Reading.{spelt, value_at, stand_all, stand, zero_behind}
-use Rattle.node.specs.declared.Right.TheVariants.{At, Nothing}
+use Rattle.std.specs.Prelude.{Some, None}
 use Rattle.node.specs.declared.Node.{Node}
 use Rattle.node.specs.declared.Node.TheVariants.{Sum, Product, NullingLeaf, Evaluated}
-use Rattle.node.specs.declared.Units.TheVariants.{Unfit, One, Two, Four}
-use Rattle.node.specs.declared.Spelt.TheVariants.{Like}
 use Rattle.node.proofs.Choices.{BothBelow, below, Both, both_true}
 use Rattle.node.proofs.Fit.{fit-sum, FitProduct, fit-product, FitRight, fit-right, fit_row}
 use Rattle.node.proofs.Stands as S
@@ -78,7 +76,7 @@ module _ (s : List ℕ) (q : ℕ) where
   -- A node that a zero behind the head makes stand: some node stands without it, or it is a wide leaf whose other units stand.
   pub data Mends (n : Node) : Type 0 where
     standing : (m : Node) → stand s q (units_at q m) ≡ true → Mends n
-    leaf : (w l h : ℕ) → (w ≡ 0 → ⊥) → units_at q n ≡ w ∷ 0 ∷ l ∷ h ∷ [] → spelt s q ≡ Like n
+    leaf : (w l h : ℕ) → (w ≡ 0 → ⊥) → units_at q n ≡ w ∷ 0 ∷ l ∷ h ∷ [] → spelt s q ≡ Some n
         → stand_all s q (w ∷ get_or s (q + 1) 0 ∷ l ∷ h ∷ []) ≡ true
         → Mends n
 
@@ -89,14 +87,14 @@ module _ (s : List ℕ) (q : ℕ) where
 
   module _ (narrow : Narrow s) where
     sum_mends :
-        (c n : ℕ) → c < count_limit → units_at q (Sum c n) ≡ list_of (sum_row c n)
-        → stand (zero_behind s q) q (list_of (sum_row c n)) ≡ true → Mends (Sum c n)
+        (c n : ℕ) → c < count_limit → units_at q (Sum c n) ≡ (sum_row c n)
+        → stand (zero_behind s q) q (sum_row c n) ≡ true → Mends (Sum c n)
     unfolding sum_row stand
     sum_mends c n small own st = on (both_below c 32 n 256) refl own st
       where
         on : (t : Bool) → both_below c 32 n 256 ≡ t
-            → units_at q (Sum c n) ≡ list_of (pick t (One (c * 256 + n)) (Four (0xE000 + high c) (low c) (low n) (high n)))
-            → stand (zero_behind s q) q (list_of (pick t (One (c * 256 + n)) (Four (0xE000 + high c) (low c) (low n) (high n)))) ≡ true
+            → units_at q (Sum c n) ≡ (pick t ((c * 256 + n) ∷ []) ((0xE000 + high c) ∷ low c ∷ low n ∷ high n ∷ []))
+            → stand (zero_behind s q) q (pick t ((c * 256 + n) ∷ []) ((0xE000 + high c) ∷ low c ∷ low n ∷ high n ∷ [])) ≡ true
             → Mends (Sum c n)
         on true e own st = known (Sum c n) _ [] own (restand_one _ st)
         on false e own st =
@@ -114,8 +112,8 @@ module _ (s : List ℕ) (q : ℕ) where
     -- The longest Product with another low half of its action.
     long_mends :
         (n : Node) (a l v : ℕ) (m : ℕ → Node)
-        → (low a ≡ 0 → (b : ℕ) → high b ≡ high a → units_at q (m b) ≡ list_of (long_product b l v))
-        → stand_all (zero_behind s q) q (list_of (long_product a l v)) ≡ true → Mends n
+        → (low a ≡ 0 → (b : ℕ) → high b ≡ high a → units_at q (m b) ≡ (long_product b l v))
+        → stand_all (zero_behind s q) q (long_product a l v) ≡ true → Mends n
     unfolding long_product
     long_mends n a l v m due st =
         let none : low a ≡ 0 = second-zero _ _ _ st in
@@ -127,54 +125,54 @@ module _ (s : List ℕ) (q : ℕ) where
         (due none action top ∙ rw (top, rest)) (restand _ _ _ st)
 
     alone_mends :
-        (a l : ℕ) → a < action_limit → l < q → units_at q (Product a l Nothing) ≡ list_of (alone_row q a l)
-        → stand (zero_behind s q) q (list_of (alone_row q a l)) ≡ true → Mends (Product a l Nothing)
+        (a l : ℕ) → a < action_limit → l < q → units_at q (Product a l None) ≡ (alone_row q a l)
+        → stand (zero_behind s q) q (alone_row q a l) ≡ true → Mends (Product a l None)
     unfolding alone_row stand long_product
     alone_mends a l small before own st = short (both_below (distance q l) 32 a 256) refl own st
       where
         middle : (t : Bool) → both_below (distance q l) 32 a 256 ≡ false → both_below (distance q l) 8192 a 65536 ≡ t
-            → stand (zero_behind s q) q (list_of (pick t (Two (0x4000 + distance q l) a) (long_product a l all_ones))) ≡ true
-            → Mends (Product a l Nothing)
+            → stand (zero_behind s q) q (pick t ((0x4000 + distance q l) ∷ a ∷ []) (long_product a l all_ones)) ≡ true
+            → Mends (Product a l None)
         middle true no_short e st =
             let b : BothBelow (distance q l) 8192 a 65536 = below (sym e) refl in
             let none : a ≡ 0 = second-zero _ _ _ st in
             let long : both_below (distance q l) 32 (get_or s (q + 1) 0) 256 ≡ false =
             still_not no_short (λ h. record { first = h.first; second = omega (arith, none) }) in
-            known (Product (get_or s (q + 1) 0) l Nothing) _ _
+            known (Product (get_or s (q + 1) 0) l None) _ _
             (due-middle q (get_or s (q + 1) 0) l before long b.first (narrow.fits (q + 1))) (restand _ _ _ st)
         middle false no_short e st =
-            long_mends _ a l all_ones (λ b. Product b l Nothing) (λ none b top.
+            long_mends _ a l all_ones (λ b. Product b l None) (λ none b top.
             due-long-alone q b l before (omega (arith, small, top))
             (still_not no_short (λ h. record { first = h.first; second = omega (arith, h.second, none, top) }))
             (still_not e (λ h. record { first = h.first; second = omega (arith, h.second, none, top) }))) st
 
         short : (t : Bool) → both_below (distance q l) 32 a 256 ≡ t
-            → units_at q (Product a l Nothing) ≡ list_of (pick t (One (0x2000 + distance q l * 256 + a))
-            (pick (both_below (distance q l) 8192 a 65536) (Two (0x4000 + distance q l) a) (long_product a l all_ones)))
-            → stand (zero_behind s q) q (list_of (pick t (One (0x2000 + distance q l * 256 + a))
-            (pick (both_below (distance q l) 8192 a 65536) (Two (0x4000 + distance q l) a) (long_product a l all_ones)))) ≡ true
-            → Mends (Product a l Nothing)
-        short true e own st = known (Product a l Nothing) _ [] own (restand_one _ st)
+            → units_at q (Product a l None) ≡ (pick t ((0x2000 + distance q l * 256 + a) ∷ [])
+            (pick (both_below (distance q l) 8192 a 65536) ((0x4000 + distance q l) ∷ a ∷ []) (long_product a l all_ones)))
+            → stand (zero_behind s q) q (pick t ((0x2000 + distance q l * 256 + a) ∷ [])
+            (pick (both_below (distance q l) 8192 a 65536) ((0x4000 + distance q l) ∷ a ∷ []) (long_product a l all_ones))) ≡ true
+            → Mends (Product a l None)
+        short true e own st = known (Product a l None) _ [] own (restand_one _ st)
         short false e own st = middle (both_below (distance q l) 8192 a 65536) e refl st
 
     pair_mends :
-        (a l r : ℕ) → a < action_limit → l < q → unfit_right q (At r) ≡ false
-        → stand (zero_behind s q) q (list_of (pair_row q a l r)) ≡ true → Mends (Product a l (At r))
+        (a l r : ℕ) → a < action_limit → l < q → unfit_right q (Some r) ≡ false
+        → stand (zero_behind s q) q (pair_row q a l r) ≡ true → Mends (Product a l (Some r))
     unfolding pair_row stand long_product
     pair_mends a l r small before fit st = on (both (ltb a 65536) (both_below (distance q r) 32 (distance q l) 256)) refl st
       where
         on : (t : Bool) → both (ltb a 65536) (both_below (distance q r) 32 (distance q l) 256) ≡ t
-            → stand (zero_behind s q) q (list_of (pick t (Two (0x6000 + distance q r * 256 + distance q l) a) (long_product a l r))) ≡ true
-            → Mends (Product a l (At r))
+            → stand (zero_behind s q) q (pick t ((0x6000 + distance q r * 256 + distance q l) ∷ a ∷ []) (long_product a l r)) ≡ true
+            → Mends (Product a l (Some r))
         on true e st =
             let two : Both (ltb a 65536) (both_below (distance q r) 32 (distance q l) 256) = both_true _ _ e in
             let b : BothBelow (distance q r) 32 (distance q l) 256 = below (sym two.second) refl in
             let f : FitRight q r = fit-right fit in
-            known (Product (get_or s (q + 1) 0) l (At r)) _ _
+            known (Product (get_or s (q + 1) 0) l (Some r)) _ _
             (due-pair q (get_or s (q + 1) 0) l r before f.before b.first b.second (narrow.fits (q + 1)) (eqb-false r all_ones f.present))
             (restand _ _ _ st)
         on false e st =
-            long_mends _ a l r (λ b. Product b l (At r)) (λ none b top.
+            long_mends _ a l r (λ b. Product b l (Some r)) (λ none b top.
             due-long-pair q b l r before (omega (arith, small, top)) fit (still_long b none top)) st
           where
             still_long : (b : ℕ) → low a ≡ 0 → high b ≡ high a → both (ltb b 65536) (both_below (distance q r) 32 (distance q l) 256) ≡ false
@@ -187,14 +185,14 @@ module _ (s : List ℕ) (q : ℕ) where
                 test false h = refl
 
     leaf_mends :
-        (leaf-of : ℕ → Node) (short w n : ℕ) → (w ≡ 0 → ⊥) → units_at q (leaf-of n) ≡ list_of (leaf_row short w n)
-        → (get_or s q 0 ≡ w → value_at s (q + 2) ≡ n → spelt s q ≡ Like (leaf-of n))
-        → stand (zero_behind s q) q (list_of (leaf_row short w n)) ≡ true → Mends (leaf-of n)
+        (leaf-of : ℕ → Node) (short w n : ℕ) → (w ≡ 0 → ⊥) → units_at q (leaf-of n) ≡ (leaf_row short w n)
+        → (get_or s q 0 ≡ w → value_at s (q + 2) ≡ n → spelt s q ≡ Some (leaf-of n))
+        → stand (zero_behind s q) q (leaf_row short w n) ≡ true → Mends (leaf-of n)
     unfolding leaf_row stand
     leaf_mends leaf-of short w n some own spells st = on (ltb n 4096) own st
       where
-        on : (t : Bool) → units_at q (leaf-of n) ≡ list_of (pick t (One (short + n)) (Four w 0 (low n) (high n)))
-            → stand (zero_behind s q) q (list_of (pick t (One (short + n)) (Four w 0 (low n) (high n)))) ≡ true → Mends (leaf-of n)
+        on : (t : Bool) → units_at q (leaf-of n) ≡ (pick t ((short + n) ∷ []) (w ∷ 0 ∷ low n ∷ high n ∷ []))
+            → stand (zero_behind s q) q (pick t ((short + n) ∷ []) (w ∷ 0 ∷ low n ∷ high n ∷ [])) ≡ true → Mends (leaf-of n)
         on true own st = known (leaf-of n) _ [] own (restand_one _ st)
         on false own st =
             let there : stand_all s q (w ∷ get_or s (q + 1) 0 ∷ low n ∷ high n ∷ []) ≡ true = restand _ _ _ st in
@@ -202,25 +200,25 @@ module _ (s : List ℕ) (q : ℕ) where
             leaf w (low n) (high n) some own (spells f.head (f.value ∙ Sp.halves n)) there
 
     row_mends :
-        (n : Node) → unfit q n ≡ false → units_at q n ≡ list_of (row_of q n) → stand (zero_behind s q) q (list_of (row_of q n)) ≡ true → Mends n
+        (n : Node) → unfit q n ≡ false → units_at q n ≡ (row_of q n) → stand (zero_behind s q) q (row_of q n) ≡ true → Mends n
     unfolding row_of product_row unfit
     row_mends (Sum c n) fit own st = sum_mends c n (fit-sum q {nonterminal = n} refl fit) own st
-    row_mends (Product a l Nothing) fit own st =
-        let f : FitProduct q a l Nothing = fit-product fit in alone_mends a l f.action_small f.left-before own st
-    row_mends (Product a l (At r)) fit own st =
-        let f : FitProduct q a l (At r) = fit-product fit in pair_mends a l r f.action_small f.left-before f.right-fit st
+    row_mends (Product a l None) fit own st =
+        let f : FitProduct q a l None = fit-product fit in alone_mends a l f.action_small f.left-before own st
+    row_mends (Product a l (Some r)) fit own st =
+        let f : FitProduct q a l (Some r) = fit-product fit in pair_mends a l r f.action_small f.left-before f.right-fit st
     row_mends (NullingLeaf n) fit own st =
         leaf_mends NullingLeaf 0x9000 0xA001 n (λ e. omega (arith, e)) own (Sp.wide_nulling s q (get_or s q 0) n) st
     row_mends (Evaluated n) fit own st =
         leaf_mends Evaluated 0x8000 0xA000 n (λ e. omega (arith, e)) own (Sp.wide_evaluated s q (get_or s q 0) n) st
 
     pub mends : (n : Node) → stand (zero_behind s q) q (units_at q n) ≡ true → Mends n
-    unfolding units_of stand
+    unfolding units_at stand
     mends n st = on (unfit q n) refl st
       where
-        on : (t : Bool) → unfit q n ≡ t → stand (zero_behind s q) q (list_of (pick t Unfit (row_of q n))) ≡ true → Mends n
+        on : (t : Bool) → unfit q n ≡ t → stand (zero_behind s q) q (pick t [] (row_of q n)) ≡ true → Mends n
         on true e st = standing n cc
-        on false e st = row_mends n e (ap list_of (fit_row q n e)) st
+        on false e st = row_mends n e (fit_row q n e) st
 
   -- Units that stand with another second unit stand with a zero there.
   pub zero-stands :

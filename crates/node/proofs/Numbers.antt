@@ -2,9 +2,9 @@
 use mathlib.Core.Path.{◌≡◌, refl}
 use mathlib.Core.List.{List, [], ◌∷◌, ◌++◌}
 use Rattle.node.specs.Choice.{both_below}
-use Rattle.node.specs.Rows.{units_of, units_at, row_of, sum_row, long_product, alone_row, pair_row, product_row, leaf_row, unfit, unfit_product}
+use Rattle.node.specs.Rows.{units_at, row_of, sum_row, long_product, alone_row, pair_row, product_row, leaf_row, unfit, unfit_product}
 use Rattle.node.specs.Rows.{unfit_right}
-use Rattle.node.specs.declared.Right.TheVariants.{At, Nothing}
+use Rattle.std.specs.Prelude.{Some, None}
 use Rattle.node.specs.declared.Node.TheVariants.{Sum, Product, NullingLeaf}
 
 -- A row: what the definitions give, and what document 01 prints.
@@ -31,14 +31,14 @@ node_rows =
     -- Sum 32, 7
     ∷ row (units_at 0 (Sum 32 7)) (0xE000 ∷ 0x0020 ∷ 0x0007 ∷ 0x0000 ∷ [])
     -- p 40, left 9, action 9; left 8
-    ∷ row (units_at 40 (Product 9 9 Nothing)) (0x3F09 ∷ [])
-    ∷ row (units_at 40 (Product 9 8 Nothing)) (0x4020 ∷ 0x0009 ∷ [])
+    ∷ row (units_at 40 (Product 9 9 None)) (0x3F09 ∷ [])
+    ∷ row (units_at 40 (Product 9 8 None)) (0x4020 ∷ 0x0009 ∷ [])
     -- p 40, left 20, right 35, action 9
-    ∷ row (units_at 40 (Product 9 20 (At 35))) (0x6514 ∷ 0x0009 ∷ [])
+    ∷ row (units_at 40 (Product 9 20 (Some 35))) (0x6514 ∷ 0x0009 ∷ [])
     -- NullingLeaf 4096
     ∷ row (units_at 0 (NullingLeaf 4096)) (0xA001 ∷ 0x0000 ∷ 0x1000 ∷ 0x0000 ∷ [])
     ∷ []
 
 pub numbers : All node_rows
-unfolding node_rows units_of row_of sum_row long_product alone_row pair_row product_row leaf_row unfit unfit_product unfit_right both_below
+unfolding node_rows units_at row_of sum_row long_product alone_row pair_row product_row leaf_row unfit unfit_product unfit_right both_below
 numbers = (refl, (refl, (refl, (refl, (refl, (refl, tt))))))

@@ -2,10 +2,15 @@
 use Prim.Native.Nat.{ℕ, zero, suc, ◌+◌, ◌≤◌, ◌<◌, min}
 use mathlib.Core.Path.{◌≡◌, refl, sym, ap, ◌∙◌}
 use mathlib.Core.Bool.{Bool, true, false}
-use mathlib.Core.List.{List, [], ◌∷◌}
+use mathlib.Core.List.{List, [], ◌∷◌, ◌++◌}
 use native.Mathlib.Nat.{add-zero}
 use native.Mathlib.Omega.{arith}
-use lib.ListN.{length, get_or, set, length-set, get_or-eq_default}
+use lib.ListN.{length, get_or, set, take, drop, length-set, get_or-eq_default}
+use native.Mathlib.Numerals.{add-one}
+use borrow.Rule.Slice.PartMut.{put_mid}
+use Rattle.std.proofs.Common.{append_assoc}
+use Rattle.std.proofs.lemmas.List.Edits.{sets, sets-eq, paste_all}
+use Rattle.std.proofs.lemmas.Slice.{put_mid-paste}
 use lib.Dec.{ltb}
 use borrow.Author.Tests.{ltb-true, ltb-false}
 use lib.Seq.{get_or-set_same, get_or-set_other, get_or-take, set-get_or}
@@ -43,6 +48,18 @@ put-there s p (u ∷ us) fits (suc k) h =
     let at : p + suc k ≡ p + 1 + k = omega arith in
     ap (λ i. get_or (put (set s p u) (p + 1) us) i 0) at
     ∙ put-there (set s p u) (p + 1) us (omega (arith, fits, length-set s p u)) k (omega arith)
+
+-- Units put one behind another, as the library says it: the part from p on replaced by them.
+put_sets : (s : List ℕ) (p : ℕ) (us : List ℕ) → put s p us ≡ sets s p us
+unfolding put
+put_sets s p [] = refl
+put_sets s p (u ∷ us) = put_sets (set s p u) (p + 1) us ∙ ap (λ k. sets (set s p u) k us) (add-one p)
+
+pub put-part :
+    (s : List ℕ) (p k : ℕ) (us vs : List ℕ) → vs ≡ us → k ≡ length us → p + length us ≤ length s → put_mid p k s vs ≡ put s p us
+put-part s p k us vs same at fits =
+    put_mid-paste p k s vs us k same refl at ∙ paste_all s p us k at ∙ ap (λ n. take p s ++ (us ++ drop (p + n) s)) at
+    ∙ sym (append_assoc (take p s) us (drop (p + length us) s)) ∙ sym (sets-eq us s p fits) ∙ sym (put_sets s p us)
 
 -- A unit of the store is a unit of its usable part.
 pub usable-unit : (s : List ℕ) (i : ℕ) → i < usable_units → get_or (usable s) i 0 ≡ get_or s i 0

@@ -9,14 +9,13 @@ use lib.Seq.{get_or-append-add}
 use lib.Dec.{leb}
 use borrow.Author.Tests.{leb-true}
 use Rattle.node.specs.Choice.{pick}
-use Rattle.node.specs.Rows.{units_of, units_at, list_of, unfit, row_of, count_limit}
+use Rattle.node.specs.Rows.{units_at, unfit, row_of, count_limit}
 use Rattle.node.specs.Answers.{Answer, answer, refused, done, value_unfit, out_of_room, node, position, nothing}
 use Rattle.node.specs.Writing.{StoreOutcome, usable, usable_units, put, place, write_units, write_at}
 use Rattle.node.specs.Reading.{filler, head_from, stand_all, stand, spelt_by, long_spelt, value_at, read_units, read_at}
 use Rattle.node.specs.declared.Node.{Node}
 use Rattle.node.specs.declared.Node.TheVariants.{Sum}
-use Rattle.node.specs.declared.Units.TheVariants.{Unfit}
-use Rattle.node.specs.declared.Spelt.TheVariants.{Like}
+use Rattle.std.specs.Prelude.{Some}
 use Rattle.node.proofs.Fit.{fit-sum}
 use Rattle.node.proofs.Fillers.{head-here}
 use Rattle.node.proofs.Runs.{length-usable, length-put, place_done, write_some}
@@ -27,10 +26,10 @@ use Rattle.node.proofs.Puts.{put-stands, put-standing, put-below, put-behind}
 
 -- A node that stands somewhere is fit.
 pub standing-fit : (s : List ℕ) (q : ℕ) (n : Node) → stand s q (units_at q n) ≡ true → unfit q n ≡ false
-unfolding units_of stand
+unfolding units_at stand
 standing-fit s q n st = on (unfit q n) refl st
   where
-    on : (t : Bool) → unfit q n ≡ t → stand s q (list_of (pick t Unfit (row_of q n))) ≡ true → unfit q n ≡ false
+    on : (t : Bool) → unfit q n ≡ t → stand s q (pick t [] (row_of q n)) ≡ true → unfit q n ≡ false
     on true e st = cc
     on false e st = e
 
@@ -38,7 +37,7 @@ standing-fit s q n st = on (unfit q n) refl st
 pub no_filler : (s : List ℕ) (q : ℕ) (n : Node) → stand s q (units_at q n) ≡ true → get_or s q 0 ≡ filler → ⊥
 unfolding long_spelt
 no_filler s q n st is =
-    let like : spelt_by s q 0xFFFF ≡ Like n = ap (spelt_by s q) (sym is) ∙ units_spell s q n st in
+    let like : spelt_by s q 0xFFFF ≡ Some n = ap (spelt_by s q) (sym is) ∙ units_spell s q n st in
     let wide : n ≡ Sum (0x1FFF * 65536 + get_or s (q + 1) 0) (value_at s (q + 2)) = cc in
     let small : 0x1FFF * 65536 + get_or s (q + 1) 0 < count_limit = fit-sum q wide (standing-fit s q n st) in
     omega (arith, small)
@@ -157,7 +156,7 @@ read_then_write s p n b e =
 pub one_node :
     (s : List ℕ) (q : ℕ) (n m : Node) → stand s q (units_at q n) ≡ true → stand s q (units_at q m) ≡ true → n ≡ m
 one_node s q n m a b =
-    let like : Like n ≡ Like m = sym (units_spell s q n a) ∙ units_spell s q m b in cc
+    let like : Some n ≡ Some m = sym (units_spell s q n a) ∙ units_spell s q m b in cc
 
 -- Units stand in a list that has them behind some others.
 units_in :

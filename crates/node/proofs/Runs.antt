@@ -3,66 +3,14 @@ use Prim.Native.Nat.{ℕ, ◌+◌, ◌≤◌, ◌<◌, min}
 use mathlib.Core.Path.{◌≡◌, refl, sym, ap, ◌∙◌}
 use mathlib.Core.Bool.{Bool, true, false}
 use mathlib.Core.List.{List, [], ◌∷◌}
-use native.Mathlib.Nat.{add_assoc}
 use native.Mathlib.Omega.{arith}
 use borrow.Author.Tests.{leb-true, leb-false, le-leb, lt-leb}
 use lib.Dec.{leb}
 use lib.ListN.{length, set, take, length-set, length-take}
 use lib.Seq.{take_all}
-use Rattle.node.specs.Choice.{both}
-use Rattle.node.specs.Rows.{list_of}
-use Rattle.node.specs.Answers.{answer, refused, done, value_unfit, out_of_room, nothing, position}
-use Rattle.node.specs.Writing.{StoreOutcome, usable, usable_units, put, place, write_units}
-use Rattle.node.specs.Reading.{holds, stand_all, stand}
-use Rattle.node.specs.declared.Units.{Units}
-use Rattle.node.proofs.Choices.{Both, both_true}
-
-both-unit : (t : Bool) → both t true ≡ t
-both-unit true = refl
-both-unit false = refl
-
-both_no : (s t : Bool) → s ≡ false → both s t ≡ false
-both_no s t e = rw e
-
--- One unit, and two units, stand.
-pub one_stand : (s : List ℕ) (q a : ℕ) → stand_all s q (a ∷ []) ≡ holds s q a
-unfolding stand_all
-one_stand s q a = both-unit (holds s q a)
-
-pub two_stand : (s : List ℕ) (q a b : ℕ) → holds s q a ≡ true → stand_all s q (a ∷ b ∷ []) ≡ holds s (q + 1) b
-unfolding stand_all
-two_stand s q a b e = rw e (both-unit (holds s (q + 1) b))
-
-pub two_fall : (s : List ℕ) (q a : ℕ) (us : List ℕ) → holds s q a ≡ false → stand_all s q (a ∷ us) ≡ false
-unfolding stand_all
-two_fall s q a us e = rw e
-
--- After two units that stand, the others have to; after two that do not, nothing matters.
-pub more-stand :
-    (s : List ℕ) (q a b : ℕ) (us : List ℕ) → stand_all s q (a ∷ b ∷ []) ≡ true → stand_all s q (a ∷ b ∷ us) ≡ stand_all s (q + 2) us
-unfolding stand_all
-more-stand s q a b us e =
-    let first : Both (holds s q a) (both (holds s (q + 1) b) true) = both_true _ _ e in
-    let second : Both (holds s (q + 1) b) true = both_true _ _ first.second in
-    rw (first.first, second.first) (ap (λ k. stand_all s k us) (add_assoc q 1 1))
-
-pub more_fall :
-    (s : List ℕ) (q a b : ℕ) (us : List ℕ) → stand_all s q (a ∷ b ∷ []) ≡ false → stand_all s q (a ∷ b ∷ us) ≡ false
-unfolding stand_all
-more_fall s q a b us e = on (holds s q a) (holds s (q + 1) b) (stand_all s (q + 1 + 1) us) e
-  where
-    on : (x y z : Bool) → both x (both y true) ≡ false → both x (both y z) ≡ false
-    on true true z h = cc
-    on true false z h = refl
-    on false y z h = refl
-
--- Units are put two and then the others.
-pub more-put :
-    (s mid last : List ℕ) (p a b : ℕ) (us : List ℕ) → mid ≡ put s p (a ∷ b ∷ []) → last ≡ put mid (p + 2) us
-    → last ≡ put s p (a ∷ b ∷ us)
-unfolding put
-more-put s mid last p a b us two others =
-    others ∙ ap (λ l. put l (p + 2) us) two ∙ ap (λ k. put (set (set s p a) (p + 1) b) k us) (sym (add_assoc p 1 1))
+use Rattle.node.specs.Rows.{}
+use Rattle.node.specs.Answers.{answer, refused, done, out_of_room, nothing, position}
+use Rattle.node.specs.Writing.{usable, usable_units, put, place, write_units}
 
 -- Putting units changes no length.
 pub length-put : (s : List ℕ) (p : ℕ) (us : List ℕ) → length (put s p us) ≡ length s
@@ -70,14 +18,7 @@ unfolding put
 length-put s p [] = refl
 length-put s p (u ∷ us) = length-put (set s p u) (p + 1) us ∙ length-set s p u
 
--- A node with no units is unfit; one with units is placed.
-pub write_none :
-    (s :
-    List ℕ) (p : ℕ) (us : List ℕ) → length us ≡ 0 → write_units s p us ≡ record { answer = refused value_unfit p nothing; store = s }
-unfolding write_units
-write_none s p [] e = refl
-write_none s p (u ∷ us) e = absurd (omega (arith, e))
-
+-- A node with units is placed.
 pub write_some : (s : List ℕ) (p : ℕ) (us : List ℕ) → (length us ≡ 0 → ⊥) → write_units s p us ≡ place s p us
 unfolding write_units
 write_some s p [] some = absurd (some refl)
@@ -110,23 +51,3 @@ pub place-full :
     → place s p us ≡ record { answer = refused out_of_room p nothing; store = s }
 unfolding place
 place-full s p us full = rw (lt-leb (p + length us) (length (usable s)) (omega (arith, length-usable s)))
-
--- The same of w units, and the store that was left.
-pub wrote :
-    (s : List ℕ) (p : ℕ) (us : List ℕ) (w : ℕ) (left : List ℕ) → (w ≡ 0 → ⊥) → w ≡ length us → p + w ≤ min usable_units (length s)
-    → left ≡ put s p us → ◌≡◌ {A = StoreOutcome} (record { answer = answer done (position (p + w)); store = left }) (write_units s p us)
-wrote s p us w left some is fits put_is =
-    rw (put_is, is) (sym (write_some s p us (λ z. some (is ∙ z)) ∙ place_done s p us (omega (arith, fits, is))))
-
-pub not_wrote :
-    (s : List ℕ) (p : ℕ) (us : List ℕ) (w : ℕ) → (w ≡ 0 → ⊥) → w ≡ length us → min usable_units (length s) < p + w
-    → ◌≡◌ {A = StoreOutcome} (record { answer = refused out_of_room p nothing; store = s }) (write_units s p us)
-not_wrote s p us w some is full =
-    sym (write_some s p us (λ z. some (is ∙ z)) ∙ place-full s p us (omega (arith, full, is)))
-
--- Of units that are known, what is put and what stands.
-pub put_same : {u v : Units} (s : List ℕ) (p : ℕ) → u ≡ v → put s p (list_of v) ≡ put s p (list_of u)
-put_same s p is = ap (λ u. put s p (list_of u)) (sym is)
-
-pub stand-same : {u v : Units} (s : List ℕ) (q : ℕ) → u ≡ v → stand s q (list_of v) ≡ stand s q (list_of u)
-stand-same s q is = ap (λ u. stand s q (list_of u)) (sym is)

@@ -11,7 +11,7 @@ use Rattle.node.specs.Choice.{pick, both}
 use Rattle.node.specs.Rows.{units_at}
 use Rattle.node.specs.Reading.{stand, stand_all, spelt, head_right, not_zero, faults}
 use Rattle.node.specs.declared.Node.{Node}
-use Rattle.node.specs.declared.Spelt.TheVariants.{Like}
+use Rattle.std.specs.Prelude.{Some}
 use Rattle.node.proofs.Stands.{First, first-stands}
 use Rattle.node.proofs.Almost.{Narrow, Almost, almost, stands, wide}
 use Rattle.node.proofs.Exact.{right_of, stand-right}
@@ -32,7 +32,7 @@ none_due s q (u ∷ us) st = on (eqb u 0) refl (none_due s (q + 1) us f.others)
     on false e rest = rest
 
 -- Where a node stands, no fault is seen.
-pub none_seen : (s : List ℕ) (q : ℕ) (n : Node) → stand s q (units_at q n) ≡ true → faults s q (Like n) ≡ []
+pub none_seen : (s : List ℕ) (q : ℕ) (n : Node) → stand s q (units_at q n) ≡ true → faults s q (Some n) ≡ []
 unfolding faults stand
 none_seen s q n st = on (units_at q n) st
   where
@@ -42,7 +42,7 @@ none_seen s q n st = on (units_at q n) st
 
 -- Where the node that units spell does not stand, one is.
 pub one_seen :
-    (s : List ℕ) (q : ℕ) (n : Node) → Narrow s → spelt s q ≡ Like n → stand s q (units_at q n) ≡ false → faults s q (Like n) ≡ [] → ⊥
+    (s : List ℕ) (q : ℕ) (n : Node) → Narrow s → spelt s q ≡ Some n → stand s q (units_at q n) ≡ false → faults s q (Some n) ≡ [] → ⊥
 unfolding faults not_zero
 one_seen s q n narrow like fallen none = right_case (head_right s q (units_at q n)) refl
   where

@@ -1,14 +1,18 @@
 -- What it means that units stand at a position.
-use Prim.Native.Nat.{ℕ, zero, suc, ◌+◌, ◌*◌, ◌<◌}
+use Prim.Native.Nat.{ℕ, zero, suc, ◌+◌, ◌-◌, ◌*◌, ◌<◌}
 use mathlib.Core.Path.{◌≡◌, refl, sym, ap, ◌∙◌}
-use mathlib.Core.Bool.{true}
+use mathlib.Core.Bool.{Bool, true, false, ◌&&◌}
 use mathlib.Core.List.{List, [], ◌∷◌}
 use native.Mathlib.Nat.{add-zero, add_assoc}
 use native.Mathlib.Omega.{arith}
-use lib.ListN.{length, get_or}
+use lib.ListN.{length, get_or, take, drop, drop_of_length-le, length-drop}
+use lib.Seq.{drop-cons, take_all}
+use lib.Pointwise.{pointwise}
+use native.Mathlib.Numerals.{add-one}
+use Rattle.node.specs.Choice.{both}
 use lib.Dec.{ltb, eqb}
-use borrow.Author.Tests.{ltb-true, eqb-true, lt-ltb, eq-eqb}
-use Rattle.node.specs.Reading.{holds, stand_all, value_at}
+use borrow.Author.Tests.{ltb-true, ltb-false, eqb-true, eqb-false, lt-ltb, eq-eqb, ne_eqb}
+use Rattle.node.specs.Reading.{holds, stand_all, stand, value_at}
 use Rattle.node.proofs.Choices.{Both, both_true}
 
 -- A position that holds a unit is within the store, and the unit is there.
@@ -36,6 +40,41 @@ unfolding stand_all
 first-stands s q u us e =
     let h : Both (holds s q u) (stand_all s (q + 1) us) = both_true _ _ e in
     record { first = held s q u h.first; others = h.second }
+
+-- Units stand where the store from there on begins with them, as the library says it.
+pub begins : (s : List ℕ) (q : ℕ) (us : List ℕ) → pointwise eqb us (take (length us) (drop q s)) ≡ stand_all s q us
+unfolding stand_all holds
+begins s q [] = refl
+begins s q (u ∷ us) = on (ltb q (length s)) refl (begins s (q + 1) us)
+  where
+    joined : (a b c d : Bool) → a ≡ c → b ≡ d → (a && b) ≡ both c d
+    joined true b true d e f = f
+    joined true b false d e f = cc
+    joined false b true d e f = cc
+    joined false b false d e f = refl
+
+    same : (t : Bool) → eqb u (get_or s q 0) ≡ t → t ≡ eqb (get_or s q 0) u
+    same true e = sym (eq-eqb (get_or s q 0) u (sym (eqb-true u (get_or s q 0) e)))
+    same false e = sym (ne_eqb (get_or s q 0) u (λ h. eqb-false u (get_or s q 0) e (sym h)))
+
+    on : (t : Bool) → ltb q (length s) ≡ t → pointwise eqb us (take (length us) (drop (q + 1) s)) ≡ stand_all s (q + 1) us
+        → pointwise eqb (u ∷ us) (take (suc (length us)) (drop q s))
+        ≡ both (both (ltb q (length s)) (eqb (get_or s q 0) u)) (stand_all s (q + 1) us)
+    on true h rest =
+        rw (drop-cons s q 0 (ltb-true q (length s) h), h)
+        (joined _ _ _ _ (same (eqb u (get_or s q 0)) refl)
+        (ap (λ k. pointwise eqb us (take (length us) (drop k s))) (sym (add-one q)) ∙ rest))
+    on false h rest = rw (drop_of_length-le s (ltb-false q (length s) h), h) refl
+
+-- The same of units of which there is one at least, over what is left of the store.
+pub stand_begins :
+    (s : List ℕ) (q : ℕ) (us : List ℕ) (r : Bool) → 0 < length us
+    → r ≡ pointwise eqb us (take (length us) (take (length s - q) (drop q s))) → stand s q us ≡ r
+unfolding stand
+stand_begins s q [] r some is = absurd (omega (arith, some))
+stand_begins s q (u ∷ us) r some is =
+    sym (is ∙ ap (λ l. pointwise eqb (u ∷ us) (take (length (u ∷ us)) l)) (take_all (length s - q) (drop q s) (omega (arith, length-drop q s)))
+    ∙ begins s q (u ∷ us))
 
 -- Units stand where each is where it should be.
 pub all-stand :

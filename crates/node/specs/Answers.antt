@@ -1,12 +1,10 @@
--- Answers: document 01's number, the values that come with it, and the place of a refusal, for each case of the enums that the calls return.
-use Rattle.std.specs.Prelude.{ℕ}
+-- Answers: document 01's number, the values that come with it, and the place of a refusal, for each case of what the calls return.
+use Rattle.std.specs.Prelude.{ℕ, Option, Some, None, Result, Ok, Err}
 use Rattle.node.specs.declared.Node.{Node}
-use Rattle.node.specs.declared.Written.{Written}
-use Rattle.node.specs.declared.Written.TheVariants.{Behind, Unfit, NoRoom}
-use Rattle.node.specs.declared.Found.{Found}
-use Rattle.node.specs.declared.Found.TheVariants.{Whole, End, NoNode}
+use Rattle.node.specs.declared.Unwritten.{Unwritten}
+use Rattle.node.specs.declared.Unwritten.TheVariants.{Unfit, NoRoom}
+use Rattle.node.specs.declared.NoNode.{NoNode}
 use Rattle.node.specs.declared.Walked.{Walked}
-use Rattle.node.specs.declared.Walked.TheVariants.{ToEnd, ToFault}
 
 abbrev pub done : ℕ
 done = 0
@@ -38,16 +36,27 @@ abbrev pub values_of : Answer → Values
 values_of (answer number values) = values
 values_of (refused number place values) = values
 
-abbrev pub written : Written → Answer
-written (Behind q) = answer done (position q)
-written (Unfit p) = refused value_unfit p nothing
-written (NoRoom p) = refused out_of_room p nothing
+abbrev pub written : Result ℕ Unwritten → Answer
+written (Ok q) = answer done (position q)
+written (Err (Unfit p)) = refused value_unfit p nothing
+written (Err (NoRoom p)) = refused out_of_room p nothing
 
-abbrev pub found : Found → Answer
-found (Whole n q) = answer done (node n q)
-found End = answer done end
-found (NoNode unit) = refused no_node unit nothing
+abbrev pub unread : NoNode → Answer
+unread fault = refused no_node fault.0 nothing
+
+-- The same of a node at the very position.
+abbrev pub met : Result (Node × ℕ) NoNode → Answer
+met (Ok n) = answer done (node n.0 n.1)
+met (Err fault) = unread fault
+
+abbrev pub found : Result (Option (Node × ℕ)) NoNode → Answer
+found (Ok (Some n)) = answer done (node n.0 n.1)
+found (Ok None) = answer done end
+found (Err fault) = unread fault
+
+abbrev pub stopped : ℕ → ℕ → Option ℕ → Answer
+stopped count q None = answer done (nodes count q)
+stopped count q (Some unit) = refused no_node unit (nodes count q)
 
 abbrev pub walked : Walked → Answer
-walked (ToEnd count q) = answer done (nodes count q)
-walked (ToFault count q unit) = refused no_node unit (nodes count q)
+walked walk = stopped walk.count walk.behind walk.fault

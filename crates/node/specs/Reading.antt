@@ -1,15 +1,11 @@
 -- Reading one node: fillers are skipped, then the node stands there whose units, written at that very position, are the units there.
-use Rattle.std.specs.Prelude.{ℕ, suc, ◌+◌, ◌-◌, ◌*◌, ◌/◌, ◌%◌, ◌≤◌, ◌<◌, min, ◌≡◌, Bool, true, false, List, [], ◌∷◌, ◌++◌, length, get_or, drop, set, ltb, leb, eqb}
+use Rattle.std.specs.Prelude.{ℕ, suc, ◌+◌, ◌-◌, ◌*◌, ◌/◌, ◌%◌, ◌≤◌, ◌<◌, min, ◌≡◌, Bool, true, false, List, [], ◌∷◌, ◌++◌, length, get_or, drop, set, ltb, leb, eqb, Option, Some, None}
 use Rattle.node.specs.Choice.{pick, both}
 use Rattle.node.specs.Rows.{units_at, all_ones}
 use Rattle.node.specs.Answers.{Answer, answer, refused, done, no_node, node, end, nothing}
 use Rattle.node.specs.Writing.{usable}
-use Rattle.node.specs.declared.Right.{Right}
-use Rattle.node.specs.declared.Right.TheVariants.{At, Nothing}
 use Rattle.node.specs.declared.Node.{Node}
 use Rattle.node.specs.declared.Node.TheVariants.{Sum, Product, NullingLeaf, Evaluated}
-use Rattle.node.specs.declared.Spelt.{Spelt}
-use Rattle.node.specs.declared.Spelt.TheVariants.{Like, Unknown}
 
 -- The unit that reading skips.
 abbrev pub filler : ℕ
@@ -39,22 +35,22 @@ stand s q [] = false
 stand s q (u ∷ us) = stand_all s q (u ∷ us)
 
 -- The factor that a distance leads back to: none where the distance is above the position.
-unfoldable pub factor_at : ℕ → ℕ → Right
-factor_at q distance = pick (leb distance q) (At (q - distance)) Nothing
+unfoldable pub factor_at : ℕ → ℕ → Option ℕ
+factor_at q distance = pick (leb distance q) (Some (q - distance)) None
 
 -- What a Product without a right factor is spelt by, and one with a right factor.
-unfoldable pub alone : ℕ → Right → Spelt
-alone action (At left) = Like (Product action left Nothing)
-alone action Nothing = Unknown
+unfoldable pub alone : ℕ → Option ℕ → Option Node
+alone action (Some left) = Some (Product action left None)
+alone action None = None
 
-unfoldable pub paired : ℕ → Right → Right → Spelt
-paired action (At left) (At right) = Like (Product action left (At right))
-paired action (At left) Nothing = Unknown
-paired action Nothing right = Unknown
+unfoldable pub paired : ℕ → Option ℕ → Option ℕ → Option Node
+paired action (Some left) (Some right) = Some (Product action left (Some right))
+paired action (Some left) None = None
+paired action None right = None
 
 -- All ones: no right factor.
-unfoldable pub long_right : ℕ → Right
-long_right right = pick (eqb right all_ones) Nothing (At right)
+unfoldable pub long_right : ℕ → Option ℕ
+long_right right = pick (eqb right all_ones) None (Some right)
 
 -- A value of two units, the low half first.
 unfoldable pub value_at : List ℕ → ℕ → ℕ
@@ -62,32 +58,32 @@ value_at s i = get_or s (i + 1) 0 * 65536 + get_or s i 0
 
 -- The table of rows from right to left: the one node whose units could stand at q, by the range of the head unit. (`Exactly`, below, says what
 -- is read without this table.) Below 0x8000 stand the short Sum and the Products with distances.
-unfoldable pub near_spelt : List ℕ → ℕ → ℕ → Spelt
+unfoldable pub near_spelt : List ℕ → ℕ → ℕ → Option Node
 near_spelt s q head =
-    pick (ltb head 0x2000) (Like (Sum (head / 256) (head % 256)))
+    pick (ltb head 0x2000) (Some (Sum (head / 256) (head % 256)))
     (pick (ltb head 0x4000) (alone (head % 256) (factor_at q ((head - 0x2000) / 256)))
     (pick (ltb head 0x6000) (alone (get_or s (q + 1) 0) (factor_at q (head - 0x4000)))
     (paired (get_or s (q + 1) 0) (factor_at q (head % 256)) (factor_at q ((head - 0x6000) / 256)))))
 
 -- From 0x8000 on, the leaves; between 0xA002 and 0xBFFF no node.
-unfoldable pub leaf_spelt : List ℕ → ℕ → ℕ → Spelt
+unfoldable pub leaf_spelt : List ℕ → ℕ → ℕ → Option Node
 leaf_spelt s q head =
-    pick (ltb head 0x9000) (Like (Evaluated (head - 0x8000)))
-    (pick (ltb head 0xA000) (Like (NullingLeaf (head - 0x9000)))
-    (pick (eqb head 0xA000) (Like (Evaluated (value_at s (q + 2))))
-    (pick (eqb head 0xA001) (Like (NullingLeaf (value_at s (q + 2)))) Unknown)))
+    pick (ltb head 0x9000) (Some (Evaluated (head - 0x8000)))
+    (pick (ltb head 0xA000) (Some (NullingLeaf (head - 0x9000)))
+    (pick (eqb head 0xA000) (Some (Evaluated (value_at s (q + 2))))
+    (pick (eqb head 0xA001) (Some (NullingLeaf (value_at s (q + 2)))) None)))
 
 -- From 0xC000 on, the longest Product, and from 0xE000 on the longest Sum.
-unfoldable pub long_spelt : List ℕ → ℕ → ℕ → Spelt
+unfoldable pub long_spelt : List ℕ → ℕ → ℕ → Option Node
 long_spelt s q head =
     pick (ltb head 0xE000)
-    (Like (Product ((head - 0xC000) * 65536 + get_or s (q + 1) 0) (value_at s (q + 2)) (long_right (value_at s (q + 4)))))
-    (Like (Sum ((head - 0xE000) * 65536 + get_or s (q + 1) 0) (value_at s (q + 2))))
+    (Some (Product ((head - 0xC000) * 65536 + get_or s (q + 1) 0) (value_at s (q + 2)) (long_right (value_at s (q + 4)))))
+    (Some (Sum ((head - 0xE000) * 65536 + get_or s (q + 1) 0) (value_at s (q + 2))))
 
-abbrev pub spelt_by : List ℕ → ℕ → ℕ → Spelt
+abbrev pub spelt_by : List ℕ → ℕ → ℕ → Option Node
 spelt_by s q head = pick (ltb head 0x8000) (near_spelt s q head) (pick (ltb head 0xC000) (leaf_spelt s q head) (long_spelt s q head))
 
-abbrev pub spelt : List ℕ → ℕ → Spelt
+abbrev pub spelt : List ℕ → ℕ → Option Node
 spelt s q = spelt_by s q (get_or s q 0)
 
 -- The head of a node's own units stands at q. An unfit node has no units; a node in a longer form than was due has another head.
@@ -105,9 +101,9 @@ not_zero s q [] = []
 not_zero s q (u ∷ us) = pick (both (eqb u 0) (ltb 0 (get_or s q 0))) (q ∷ not_zero s (q + 1) us) (not_zero s (q + 1) us)
 
 -- The units at which a fault is seen: the head for a wrong form, distance or length; each unit that is not zero where zero is due.
-unfoldable pub faults : List ℕ → ℕ → Spelt → List ℕ
-faults s q (Like n) = pick (head_right s q (units_at q n)) [] (q ∷ []) ++ not_zero s q (units_at q n)
-faults s q Unknown = q ∷ []
+unfoldable pub faults : List ℕ → ℕ → Option Node → List ℕ
+faults s q (Some n) = pick (head_right s q (units_at q n)) [] (q ∷ []) ++ not_zero s q (units_at q n)
+faults s q None = q ∷ []
 
 -- For several faults the lowest unit counts.
 unfoldable pub lowest : List ℕ → ℕ
@@ -116,11 +112,11 @@ lowest (u ∷ []) = u
 lowest (u ∷ v ∷ us) = min u (lowest (v ∷ us))
 
 -- 12 where the units that the spelt node has at q are not the units there.
-unfoldable pub take_node : List ℕ → ℕ → Spelt → Answer
-take_node s q (Like n) =
+unfoldable pub take_node : List ℕ → ℕ → Option Node → Answer
+take_node s q (Some n) =
     pick (stand s q (units_at q n)) (answer done (node n (q + length (units_at q n))))
-    (refused no_node (lowest (faults s q (Like n))) nothing)
-take_node s q Unknown = refused no_node (lowest (faults s q Unknown)) nothing
+    (refused no_node (lowest (faults s q (Some n))) nothing)
+take_node s q None = refused no_node (lowest (faults s q None)) nothing
 
 unfoldable pub read_here : List ℕ → ℕ → Answer
 read_here s q = take_node s q (spelt s q)

@@ -1,12 +1,8 @@
 -- The units of a node at a position: document 01's table, the first row that fits, in its order.
-use Rattle.std.specs.Prelude.{ℕ, ◌+◌, ◌-◌, ◌*◌, ◌/◌, ◌%◌, Bool, false, List, [], ◌∷◌, ltb, leb, eqb}
+use Rattle.std.specs.Prelude.{ℕ, ◌+◌, ◌-◌, ◌*◌, ◌/◌, ◌%◌, Bool, false, List, [], ◌∷◌, ltb, leb, eqb, Option, Some, None}
 use Rattle.node.specs.Choice.{pick, both, either, both_below}
-use Rattle.node.specs.declared.Right.{Right}
-use Rattle.node.specs.declared.Right.TheVariants.{At, Nothing}
 use Rattle.node.specs.declared.Node.{Node}
 use Rattle.node.specs.declared.Node.TheVariants.{Sum, Product, NullingLeaf, Evaluated}
-use Rattle.node.specs.declared.Units.{Units}
-use Rattle.node.specs.declared.Units.TheVariants.{Unfit, One, Two, Four, Six}
 
 -- The low and the high half of a value.
 abbrev pub low : ℕ → ℕ
@@ -35,12 +31,12 @@ abbrev pub distance : ℕ → ℕ → ℕ
 distance p factor = p - factor
 
 -- A present right factor is unfit as any factor is, and 0xFFFFFFFF at every position.
-unfoldable pub unfit_right : ℕ → Right → Bool
-unfit_right p (At factor) = either (unfit_factor p factor) (eqb factor all_ones)
-unfit_right p Nothing = false
+unfoldable pub unfit_right : ℕ → Option ℕ → Bool
+unfit_right p (Some factor) = either (unfit_factor p factor) (eqb factor all_ones)
+unfit_right p None = false
 
 -- Action ≥ 2^29, or an unfit factor.
-unfoldable pub unfit_product : ℕ → ℕ → ℕ → Right → Bool
+unfoldable pub unfit_product : ℕ → ℕ → ℕ → Option ℕ → Bool
 unfit_product p action left right = either (leb action_limit action) (either (unfit_factor p left) (unfit_right p right))
 
 -- Unfit at p: count ≥ 2^28, or an unfit Product.
@@ -51,56 +47,45 @@ unfit p (NullingLeaf symbol) = false
 unfit p (Evaluated symbol) = false
 
 -- Sum, count < 32, nonterminal < 256; other Sum.
-unfoldable pub sum_row : ℕ → ℕ → Units
+unfoldable pub sum_row : ℕ → ℕ → List ℕ
 sum_row count nonterminal =
-    pick (both_below count 32 nonterminal 256) (One (count * 256 + nonterminal))
-    (Four (0xE000 + high count) (low count) (low nonterminal) (high nonterminal))
+    pick (both_below count 32 nonterminal 256) ((count * 256 + nonterminal) ∷ [])
+    ((0xE000 + high count) ∷ low count ∷ low nonterminal ∷ high nonterminal ∷ [])
 
 -- Other Product: its right factor as it stands, all ones for none.
-unfoldable pub long_product : ℕ → ℕ → ℕ → Units
-long_product action left right = Six (0xC000 + high action) (low action) (low left) (high left) (low right) (high right)
+unfoldable pub long_product : ℕ → ℕ → ℕ → List ℕ
+long_product action left right = (0xC000 + high action) ∷ low action ∷ low left ∷ high left ∷ low right ∷ high right ∷ []
 
 -- Product, no right: left distance < 32, action < 256; the same, < 8192 and < 65536; other Product.
-unfoldable pub alone_row : ℕ → ℕ → ℕ → Units
+unfoldable pub alone_row : ℕ → ℕ → ℕ → List ℕ
 alone_row p action left =
-    pick (both_below (distance p left) 32 action 256) (One (0x2000 + distance p left * 256 + action))
-    (pick (both_below (distance p left) 8192 action 65536) (Two (0x4000 + distance p left) action)
+    pick (both_below (distance p left) 32 action 256) ((0x2000 + distance p left * 256 + action) ∷ [])
+    (pick (both_below (distance p left) 8192 action 65536) ((0x4000 + distance p left) ∷ action ∷ [])
     (long_product action left all_ones))
 
 -- Product, right distance < 32, left < 256, action < 65536; other Product.
-unfoldable pub pair_row : ℕ → ℕ → ℕ → ℕ → Units
+unfoldable pub pair_row : ℕ → ℕ → ℕ → ℕ → List ℕ
 pair_row p action left right =
     pick (both (ltb action 65536) (both_below (distance p right) 32 (distance p left) 256))
-    (Two (0x6000 + distance p right * 256 + distance p left) action)
+    ((0x6000 + distance p right * 256 + distance p left) ∷ action ∷ [])
     (long_product action left right)
 
-unfoldable pub product_row : ℕ → ℕ → ℕ → Right → Units
-product_row p action left Nothing = alone_row p action left
-product_row p action left (At right) = pair_row p action left right
+unfoldable pub product_row : ℕ → ℕ → ℕ → Option ℕ → List ℕ
+product_row p action left None = alone_row p action left
+product_row p action left (Some right) = pair_row p action left right
 
 -- A leaf, symbol < 4096; other leaf. The two leaves differ in their heads.
-unfoldable pub leaf_row : ℕ → ℕ → ℕ → Units
+unfoldable pub leaf_row : ℕ → ℕ → ℕ → List ℕ
 leaf_row short wide symbol =
-    pick (ltb symbol 4096) (One (short + symbol)) (Four wide 0 (low symbol) (high symbol))
+    pick (ltb symbol 4096) ((short + symbol) ∷ []) (wide ∷ 0 ∷ low symbol ∷ high symbol ∷ [])
 
 -- The first fitting row.
-unfoldable pub row_of : ℕ → Node → Units
+unfoldable pub row_of : ℕ → Node → List ℕ
 row_of p (Sum count nonterminal) = sum_row count nonterminal
 row_of p (Product action left right) = product_row p action left right
 row_of p (Evaluated symbol) = leaf_row 0x8000 0xA000 symbol
 row_of p (NullingLeaf symbol) = leaf_row 0x9000 0xA001 symbol
 
--- The units of a node at p, or unfit.
-unfoldable pub units_of : ℕ → Node → Units
-units_of p node = pick (unfit p node) Unfit (row_of p node)
-
--- The units one behind another: none of an unfit node.
-abbrev pub list_of : Units → List ℕ
-list_of Unfit = []
-list_of (One a) = a ∷ []
-list_of (Two a b) = a ∷ b ∷ []
-list_of (Four a b c d) = a ∷ b ∷ c ∷ d ∷ []
-list_of (Six a b c d e f) = a ∷ b ∷ c ∷ d ∷ e ∷ f ∷ []
-
-abbrev pub units_at : ℕ → Node → List ℕ
-units_at p node = list_of (units_of p node)
+-- The units of a node at p, one behind another: none of an unfit node.
+unfoldable pub units_at : ℕ → Node → List ℕ
+units_at p node = pick (unfit p node) [] (row_of p node)

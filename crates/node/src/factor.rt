@@ -2,16 +2,14 @@
 ghost use Rattle.std.specs.Prelude.{◌≡◌};
 ghost use Rattle.node.specs.Reading.{long_right};
 
-use crate::Right;
-
 pub const NO_FACTOR: u32 = 0xFFFF_FFFF;
 
-pub fn long_right(right: u32) -> Right
+pub fn long_right(right: u32) -> Option<u32>
     ensures { result ≡ long_right right }
 {
     if right == NO_FACTOR {
-        Right::Nothing
+        None
     } else {
-        Right::At(right)
+        Some(right)
     }
 }

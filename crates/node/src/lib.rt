@@ -13,15 +13,8 @@ mod reading;
 mod rows;
 mod spelling;
 
-// The right factor of a Product: a node's position, or none.
-#[derive(Clone, Copy)]
-pub enum Right {
-    At(u32),
-    Nothing,
-}
-
-// A node. Factors are positions of nodes in the same store.
-#[derive(Clone, Copy)]
+// A node. Factors are positions of nodes in the same store; a Product may have no right one.
+#[derive(Clone, Copy, PartialEq, Eq, Debug)]
 pub enum Node {
     Sum {
         count: u32,
@@ -30,7 +23,7 @@ pub enum Node {
     Product {
         action: u32,
         left: u32,
-        right: Right,
+        right: Option<u32>,
     },
     NullingLeaf {
         symbol: u32,
@@ -40,55 +33,37 @@ pub enum Node {
     },
 }
 
-// The units of a node at a position, one behind another.
-#[derive(Clone, Copy)]
-pub enum Units {
-    Unfit,
-    One(u16),
-    Two(u16, u16),
-    Four(u16, u16, u16, u16),
-    Six(u16, u16, u16, u16, u16, u16),
-}
-
-// The node that units spell by their head, before they are compared with the node's own units.
-#[derive(Clone, Copy)]
-pub enum Spelt {
-    Like(Node),
-    Unknown,
-}
-
-// What a write answers: the position behind the node; or 10 or 11, with the position asked for.
-#[derive(Clone, Copy)]
-pub enum Written {
-    Behind(usize),
+// Why a node was not written: 10 or 11, with the position asked for.
+#[derive(Clone, Copy, PartialEq, Eq, Debug)]
+pub enum Unwritten {
     Unfit(usize),
     NoRoom(usize),
 }
 
-// What a read answers: a node and the position behind it; the end; or 12, with the unit at which the fault was seen.
-#[derive(Clone, Copy)]
-pub enum Found {
-    Whole(Node, usize),
-    End,
-    NoNode(usize),
+// 12: no node was read. It has the unit at which the fault was seen.
+#[derive(Clone, Copy, PartialEq, Eq, Debug)]
+pub struct NoNode(pub usize);
+
+// What a walk answers: how many nodes it read and the position behind the last, and where it stopped at a 12 the unit of its fault.
+#[derive(Clone, Copy, PartialEq, Eq, Debug)]
+pub struct Walked {
+    pub count: usize,
+    pub behind: usize,
+    pub fault: Option<usize>,
 }
 
-// What a walk answers: how many nodes it read and the position behind the last, to the end or to a 12, with the unit of its fault.
-#[derive(Clone, Copy)]
-pub enum Walked {
-    ToEnd(usize, usize),
-    ToFault(usize, usize, usize),
-}
-
-// Writes a node at p, in the first row of the table that fits.
-pub fn write(store: &mut [u16], p: usize, node: Node) -> Written
+// Writes a node at p, in the first row of the table that fits, and answers the position behind it.
+pub fn write(store: &mut [u16], p: usize, node: Node) -> Result<usize, Unwritten>
     ensures { record { answer = written result; store = store.new } ≡ write_at store.old p node }
 {
-    placing::place_units(store, p, rows::units_of(p, node))
+    match rows::units_of(p, node) {
+        Some(units) => placing::place_units(store, p, units.as_slice()),
+        None => Err(Unwritten::Unfit(p)),
+    }
 }
 
-// Reads the first node from p on.
-pub fn read(store: &[u16], p: usize) -> Found
+// Reads the first node from p on: the node and the position behind it, or `None` at the end.
+pub fn read(store: &[u16], p: usize) -> Result<Option<(Node, usize)>, NoNode>
     ensures answers { found result ≡ read_at store.now p }
     ensures exactly { Exactly (usable store.now) p (found result) }
 {

@@ -3,8 +3,8 @@ ghost use Rattle.std.specs.Prelude.{◌≡◌, true, ℕ, ◌+◌, ◌<◌, ◌�
 ghost use Rattle.node.specs.Writing.{usable_units};
 ghost use Rattle.node.specs.Reading as R;
 
+use crate::Node;
 use crate::factor::long_right;
-use crate::{Node, Right, Spelt};
 
 // The unit at a position, 0 past the end.
 fn unit(s: &[u16], i: usize) -> u32
@@ -15,6 +15,7 @@ fn unit(s: &[u16], i: usize) -> u32
 }
 
 // A value of two units, the low half first.
+#[tactic(auto, unfolding(crate::specs::Reading::value_at))]
 fn value(s: &[u16], i: usize) -> u32
     requires { i ≤ usable_units + 4 }
     ensures { result ≡ R.value_at s.now i }
@@ -23,54 +24,55 @@ fn value(s: &[u16], i: usize) -> u32
 }
 
 // The factor that a distance leads back to; none where the distance is above the position.
-fn factor(q: usize, distance: usize) -> Right
+#[tactic(auto, unfolding(crate::specs::Reading::factor_at))]
+fn factor(q: usize, distance: usize) -> Option<u32>
     requires { q < usable_units }
     ensures { result ≡ R.factor_at q distance }
 {
     if distance <= q {
         let at = (q - distance) as u32;
-        Right::At(at)
+        Some(at)
     } else {
-        Right::Nothing
+        None
     }
 }
 
-fn alone(action: u32, left: Right) -> Spelt
+#[tactic(auto, unfolding(crate::specs::Reading::alone))]
+fn alone(action: u32, left: Option<u32>) -> Option<Node>
     ensures { result ≡ R.alone action left }
 {
     match left {
-        Right::At(at) => Spelt::Like(Node::Product {
+        Some(at) => Some(Node::Product {
             action,
             left: at,
-            right: Right::Nothing,
+            right: None,
         }),
-        Right::Nothing => Spelt::Unknown,
+        None => None,
     }
 }
 
-fn paired(action: u32, left: Right, right: Right) -> Spelt
+#[tactic(auto, unfolding(crate::specs::Reading::paired))]
+fn paired(action: u32, left: Option<u32>, right: Option<u32>) -> Option<Node>
     ensures { result ≡ R.paired action left right }
 {
-    let Right::At(l) = left else {
-        return Spelt::Unknown;
-    };
-    match right {
-        Right::At(_) => Spelt::Like(Node::Product {
+    match (left, right) {
+        (Some(left), Some(_)) => Some(Node::Product {
             action,
-            left: l,
+            left,
             right,
         }),
-        Right::Nothing => Spelt::Unknown,
+        _ => None,
     }
 }
 
 // Heads below 0x8000: the short Sum, and the Products with distances.
-fn near(s: &[u16], q: usize, head: u32) -> Spelt
+#[tactic(auto, unfolding(crate::specs::Reading::near_spelt))]
+fn near(s: &[u16], q: usize, head: u32) -> Option<Node>
     requires { (q < usable_units) × (head < 0x8000) }
     ensures { result ≡ R.near_spelt s.now q head }
 {
     if head < 0x2000 {
-        return Spelt::Like(Node::Sum {
+        return Some(Node::Sum {
             count: head / 256,
             nonterminal: head % 256,
         });
@@ -88,32 +90,34 @@ fn near(s: &[u16], q: usize, head: u32) -> Spelt
 }
 
 // Heads from 0x8000 to 0xBFFF: the leaves.
-fn leaf(s: &[u16], q: usize, head: u32) -> Spelt
+#[tactic(auto, unfolding(crate::specs::Reading::leaf_spelt))]
+fn leaf(s: &[u16], q: usize, head: u32) -> Option<Node>
     requires { (q < usable_units) × (0x8000 ≤ head) }
     ensures { result ≡ R.leaf_spelt s.now q head }
 {
     if head < 0x9000 {
-        return Spelt::Like(Node::Evaluated {
+        return Some(Node::Evaluated {
             symbol: head - 0x8000,
         });
     }
     if head < 0xA000 {
-        return Spelt::Like(Node::NullingLeaf {
+        return Some(Node::NullingLeaf {
             symbol: head - 0x9000,
         });
     }
     let symbol = value(s, q + 2);
     if head == 0xA000 {
-        return Spelt::Like(Node::Evaluated { symbol });
+        return Some(Node::Evaluated { symbol });
     }
     if head == 0xA001 {
-        return Spelt::Like(Node::NullingLeaf { symbol });
+        return Some(Node::NullingLeaf { symbol });
     }
-    Spelt::Unknown
+    None
 }
 
 // Heads from 0xC000 on: the longest Product and the longest Sum.
-fn long(s: &[u16], q: usize, head: u32) -> Spelt
+#[tactic(auto, unfolding(crate::specs::Reading::long_spelt))]
+fn long(s: &[u16], q: usize, head: u32) -> Option<Node>
     requires { (q < usable_units) × ((0xC000 ≤ head) × (head < 0x10000)) }
     ensures { result ≡ R.long_spelt s.now q head }
 {
@@ -122,21 +126,21 @@ fn long(s: &[u16], q: usize, head: u32) -> Spelt
     if head < 0xE000 {
         let action = (head - 0xC000) * 65536 + second;
         let right = long_right(value(s, q + 4));
-        return Spelt::Like(Node::Product {
+        return Some(Node::Product {
             action,
             left: third,
             right,
         });
     }
     let count = (head - 0xE000) * 65536 + second;
-    Spelt::Like(Node::Sum {
+    Some(Node::Sum {
         count,
         nonterminal: third,
     })
 }
 
 // The one node whose units could stand at q.
-pub fn spelt(s: &[u16], q: usize) -> Spelt
+pub fn spelt(s: &[u16], q: usize) -> Option<Node>
     requires { q < usable_units }
     ensures { result ≡ R.spelt s.now q }
 {

@@ -18,7 +18,7 @@ use Rattle.grammar.specs.File.{grammar_of}
 use Rattle.parse.specs.declared.State.{State}
 use Rattle.parse.specs.Words.{Words, within}
 use Rattle.node.specs.Choice.{both_below}
-use Rattle.node.specs.Rows.{units_of, row_of, sum_row, long_product, alone_row, pair_row, product_row, leaf_row, unfit, unfit_product, unfit_right}
+use Rattle.node.specs.Rows.{units_at, row_of, sum_row, long_product, alone_row, pair_row, product_row, leaf_row, unfit, unfit_product, unfit_right}
 use Rattle.node.specs.Reading.{fillers, holds, stand_all, stand, factor_at, alone, paired, long_right, near_spelt, leaf_spelt}
 use Rattle.node.specs.Writing.{put, place, write_units}
 use Rattle.completion.specs.Pass.{and_then, store, enqueue, written, append}
@@ -60,17 +60,17 @@ abbrev ended : Ended
 ended = in_place_ended begun (ran grammar_a (table_of rows_a) fresh (within begun) (plain word))
 
 history : History file_a ended.outcome.state ended.outcome.words (plain word)
-unfolding entries_in is_position any_predicted scan scan_all advanced stepped ran and_then store enqueue append written write_units place put units_of row_of sum_row long_product alone_row pair_row product_row leaf_row unfit unfit_product unfit_right both_below long_right count complete_medial complete_medial_items complete_unary complete_unary_predictions complete_binary complete_binary_predictions complete pop_greatest next_summand pop_sum complete_sum complete_all_sums over until union records.flat highest greatest_origin predictions items_from insert sort_into binary push_queue pop_queue pushed popped move goes_up rise sift_up takes_right child goes_down sink sift_down rows_of
+unfolding entries_in is_position any_predicted scan scan_all advanced stepped ran and_then store enqueue append written write_units place put units_at row_of sum_row long_product alone_row pair_row product_row leaf_row unfit unfit_product unfit_right both_below long_right count complete_medial complete_medial_items complete_unary complete_unary_predictions complete_binary complete_binary_predictions complete pop_greatest next_summand pop_sum complete_sum complete_all_sums over until union records.flat highest greatest_origin predictions items_from insert sort_into binary push_queue pop_queue pushed popped move goes_up rise sift_up takes_right child goes_down sink sift_down rows_of
 history = History.run {b = plain word} {e = ended} start.history (Runs.done start.ready)
 
 -- Finished says yes,
 says : last_wraps ended.outcome.state (within ended.outcome.words) ≡ true
-unfolding entries_in is_position any_predicted scan scan_all advanced stepped ran and_then store enqueue append written write_units place put units_of row_of sum_row long_product alone_row pair_row product_row leaf_row unfit unfit_product unfit_right both_below long_right count complete_medial complete_medial_items complete_unary complete_unary_predictions complete_binary complete_binary_predictions complete pop_greatest next_summand pop_sum complete_sum complete_all_sums over until union records.flat highest greatest_origin predictions items_from insert sort_into binary push_queue pop_queue pushed popped move goes_up rise sift_up takes_right child goes_down sink sift_down rows_of
+unfolding entries_in is_position any_predicted scan scan_all advanced stepped ran and_then store enqueue append written write_units place put units_at row_of sum_row long_product alone_row pair_row product_row leaf_row unfit unfit_product unfit_right both_below long_right count complete_medial complete_medial_items complete_unary complete_unary_predictions complete_binary complete_binary_predictions complete pop_greatest next_summand pop_sum complete_sum complete_all_sums over until union records.flat highest greatest_origin predictions items_from insert sort_into binary push_queue pop_queue pushed popped move goes_up rise sift_up takes_right child goes_down sink sift_down rows_of
 says = refl
 
 -- and these are the trees under its handle.
 are : trees_at ended.outcome.words.store (finished_handle ended.outcome.state (within ended.outcome.words)) ≡ first_two ∷ last_two ∷ []
-unfolding entries_in is_position any_predicted scan scan_all advanced stepped ran and_then store enqueue append written write_units place put units_of row_of sum_row long_product alone_row pair_row product_row leaf_row unfit unfit_product unfit_right both_below long_right count complete_medial complete_medial_items complete_unary complete_unary_predictions complete_binary complete_binary_predictions complete pop_greatest next_summand pop_sum complete_sum complete_all_sums over until union records.flat highest greatest_origin predictions items_from insert sort_into binary push_queue pop_queue pushed popped move goes_up rise sift_up takes_right child goes_down sink sift_down rows_of node_at products_at fillers holds stand_all stand factor_at alone paired near_spelt leaf_spelt flat_map
+unfolding entries_in is_position any_predicted scan scan_all advanced stepped ran and_then store enqueue append written write_units place put units_at row_of sum_row long_product alone_row pair_row product_row leaf_row unfit unfit_product unfit_right both_below long_right count complete_medial complete_medial_items complete_unary complete_unary_predictions complete_binary complete_binary_predictions complete pop_greatest next_summand pop_sum complete_sum complete_all_sums over until union records.flat highest greatest_origin predictions items_from insert sort_into binary push_queue pop_queue pushed popped move goes_up rise sift_up takes_right child goes_down sink sift_down rows_of node_at products_at fillers holds stand_all stand factor_at alone paired near_spelt leaf_spelt flat_map
 are = refl
 
 -- So "0 1 0 1 0" has these two trees, and no other.
@@ -89,7 +89,7 @@ pub finished_k : Finishes file_k (state 1 1 5) words_k1 0 true handle_k
 finished_k = Finishes.done (record { checked = sound_k.checked; well_formed = both_k.ready.well_formed })
 
 pub are_k : trees_at words_k1.store handle_k ≡ one 2 (leaf 1) ∷ one 1 (leaf 0) ∷ []
-unfolding units_of row_of sum_row long_product alone_row pair_row product_row leaf_row unfit unfit_product unfit_right both_below long_right node_at products_at fillers holds stand_all stand factor_at alone paired near_spelt leaf_spelt flat_map rows_of
+unfolding units_at row_of sum_row long_product alone_row pair_row product_row leaf_row unfit unfit_product unfit_right both_below long_right node_at products_at fillers holds stand_all stand factor_at alone paired near_spelt leaf_spelt flat_map rows_of
 are_k = refl
 
 pub two_trees_k : TreesOf (grammar_of file_k) ((0 ∷ 1 ∷ []) ∷ []) (one 2 (leaf 1) ∷ one 1 (leaf 0) ∷ [])

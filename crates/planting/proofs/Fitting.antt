@@ -21,15 +21,14 @@ use Rattle.binary_heap.proofs.PushLaws.{pushed_every}
 use Rattle.binary_heap.proofs.PopLaws.{popped_every}
 use Rattle.grammar.specs.Rules.{Rule}
 use Rattle.node.specs.Choice.{pick, both, both_below}
-use Rattle.node.specs.Rows.{all_ones, unfit, unfit_right, distance, row_of, sum_row, product_row, alone_row, pair_row, leaf_row, long_product, list_of, units_at, count_limit}
+use Rattle.node.specs.Rows.{all_ones, unfit, unfit_right, units_at, count_limit}
 use Rattle.node.specs.Reading.{long_right}
 use Rattle.node.specs.Answers.{values_of}
 use Rattle.node.specs.Writing.{usable, place, write_units}
-use Rattle.node.specs.declared.Units.{Units}
-use Rattle.node.specs.declared.Right.TheVariants.{At, Nothing}
+use Rattle.std.specs.Prelude.{Some, None}
 use Rattle.node.specs.declared.Node.{Node}
 use Rattle.node.specs.declared.Node.TheVariants.{Sum, Product, NullingLeaf, Evaluated}
-use Rattle.node.proofs.Fit.{fit_row, product-fit, right-fit}
+use Rattle.node.proofs.Fit.{fit_row, row-size, product-fit, right-fit}
 use Rattle.completion.specs.Pass.{Pass, store, enqueue, written, append, store_full}
 use Rattle.completion.specs.Complete.{complete_medial_items, complete_unary_predictions, complete}
 use Rattle.completion.specs.Sums.{is_of, summands, product_node, sum_ends, pop_greatest, next_summand}
@@ -43,19 +42,8 @@ use Rattle.completion.proofs.Through.{medial_items_keep, unary_predictions_go, b
 use Rattle.completion.proofs.Charting.{Steady, steady_store, steady_enqueue, steady_append, steady_next, stored-new, pop_sound}
 
 -- A node that is fit has units,
-row-some : (p : ℕ) (n : Node) → 0 < length (list_of (row_of p n))
-unfolding row_of sum_row product_row alone_row pair_row leaf_row long_product
-row-some p (Sum c x) = either_way (both_below c 32 x 256) (λ e. rw e (omega arith)) (λ e. rw e (omega arith))
-row-some p (Product r a Nothing) =
-    either_way (both_below (distance p a) 32 r 256) (λ e. rw e (omega arith))
-    (λ e. either_way (both_below (distance p a) 8192 r 65536) (λ f. rw (e, f) (omega arith)) (λ f. rw (e, f) (omega arith)))
-row-some p (Product r a (At b)) =
-    either_way (both (ltb r 65536) (both_below (distance p b) 32 (distance p a) 256)) (λ e. rw e (omega arith)) (λ e. rw e (omega arith))
-row-some p (NullingLeaf x) = either_way (ltb x 4096) (λ e. rw e (omega arith)) (λ e. rw e (omega arith))
-row-some p (Evaluated x) = either_way (ltb x 4096) (λ e. rw e (omega arith)) (λ e. rw e (omega arith))
-
 units-some : (p : ℕ) (n : Node) → unfit p n ≡ false → 0 < length (units_at p n)
-units-some p n fit = subst (λ (u : Units). 0 < length (list_of u)) (sym (fit_row p n fit)) (row-some p n)
+units-some p n fit = subst (λ us. 0 < length us) (sym (fit_row p n fit)) (row-size p n).some
 
 -- and is refused exactly where these do not fit.
 module _ (s : Pass) where
@@ -223,9 +211,9 @@ product_is_fit rs u few sound rules low some =
     by_right : (right : ℕ) → (right ≡ all_ones) ⊎ (right < u.at.used) → unfit_right u.at.used (long_right right) ≡ false
     by_right right low =
         elim (ℕ_discrete right all_ones) [
-          | yes ones ↦ ap (λ b. unfit_right u.at.used (pick b Nothing (At right))) (eq-eqb right all_ones ones)
+          | yes ones ↦ ap (λ b. unfit_right u.at.used (pick b None (Some right))) (eq-eqb right all_ones ones)
           | no two ↦
-              ap (λ b. unfit_right u.at.used (pick b Nothing (At right))) (ne_eqb right all_ones two)
+              ap (λ b. unfit_right u.at.used (pick b None (Some right))) (ne_eqb right all_ones two)
               ∙ ⊎_elim (λ ones. absurd (two ones)) (λ low. right-fit low (ne_eqb right all_ones two)) low
         ]
 

@@ -7,8 +7,7 @@ use lib.ListN.{length, get_or, take, drop, take-append-drop}
 use lib.Seq.{take-suc}
 use borrow.Author.Tests.{lt-ltb}
 use Rattle.grammar.specs.Rules.{Rule}
-use Rattle.node.specs.Rows.{units_at, row_of, leaf_row, list_of, unfit}
-use Rattle.node.specs.declared.Units.{Units}
+use Rattle.node.specs.Rows.{units_at, row_of, leaf_row, unfit}
 use Rattle.node.specs.declared.Node.TheVariants.{Evaluated}
 use Rattle.node.proofs.Fit.{fit_row}
 use Rattle.completion.specs.Pass.{Pass, append}
@@ -23,7 +22,7 @@ use Rattle.planting.proofs.Written.{append_good}
 -- The leaf of a token has one unit.
 pub leaf-unit : (p t : ℕ) → t < 4096 → length (units_at p (Evaluated t)) ≡ 1
 unfolding unfit row_of leaf_row
-leaf-unit p t small = ap (λ (u : Units). length (list_of u)) (fit_row p (Evaluated t) refl) ∙ rw (lt-ltb t 4096 small) refl
+leaf-unit p t small = ap length (fit_row p (Evaluated t) refl) ∙ rw (lt-ltb t 4096 small) refl
 
 module _ (rs : List Rule) (starts rows : List ℕ) (e : ℕ) where
   -- A kind that is predicted gets its node and is completed; any other is passed over.

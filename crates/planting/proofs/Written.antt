@@ -23,7 +23,7 @@ use Rattle.node.specs.Rows.{units_at, all_ones}
 use Rattle.node.specs.Reading.{stand, long_right}
 use Rattle.node.specs.Answers.{answer, done, position, values_of}
 use Rattle.node.specs.Writing.{usable, usable_units, place, write_units, write_at}
-use Rattle.node.specs.declared.Right.TheVariants.{At, Nothing}
+use Rattle.std.specs.Prelude.{Some, None}
 use Rattle.node.specs.declared.Node.{Node}
 use Rattle.node.specs.declared.Node.TheVariants.{Sum, Product}
 use Rattle.node.proofs.RoundTrip.{Wrote, did_write, written_stands}
@@ -228,12 +228,12 @@ unfolding long_right
 product-spelt is items e rule handle =
     elim (ℕ_discrete e.right all_ones) [
       | yes ones ↦
-          ap (λ b. Product (rule_at items e.place) (handle_at items e.place) (pick b Nothing (At e.right))) (eq-eqb e.right all_ones ones)
-          ∙ (λ i. Product (sym rule i) (sym handle i) Nothing)
+          ap (λ b. Product (rule_at items e.place) (handle_at items e.place) (pick b None (Some e.right))) (eq-eqb e.right all_ones ones)
+          ∙ (λ i. Product (sym rule i) (sym handle i) None)
           ∙ ap spell (sym (product_lone is e ones))
       | no two ↦
-          ap (λ b. Product (rule_at items e.place) (handle_at items e.place) (pick b Nothing (At e.right))) (ne_eqb e.right all_ones two)
-          ∙ (λ i. Product (sym rule i) (sym handle i) (At e.right))
+          ap (λ b. Product (rule_at items e.place) (handle_at items e.place) (pick b None (Some e.right))) (ne_eqb e.right all_ones two)
+          ∙ (λ i. Product (sym rule i) (sym handle i) (Some e.right))
           ∙ ap spell (sym (product_two is e two))
     ]
 

@@ -5,7 +5,7 @@ use Prim.Native.Nat.{ℕ}
 use native.Mathlib.Omega.{arith}
 use Rattle.laws.specs.Fills.{too_short}
 use Rattle.node.specs.Choice.{both_below}
-use Rattle.node.specs.Rows.{units_of, row_of, sum_row, long_product, alone_row, pair_row, product_row, leaf_row, unfit, unfit_right, unfit_product}
+use Rattle.node.specs.Rows.{units_at, row_of, sum_row, long_product, alone_row, pair_row, product_row, leaf_row, unfit, unfit_right, unfit_product}
 use Rattle.node.specs.Reading.{fillers, holds, stand_all, stand, factor_at, long_right, value_at, near_spelt, leaf_spelt, long_spelt}
 use Rattle.node.specs.Reading.{alone as alone-spelt, paired as paired-spelt}
 use Rattle.node.specs.Answers.{done}
@@ -54,7 +54,7 @@ pub record Readings : Type 0 where
   pub past_units : Answers of_a 3 (Faulty 3)
 
 pub readings : Readings
-unfolding flat_map both_below units_of row_of sum_row long_product alone_row pair_row product_row leaf_row unfit unfit_right unfit_product fillers holds stand_all stand factor_at alone-spelt paired-spelt long_right value_at near_spelt leaf_spelt long_spelt products_at node_at asked_at limited lower plus often times of_entry factor_weight product_weight sum_from closed weigh_node weights
+unfolding flat_map both_below units_at row_of sum_row long_product alone_row pair_row product_row leaf_row unfit unfit_right unfit_product fillers holds stand_all stand factor_at alone-spelt paired-spelt long_right value_at near_spelt leaf_spelt long_spelt products_at node_at asked_at limited lower plus often times of_entry factor_weight product_weight sum_from closed weigh_node weights
 readings = record {
   one_number = weight_counts of_a 1 (alone 2 0 ∷ []) (Number 1) refl refl;
   its_tree = refl;
@@ -80,7 +80,7 @@ pub record ReadingsOfTree : Type 0 where
   pub no_tree : Tells of_a 1 9 [] (answer no_such_tree nothing) []
 
 pub readings_of_tree : ReadingsOfTree
-unfolding flat_map both_below units_of row_of sum_row long_product alone_row pair_row product_row leaf_row unfit unfit_right unfit_product fillers holds stand_all stand factor_at alone-spelt paired-spelt long_right value_at near_spelt leaf_spelt long_spelt products_at node_at
+unfolding flat_map both_below units_at row_of sum_row long_product alone_row pair_row product_row leaf_row unfit unfit_right unfit_product fillers holds stand_all stand factor_at alone-spelt paired-spelt long_right value_at near_spelt leaf_spelt long_spelt products_at node_at
 readings_of_tree =
     let sound : Sound of_a 1 = counted-sound 1 readings.one_number refl in
     record {

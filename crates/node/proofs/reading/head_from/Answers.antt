@@ -1,19 +1,22 @@
-use mathlib.Core.Path.{refl, sym, ◌∙◌}
-use Rattle.node.proofs.Fillers.{head_past, head-here, head_skip}
+-- `reading::head_from` meets its contract.
+use mathlib.Core.Path.{sym}
+use native.Mathlib.Omega.{arith}
+use Prim.Native.Nat.{ℕ, ◌-◌}
+use mathlib.Core.List.{List}
+use lib.ListN.{length, take, drop, length-take, length-drop}
+use Rattle.node.proofs.Fillers.{fillers-few, head_past}
 use Rattle.node.proofs.reading.head_from.Goals as goal
 
-pub loop-q-init : goal.loop-q-init
-loop-q-init c = refl
+pub overflow_add-result : goal.overflow_add-result
+overflow_add-result c =
+    let rest : List ℕ = take (length c.args.s.now - c.args.p) (drop c.args.p c.args.s.now) in
+    omega (
+      arith,
+      c.fillers.ensures,
+      fillers-few rest,
+      length-take (length c.args.s.now - c.args.p) (drop c.args.p c.args.s.now),
+      length-drop c.args.p c.args.s.now,
+    )
 
-pub returns-then-s-q : goal.returns-then-s-q
-returns-then-s-q c =
-    let s = c.args.s.now in
-    sym (head-here s c.loop-q.q c.loop-q-test.true c.if-s-q.true) ∙ c.loop-q.invariant
-
-pub loop-q-preserved : goal.loop-q-preserved
-loop-q-preserved c =
-    let s = c.args.s.now in
-    sym (head_skip s c.loop-q.q c.loop-q-test.true c.if-s-q.false) ∙ c.loop-q.invariant
-
-pub returns : goal.returns
-returns c = sym (head_past c.args.s.now c.loop-q.q c.loop-q-test.false) ∙ c.loop-q.invariant
+pub returns-else-p-s : goal.returns-else-p-s
+returns-else-p-s c = sym (head_past _ _ c.if-p-s.false)

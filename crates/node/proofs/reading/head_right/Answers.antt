@@ -1,24 +1,21 @@
--- `reading::head_right` meets its contract: the head is tested first, then the length.
-use Prim.Native.Nat.{◌+◌}
-use mathlib.Core.Path.{sym, ap, ◌∙◌}
-use native.Mathlib.Omega.{arith}
+-- `reading::head_right` meets its contract: the head is tested first, then the room.
+use Prim.Native.Nat.{◌-◌}
+use mathlib.Core.Path.{◌≡◌, refl, sym, ◌∙◌}
+use mathlib.Core.Bool.{Bool, true, false}
 use lib.ListN.{length}
 use lib.Dec.{leb}
-use Rattle.node.specs.Reading.{head_right}
-use Rattle.node.proofs.Fit.{few}
+use borrow.Author.Tests.{leb-true, leb-false, ne_eqb}
+use Rattle.node.specs.Reading as R
+use Rattle.node.proofs.Exact.{head_told, head_other, head_cut}
 use Rattle.node.proofs.reading.head_right.Goals as goal
 
-pub overflow_add-result : goal.overflow_add-result
-overflow_add-result c =
-    omega (arith, c.width.ensures, few c.args.units, c.requires)
+pub returns-then-s-q : goal.returns-then-s-q
+returns-then-s-q c = on (leb (length c.args.units.now) (length c.args.s.now - c.args.q)) refl
+  where
+    on : (t : Bool) → leb (length c.args.units.now) (length c.args.s.now - c.args.q) ≡ t
+        → t ≡ R.head_right c.args.s.now c.args.q c.args.units.now
+    on true e = sym (head_told _ _ _ c.requires.0 c.requires.1 c.if-s-q.true (leb-true _ _ e))
+    on false e = sym (head_cut _ _ _ c.requires.0 (leb-false _ _ e))
 
-pub returns-then-head_stands : goal.returns-then-head_stands
-unfolding head_right
-returns-then-head_stands c =
-    let given = c.args in
-    ap (λ w. leb (given.q + w) (length given.s.now)) c.width.ensures
-    ∙ simp (sym c.head_stands.ensures ∙ c.if-head_stands.true)
-
-pub returns : goal.returns
-unfolding head_right
-returns c = simp (sym c.head_stands.ensures ∙ c.if-head_stands.false)
+pub returns-else-s-q : goal.returns-else-s-q
+returns-else-s-q c = ne_eqb _ _ c.if-s-q.false ∙ sym (head_other _ _ _ c.requires.1 c.if-s-q.false)

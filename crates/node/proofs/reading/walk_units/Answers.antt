@@ -1,5 +1,6 @@
-use mathlib.Core.Path.{◌≡◌, refl, sym, ap, ◌∙◌}
+use mathlib.Core.Path.{◌≡◌, sym, ap, ◌∙◌}
 use native.Mathlib.Omega.{arith}
+use Rattle.std.specs.Prelude.{Ok}
 use Rattle.node.specs.Answers.{answer, done, node, found}
 use Rattle.node.specs.Reading.{read_units}
 use Rattle.node.proofs.Exact.{Onward, read_onward}
@@ -7,23 +8,12 @@ use Rattle.node.proofs.Walks.{walk-node, walk_end, walk-fault}
 use Rattle.node.proofs.reading.walk_units.Goals as goal
 
 -- In a turn that goes on, a node was read, and the position behind it is onward and within the store.
-node-read : (c : goal.In-Whole)
-    → let given = c.args in
-    read_units given.s.now c.loop-behind.at
-    ≡ answer done (node c.in-Whole.field-0 c.in-Whole.behind)
-node-read c = sym c.read_units.ensures ∙ ap found c.in-Whole.is
+node-read : (c : goal.In-Ok-Some)
+    → read_units c.args.s.now c.loop-behind.at ≡ answer done (node c.in-Ok-Some.field-0-0-0 c.in-Ok-Some.behind)
+node-read c = sym c.in-Ok-Some.ensures ∙ ap (λ r. found (Ok r)) c.in-Ok-Some.field-0-is
 
-onward : (c : goal.In-Whole)
-    → let given = c.args in
-    Onward given.s.now c.loop-behind.at
-    c.in-Whole.behind
+onward : (c : goal.In-Ok-Some) → Onward c.args.s.now c.loop-behind.at c.in-Ok-Some.behind
 onward c = read_onward _ _ _ _ (node-read c)
-
-pub loop-behind-init : goal.loop-behind-init
-loop-behind-init c = record { left = refl; counted = omega arith }
-
-pub read_units-requires : goal.read_units-requires
-read_units-requires c = c.requires
 
 pub overflow_add-count : goal.overflow_add-count
 overflow_add-count c = omega (arith, onward c, c.loop-behind.invariant.counted)
@@ -39,16 +29,11 @@ loop-behind-preserved c =
       counted = omega (arith, onward c, looped.invariant.counted);
     }
 
-pub returns-in-End : goal.returns-in-End
-returns-in-End c =
-    let looped = c.loop-behind in
-    let is = sym c.read_units.ensures ∙ ap found c.in-End.is in
-    sym (walk_end _ looped.at looped.count is)
-    ∙ looped.invariant.left
+pub returns-in-Ok-None : goal.returns-in-Ok-None
+returns-in-Ok-None c =
+    let is = sym c.in-Ok-None.ensures ∙ ap (λ r. found (Ok r)) c.in-Ok-None.field-0-is in
+    sym (walk_end _ c.loop-behind.at c.loop-behind.count is) ∙ c.loop-behind.invariant.left
 
-pub returns-in-NoNode : goal.returns-in-NoNode
-returns-in-NoNode c =
-    let looped = c.loop-behind in
-    let is = sym c.read_units.ensures ∙ ap found c.in-NoNode.is in
-    sym (walk-fault _ looped.at looped.count _ is)
-    ∙ looped.invariant.left
+pub returns-in-Err : goal.returns-in-Err
+returns-in-Err c =
+    sym (walk-fault _ c.loop-behind.at c.loop-behind.count _ (sym c.in-Err.ensures)) ∙ c.loop-behind.invariant.left
