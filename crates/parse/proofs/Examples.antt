@@ -5,12 +5,12 @@ use mathlib.Core.List.{List, [], ◌∷◌}
 use Prim.Native.Nat.{ℕ}
 use native.Mathlib.Omega.{arith}
 use Rattle.node.specs.Choice.{both_below}
-use Rattle.node.specs.Rows.{units_of, row_of, sum_row, alone_row, product_row, leaf_row, unfit, unfit_product, unfit_right}
+use Rattle.node.specs.Rows.{units_at, row_of, sum_row, alone_row, product_row, leaf_row, unfit, unfit_product, unfit_right}
 use Rattle.node.specs.Answers.{answer, refused, done, no_node, node, end, nothing}
 use Rattle.node.specs.Reading.{fillers, holds, stand_all, stand, factor_at, alone, near_spelt, leaf_spelt, take_node, read_here, read_units, read_at}
 use Rattle.node.specs.Reading.{head_stands, head_right, not_zero, faults, lowest}
 use Rattle.node.specs.declared.Node.TheVariants.{Sum, Product, Evaluated}
-use Rattle.node.specs.declared.Right.TheVariants.{Nothing}
+use Rattle.std.specs.Prelude.{None}
 use Rattle.parse.specs.Heads.{ToEnd, ends, on, Meets, here}
 use Rattle.parse.proofs.Marking.{end-behind, meets_behind, none_met}
 
@@ -39,20 +39,20 @@ record Computed : Type 0 where
   cut-first : read_at cut_off 0 ≡ answer done (node (Evaluated 0) 1)
   cut-second : read_at cut_off 1 ≡ refused no_node 1 nothing
   whole-first : read_at whole 0 ≡ answer done (node (Evaluated 0) 1)
-  whole-second : read_at whole 1 ≡ answer done (node (Product 0xFFFF 0 Nothing) 3)
+  whole-second : read_at whole 1 ≡ answer done (node (Product 0xFFFF 0 None) 3)
   whole-end : read_at whole 3 ≡ answer done end
   behind-filler : read_at filler_first 0 ≡ answer done (node (Evaluated 0) 2)
   behind-end : read_at filler_first 2 ≡ answer done end
   inside-first : read_at sum_inside 0 ≡ answer done (node (Evaluated 0) 1)
-  inside-second : read_at sum_inside 1 ≡ answer done (node (Product 0x0103 0 Nothing) 3)
+  inside-second : read_at sum_inside 1 ≡ answer done (node (Product 0x0103 0 None) 3)
   inside-end : read_at sum_inside 3 ≡ answer done end
   last-first : read_at filler_last 0 ≡ answer done (node (Evaluated 0) 1)
   last_sum : read_at filler_last 1 ≡ answer done (node (Sum 1 2) 2)
-  last-product : read_at filler_last 2 ≡ answer done (node (Product 2 0 Nothing) 3)
+  last-product : read_at filler_last 2 ≡ answer done (node (Product 2 0 None) 3)
   last_end : read_at filler_last 3 ≡ answer done end
 
 computed : Computed
-unfolding read_units read_here take_node fillers near_spelt leaf_spelt alone factor_at stand stand_all holds units_of row_of sum_row leaf_row product_row alone_row unfit unfit_product unfit_right both_below head_stands head_right not_zero faults lowest
+unfolding read_units read_here take_node fillers near_spelt leaf_spelt alone factor_at stand stand_all holds units_at row_of sum_row leaf_row product_row alone_row unfit unfit_product unfit_right both_below head_stands head_right not_zero faults lowest
 computed = record {
   cut-first = refl;
   cut-second = refl;

@@ -9,14 +9,13 @@ use lib.ListN.{length, get_or, take, drop, length-append, length-drop, length-ta
 use lib.Seq.{take-append-le, take-append-add, take_all, drop-append-le, drop-append_seam, get_or-append-add}
 use lib.Dec.{ltb, eqb}
 use borrow.Author.Tests.{ltb-false, le-ltb}
+use Rattle.std.specs.Prelude.{Option, Some, None}
 use Rattle.node.specs.Choice.{pick}
 use Rattle.node.specs.Rows.{units_at}
 use Rattle.node.specs.Answers.{answer, refused, done, no_node, node, end, nothing}
 use Rattle.node.specs.Writing.{usable, usable_units}
 use Rattle.node.specs.Reading.{filler, fillers, head_from, stand, spelt, take_node, read_here, read_units, read_at, faults, lowest}
 use Rattle.node.specs.declared.Node.{Node}
-use Rattle.node.specs.declared.Spelt.{Spelt}
-use Rattle.node.specs.declared.Spelt.TheVariants.{Like, Unknown}
 use Rattle.node.proofs.Stands.{Holds, all_held, all-stand}
 use Rattle.node.proofs.Exact.{within, Read, read_taken, read-stands, read_onward}
 use Rattle.node.proofs.RoundTrip.{head-standing, stand_all_lem, all_of_stand}
@@ -134,14 +133,14 @@ unfolding read_units read_here take_node
 past_read s p e = test_case (ltb (head_from s p) (length s)) refl e
   where
     stand_case : (m : Node) (t : Bool)
-        → pick t (answer done (node m (head_from s p + length (units_at (head_from s p) m)))) (refused no_node (lowest (faults s (head_from s p) (Like m))) nothing)
+        → pick t (answer done (node m (head_from s p + length (units_at (head_from s p) m)))) (refused no_node (lowest (faults s (head_from s p) (Some m))) nothing)
         ≡ answer done end → ⊥
     stand_case m true e = let z : ◌≡◌ {A = ℕ} 0 1 = cc in omega arith
     stand_case m false e = let z : ◌≡◌ {A = ℕ} 0 1 = cc in omega arith
 
-    spelt_case : (x : Spelt) → take_node s (head_from s p) x ≡ answer done end → ⊥
-    spelt_case (Like m) e = stand_case m (stand s (head_from s p) (units_at (head_from s p) m)) e
-    spelt_case Unknown e = let z : ◌≡◌ {A = ℕ} 0 1 = cc in omega arith
+    spelt_case : (x : Option Node) → take_node s (head_from s p) x ≡ answer done end → ⊥
+    spelt_case (Some m) e = stand_case m (stand s (head_from s p) (units_at (head_from s p) m)) e
+    spelt_case None e = let z : ◌≡◌ {A = ℕ} 0 1 = cc in omega arith
 
     test_case : (t : Bool) → ltb (head_from s p) (length s) ≡ t → pick t (read_here s (head_from s p)) (answer done end) ≡ answer done end → length s ≤ head_from s p
     test_case true l e = absurd (spelt_case (spelt s (head_from s p)) e)

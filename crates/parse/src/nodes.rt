@@ -10,7 +10,6 @@ ghost use Rattle.parse.specs.inner.Parts.{head_words, Unmarked, HeadsMarked, Han
 use crate::padding::FILLER;
 use crate::room::UNITS;
 use bits::WORD;
-use node::Found;
 
 // The words of the marks.
 pub const HEAD_WORDS: usize = 512;
@@ -47,11 +46,11 @@ fn mark_heads(units: &[u16], heads: &mut Heads) -> bool
             at += 1;
             continue;
         }
-        let Found::Whole(_, behind) = node::read(units, at) else {
+        let Ok(Some(found)) = node::read(units, at) else {
             return false;
         };
         mark(heads, at);
-        at = behind;
+        at = found.1;
     }
     true
 }

@@ -1,19 +1,20 @@
 use mathlib.Core.Path.{◌≡◌, refl, sym, ap, subst, ◌∙◌}
 use Prim.Native.Nat.{ℕ}
 use native.Mathlib.Omega.{arith}
-use Rattle.node.specs.Answers.{answer, done, node, found}
+use Rattle.node.specs.Answers.{Answer, answer, end, done, node, found}
 use Rattle.node.specs.declared.Node.{Node}
-use Rattle.node.specs.declared.Found.{Found}
-use Rattle.node.specs.declared.Found.TheVariants.{Whole, End, NoNode}
+use Rattle.node.specs.declared.NoNode.{NoNode}
+use Rattle.std.specs.Prelude.{Option, Some, None, Result, Ok, Err}
 use Rattle.node.proofs.Exact.{read_onward}
 use Rattle.parse.proofs.Marking.{Marking, marking-start, marking-filler, marking-node, marking-ends, marking_fails}
 use Rattle.parse.proofs.nodes.mark_heads.Goals as goal
 
--- What is the end or no node is no node.
-not_whole : (r : Found) → ((m : Node) (q : ℕ) → r ≡ Whole m q → ⊥) → (n : Node) (b : ℕ) → found r ≡ answer done (node n b) → ⊥
-not_whole (Whole m q) never n b e = never m q refl
-not_whole End never n b e = let z : ◌≡◌ {A = ℕ} 0 1 = cc in omega arith
-not_whole (NoNode unit) never n b e = let z : ◌≡◌ {A = ℕ} 0 1 = cc in omega arith
+-- The end is no node, and a fault is none.
+end_other : {a : Answer} → answer done end ≡ a → (n : Node) (b : ℕ) → a ≡ answer done (node n b) → ⊥
+end_other is n b e = let z : ◌≡◌ {A = ℕ} 0 1 = cc in omega arith
+
+fault_other : {r : Result (Option (Node × ℕ)) NoNode} {fault : NoNode} → r ≡ Err fault → (n : Node) (b : ℕ) → found r ≡ answer done (node n b) → ⊥
+fault_other is n b e = let z : ◌≡◌ {A = ℕ} 0 1 = cc (ap found is) in omega arith
 
 pub loop-at-init : goal.loop-at-init
 loop-at-init c = marking-start _ c.requires.0 _ c.requires.1
@@ -28,21 +29,32 @@ returns-in_default c =
     let required = c.requires in
     let looped = c.loop-at in
     let walked = marking_fails _ required.0 looped.at looped.heads looped.invariant c.loop-at-test.true c.if-units-at.false
-    (λ n b e. not_whole c.read.result c.in_default.not-Whole n b (c.read.ensures.answers ∙ e)) in record {
+    (end_other (c.in_default.ensures tt).answers) in record {
+      reads = walked.tells;
+      marks = walked.marks;
+    }
+
+pub returns-in_default-2 : goal.returns-in_default-2
+returns-in_default-2 c =
+    let required = c.requires in
+    let looped = c.loop-at in
+    let walked = marking_fails _ required.0 looped.at looped.heads looped.invariant c.loop-at-test.true c.if-units-at.false
+    (λ n b e. fault_other c.in_default.is n b (c.read.ensures.answers ∙ e)) in record {
       reads = walked.tells;
       marks = walked.marks;
     }
 
 pub loop-at-smaller : goal.loop-at-smaller
-loop-at-smaller c = omega (arith, read_onward _ _ _ _ (sym c.read.ensures.answers ∙ ap found c.in-Whole.is))
+loop-at-smaller c =
+    let node-read = sym c.read.ensures.answers ∙ ap found (c.in-Ok-Some.is ∙ ap Ok c.in-Ok-Some.field-0-is) in
+    omega (arith, read_onward _ _ _ _ node-read)
 
 pub loop-at-preserved : goal.loop-at-preserved
 loop-at-preserved c =
-    let required = c.requires in
     let looped = c.loop-at in
+    let node-read = sym c.read.ensures.answers ∙ ap found (c.in-Ok-Some.is ∙ ap Ok c.in-Ok-Some.field-0-is) in
     subst (Marking _ _) (sym c.mark.ensures)
-    (marking-node _ required.0 looped.at looped.heads looped.invariant _ _ c.loop-at-test.true
-    c.if-units-at.false (sym c.read.ensures.answers ∙ ap found c.in-Whole.is))
+    (marking-node _ c.requires.0 looped.at looped.heads looped.invariant _ _ c.loop-at-test.true c.if-units-at.false node-read)
 
 pub returns : goal.returns
 returns c =
