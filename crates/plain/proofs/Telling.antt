@@ -16,18 +16,23 @@ use Rattle.laws.proofs.Bits.{row_ext, holds_true, true_holds}
 use Rattle.laws.proofs.Rows.{row_wide, row_word, words_row}
 use Rattle.laws.proofs.Decides.{true_false, decide_alike}
 use Rattle.laws.proofs.Fills.{SameFill}
+use Rattle.grammar.specs.declared.Fault.{Fault}
+use Rattle.grammar.specs.declared.Fault.TheVariants.{Malformed, Broken}
+use Rattle.grammar.specs.Answers.{Verdict, fault_number}
 use Rattle.grammar.specs.Rules.{Grammar, start}
 use Rattle.grammar.specs.Accepted.{Accepted}
 use Rattle.grammar.specs.Sentences.{Derives, Sentence}
-use Rattle.grammar.specs.File.{Malformed, grammar_of}
-use Rattle.grammar.specs.inner.Decoded.{first_in, HoldsRules}
+use Rattle.grammar.specs.File as bytes
+use Rattle.grammar.specs.File.{grammar_of}
+use Rattle.grammar.specs.inner.Decoded.{decoded, first_in, HoldsFile}
 use Rattle.grammar.proofs.Decoding.{in_count, in_first}
 use Rattle.grammar.proofs.Facts.{sentence-some}
 use Rattle.grammar.proofs.Verdicts.{read_grammar}
-use Rattle.plain.specs.declared.Sizes.{Sizes}
+use Rattle.grammar.specs.declared.Grammar as Held
 use Rattle.plain.specs.Table.{max_tokens, row_words, Stretch, stretch, stretches_up_to, place, needed, TableOf}
 use Rattle.plain.specs.Calls.{Ordinary, Settles, Tables, Tells}
-use Rattle.plain.specs.inner.Filling.{grammar_from, SizesOf, Held, Filling, Given, Kept}
+use Rattle.plain.specs.Answers.{of_fault, refusal_number, refusal_count}
+use Rattle.plain.specs.inner.Filling.{Held, Filling, Given, Kept}
 use Rattle.plain.proofs.Standing.{RowOf, row-stretch, place_inside}
 
 -- A row that lies within the first words is a row of these.
@@ -126,9 +131,11 @@ pub done_settles : {g : Grammar} {ts before table : List ℕ} {k : ℕ} → k �
     → Filling g ts table (stretches_up_to (length ts) (length ts)) → Settles g ts before 0 (row_words * k) table
 done_settles {g} {ts} {before} {table} {k} e given kept filled = subst (λ (m : ℕ). Settles g ts before 0 (row_words * m) table) (sym e) (filled_settles given kept filled)
 
--- A refused call says no.
-pub refused-tells : {g : Grammar} {ts : List ℕ} {number : ℕ} → 0 < number → Tells g ts number false
-refused-tells {number = number} some = record { sentence = λ (e : number ≡ 0). absurd (omega arith); refused = λ no_zero. refl }
+-- A fault of the file settles nothing.
+pub refused-table : {file ts before : List ℕ} (fault : Fault) → Verdict file (fault_number fault)
+    → Tables file ts before (refusal_number (of_fault fault)) (refusal_count (of_fault fault)) before
+refused-table Malformed verdict = Tables.malformed (verdict.one refl)
+refused-table Broken verdict = Tables.broken (λ m. omega (arith, verdict.always_one m)) (verdict.two refl)
 
 -- The tokens have one table.
 pub one_table : (g : Grammar) (ts a b : List ℕ) → TableOf g ts a → TableOf g ts b → a ≡ b
@@ -192,18 +199,17 @@ tells_agree {g} {ts} {n} {a} {b} s t = elim (ℕ_discrete n 0) [
     decides c h = record { if_yes = h.0; if_no = λ e d. true_false (sym (h.1 d) ∙ e) }
 
 -- The grammar of a file, decoded.
-module _ {file words : List ℕ} {sizes : Sizes} (numbers : SizesOf file sizes) (rules : HoldsRules file words) where
-  decoded_is : grammar_from words sizes ≡ grammar_of file
+module _ {file : List ℕ} {held : Held.Grammar} (holds : HoldsFile file held) where
+  decoded_is : decoded held ≡ grammar_of file
   decoded_is =
-      read_grammar file sizes.symbols sizes.tokens sizes.rules words
-      (record { symbols = numbers.symbols; tokens = numbers.tokens; rules = numbers.rules }) rules.rules
+      read_grammar file held.symbols held.tokens held.rules.count held.rules.words (record { symbols = holds.symbols; tokens = holds.tokens; rules = holds.count }) holds.words.rules
 
-  pub decoded-accepted : Accepted (grammar_of file) → Accepted (grammar_from words sizes)
+  pub decoded-accepted : Accepted (grammar_of file) → Accepted (decoded held)
   decoded-accepted h = subst⁻¹ Accepted decoded_is h
 
   -- What its grammar settles and tells the file does.
-  pub decoded_answers : {ts before left : List ℕ} {number count : ℕ} {says : Bool} → (Malformed file → ⊥) → Accepted (grammar_of file)
-      → Settles (grammar_from words sizes) ts before number count left × Tells (grammar_from words sizes) ts number says
+  pub decoded_answers : {ts before left : List ℕ} {number count : ℕ} {says : Bool} → (bytes.Malformed file → ⊥) → Accepted (grammar_of file)
+      → Settles (decoded held) ts before number count left × Tells (decoded held) ts number says
       → Tables file ts before number count left × Tells (grammar_of file) ts number says
   decoded_answers {ts} {before} {left} {number} {count} {says} whole accepted both = (
     Tables.accepted whole accepted (subst (λ (g : Grammar). Settles g ts before number count left) decoded_is both.0),
@@ -211,12 +217,12 @@ module _ {file words : List ℕ} {sizes : Sizes} (numbers : SizesOf file sizes) 
   )
 
 -- S, as the words of rule 0 have it.
-module _ (words : List ℕ) (sizes : Sizes) {x : ℕ} (accepted : Accepted (grammar_from words sizes)) (is : x ≡ first_in words 0) where
-  some-rule : 0 < sizes.rules
-  some-rule = omega (arith, accepted.a_rule, in_count words sizes.symbols sizes.tokens sizes.rules)
+module _ (held : Held.Grammar) {x : ℕ} (accepted : Accepted (decoded held)) (is : x ≡ first_in held.rules.words 0) where
+  some-rule : 0 < held.rules.count
+  some-rule = omega (arith, accepted.a_rule, in_count held.rules.words held.symbols held.tokens held.rules.count)
 
-  pub start_is : x ≡ start (grammar_from words sizes)
-  start_is = is ∙ sym (in_first words sizes.symbols sizes.tokens sizes.rules 0 some-rule)
+  pub start_is : x ≡ start (decoded held)
+  start_is = is ∙ sym (in_first held.rules.words held.symbols held.tokens held.rules.count 0 some-rule)
 
   pub start-narrow : x < word_bits * row_words
   start-narrow = omega (arith, start_is, accepted.starts.no_wrapper, accepted.few_symbols)

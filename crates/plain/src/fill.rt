@@ -2,14 +2,15 @@
 ghost use Rattle.std.specs.Prelude.{◌≡◌, ◌+◌, ◌*◌, ◌≤◌, ◌<◌, length};
 ghost use Rattle.laws.specs.Bits.{word_bits};
 ghost use Rattle.laws.specs.Decides.{Decides};
+ghost use Rattle.grammar.specs.inner.Decoded.{decoded};
 ghost use Rattle.plain.specs.Table.{row_words, Stretch, stretches_up_to, place};
 ghost use Rattle.plain.specs.Calls.{Ordinary};
-ghost use Rattle.plain.specs.inner.Filling.{grammar_from, Room, Splits, Fires, Narrow, Seeded, Filling, Given, Kept};
+ghost use Rattle.plain.specs.inner.Filling.{Room, Splits, Fires, Narrow, Seeded, Filling, Given, Kept};
 
-use crate::Sizes;
 use crate::places::{place, stretches_up_to};
 use crate::rows::{WIDTH, clear, has, mark};
-use grammar::rules::{NONE, Rules, first, left, second, wide};
+use grammar::Grammar;
+use grammar::rules::{NONE, Rules};
 
 // Whether some cut of the stretch leaves a first part that holds `b` and a rest that holds `c`.
 fn splits(table: &[u64], n: usize, l: usize, i: usize, b: usize, c: usize) -> bool
@@ -17,10 +18,7 @@ fn splits(table: &[u64], n: usize, l: usize, i: usize, b: usize, c: usize) -> bo
     ensures { Decides result (Splits table.now n l i b c) }
 {
     for k in 1..l {
-        if !has(table, place(n, k, i), b) {
-            continue;
-        }
-        if has(table, place(n, l - k, i + k), c) {
+        if has(table, place(n, k, i), b) && has(table, place(n, l - k, i + k), c) {
             return true;
         }
     }
@@ -29,49 +27,48 @@ fn splits(table: &[u64], n: usize, l: usize, i: usize, b: usize, c: usize) -> bo
 
 // Whether the right side of rule `r` derives the stretch, by what the table holds.
 fn fires(rules: &Rules, r: usize, table: &[u64], n: usize, l: usize, i: usize) -> bool
-    requires { Narrow rules.now r × Room n table.now × Stretch n l i }
-    ensures { Decides result (Fires rules.now table.now n l i r) }
+    requires { Narrow rules.now.words r × Room n table.now × Stretch n l i }
+    ensures { Decides result (Fires rules.now.words table.now n l i r) }
 {
-    let b = first(rules, r);
-    let c = second(rules, r);
+    let b = rules.first(r);
+    let c = rules.second(r);
     if c == NONE {
-        return has(table, place(n, l, i), b);
+        has(table, place(n, l, i), b)
+    } else {
+        splits(table, n, l, i, b, c)
     }
-    splits(table, n, l, i, b, c)
 }
 
 // Settles one stretch. A ::= B stands below every rule of B, so B is settled when A ::= B is met.
-fn fill_row(rules: &Rules, sizes: Sizes, tokens: &[u16], table: &mut [u64], l: usize, i: usize)
-    requires { Given (grammar_from rules.now sizes) tokens.now table.old
+fn fill_row(grammar: &Grammar, tokens: &[u16], table: &mut [u64], l: usize, i: usize)
+    requires { Given (decoded grammar.now) tokens.now table.old
         × Stretch (length tokens.now) l i
-        × Filling (grammar_from rules.now sizes) tokens.now table.old (place (length tokens.now) l i) }
+        × Filling (decoded grammar.now) tokens.now table.old (place (length tokens.now) l i) }
     ensures { Kept (length tokens.now) table.old table.new
-        × Filling (grammar_from rules.now sizes) tokens.now table.new
+        × Filling (decoded grammar.now) tokens.now table.new
         (place (length tokens.now) l i + 1) }
 {
     let n = tokens.len();
     let at = place(n, l, i);
-    for done in 0..sizes.rules {
-        let r = sizes.rules - done - 1;
-        if !fires(rules, r, table, n, l, i) {
-            continue;
+    for r in (0..grammar.rules.count).rev() {
+        if fires(&grammar.rules, r, table, n, l, i) {
+            mark(table, at, grammar.rules.left(r));
         }
-        mark(table, at, left(rules, r));
     }
 }
 
 // Settles every stretch of `l` tokens.
-fn fill_length(rules: &Rules, sizes: Sizes, tokens: &[u16], table: &mut [u64], l: usize)
-    requires { Given (grammar_from rules.now sizes) tokens.now table.old
+fn fill_length(grammar: &Grammar, tokens: &[u16], table: &mut [u64], l: usize)
+    requires { Given (decoded grammar.now) tokens.now table.old
         × (0 < l) × (l ≤ length tokens.now)
-        × Filling (grammar_from rules.now sizes) tokens.now table.old (place (length tokens.now) l 0) }
+        × Filling (decoded grammar.now) tokens.now table.old (place (length tokens.now) l 0) }
     ensures { Kept (length tokens.now) table.old table.new
-        × Filling (grammar_from rules.now sizes) tokens.now table.new
+        × Filling (decoded grammar.now) tokens.now table.new
         (place (length tokens.now) (l + 1) 0) }
 {
     let end = tokens.len() - l + 1;
     for i in 0..end {
-        fill_row(rules, sizes, tokens, table, l, i);
+        fill_row(grammar, tokens, table, l, i);
     }
 }
 
@@ -82,22 +79,22 @@ fn seed(tokens: &[u16], table: &mut [u64])
     ensures { Kept (length tokens.now) table.old table.new
         × Seeded tokens.now table.new (length tokens.now) }
 {
-    for i in 0..tokens.len() {
-        mark(table, i, wide(tokens[i]));
+    for (i, token) in tokens.iter().enumerate() {
+        mark(table, i, usize::from(*token));
     }
 }
 
 // Settles every stretch.
-pub fn fill(rules: &Rules, sizes: Sizes, tokens: &[u16], table: &mut [u64])
-    requires { Given (grammar_from rules.now sizes) tokens.now table.old }
+pub fn fill(grammar: &Grammar, tokens: &[u16], table: &mut [u64])
+    requires { Given (decoded grammar.now) tokens.now table.old }
     ensures { Kept (length tokens.now) table.old table.new
-        × Filling (grammar_from rules.now sizes) tokens.now table.new
+        × Filling (decoded grammar.now) tokens.now table.new
         (stretches_up_to (length tokens.now) (length tokens.now)) }
 {
     let n = tokens.len();
     clear(table, WIDTH * stretches_up_to(n, n));
     seed(tokens, table);
     for l in 0..n {
-        fill_length(rules, sizes, tokens, table, l + 1);
+        fill_length(grammar, tokens, table, l + 1);
     }
 }

@@ -1,4 +1,5 @@
 // The rows of the table: eight words each, symbol s bit s % 64, from the low end, of word s / 64.
+// Crate bits has such rows too. They are written again here, so that this engine shares nothing but `grammar` with the other.
 ghost use Rattle.std.specs.Prelude.{◌≡◌, ◌≤◌, length};
 ghost use Rattle.laws.specs.Bits.{holds, adding, row_of, with_row};
 ghost use Rattle.plain.specs.Table.{row_words};
@@ -32,7 +33,5 @@ pub fn clear(table: &mut [u64], end: usize)
     requires { end ≤ length table.old }
     ensures { Cleared end table.old table.new }
 {
-    for j in 0..end {
-        table[j] = 0;
-    }
+    table[..end].fill(0);
 }

@@ -4,21 +4,9 @@ use Rattle.laws.specs.Bits.{word_bits, Holds, row_of}
 use Rattle.grammar.specs.Rules.{Grammar, none}
 use Rattle.grammar.specs.Accepted.{Accepted, max_rules}
 use Rattle.grammar.specs.Sentences.{Derives}
-use Rattle.grammar.specs.File.{symbols_of, tokens_of, rule_count_of}
-use Rattle.grammar.specs.inner.Decoded.{grammar_in, first_in, second_in}
-use Rattle.plain.specs.declared.Sizes.{Sizes}
+use Rattle.grammar.specs.inner.Decoded.{first_in, second_in}
 use Rattle.plain.specs.Table.{max_tokens, row_words, Stretch, stretch, stretches_up_to, place, needed}
 use Rattle.plain.specs.Calls.{Ordinary}
-
--- The grammar in decoded words.
-abbrev pub grammar_from : List ℕ → Sizes → Grammar
-grammar_from words sizes = grammar_in words sizes.symbols sizes.tokens sizes.rules
-
--- The numbers of a file's grammar.
-pub record SizesOf (file : List ℕ) (sizes : Sizes) : Type 0 where
-  pub symbols : sizes.symbols ≡ symbols_of file
-  pub tokens : sizes.tokens ≡ tokens_of file
-  pub rules : sizes.rules ≡ rule_count_of file
 
 -- The row of a stretch of `n` tokens holds the symbol `x`.
 abbrev pub Held : List ℕ → ℕ → ℕ → ℕ → ℕ → Type 0

@@ -2,12 +2,13 @@
 use Prim.Native.Nat.{◌-◌, ◌≤◌}
 use lib.ListN.{length}
 use Rattle.plain.specs.Table.{stretches_up_to}
-use Rattle.plain.specs.inner.Filling.{grammar_from, Filling, Kept}
+use Rattle.grammar.specs.inner.Decoded.{decoded}
+use Rattle.plain.specs.inner.Filling.{Filling, Kept}
 use Rattle.plain.proofs.fill.fill.Given as goal
 
 abbrev pub invariant-loop-l : goal.invariant-loop-l
 invariant-loop-l l =
-    (l.l ≤ length l.tokens) × Kept (length l.tokens) l.initial.table l.table × Filling (grammar_from l.rules l.sizes) l.tokens l.table (stretches_up_to (length l.tokens) l.l)
+    (l.l ≤ length l.tokens) × Kept (length l.tokens) l.initial.table l.table × Filling (decoded l.grammar) l.tokens l.table (stretches_up_to (length l.tokens) l.l)
 
 abbrev pub decreases-loop-l : goal.decreases-loop-l
 decreases-loop-l l = length l.tokens - l.l

@@ -2,12 +2,13 @@
 use Prim.Native.Nat.{◌-◌, ◌+◌, ◌≤◌}
 use lib.ListN.{length}
 use Rattle.plain.specs.Table.{place}
-use Rattle.plain.specs.inner.Filling.{grammar_from, Filling, Kept}
+use Rattle.grammar.specs.inner.Decoded.{decoded}
+use Rattle.plain.specs.inner.Filling.{Filling, Kept}
 use Rattle.plain.proofs.fill.fill_length.Given as goal
 
 abbrev pub invariant-loop-i : goal.invariant-loop-i
 invariant-loop-i l =
-    (l.i ≤ length l.tokens - l.l + 1) × Kept (length l.tokens) l.initial.table l.table × Filling (grammar_from l.rules l.sizes) l.tokens l.table (place (length l.tokens) l.l l.i)
+    (l.i ≤ length l.tokens - l.l + 1) × Kept (length l.tokens) l.initial.table l.table × Filling (decoded l.grammar) l.tokens l.table (place (length l.tokens) l.l l.i)
 
 abbrev pub decreases-loop-i : goal.decreases-loop-i
 decreases-loop-i l = length l.tokens - l.l + 1 - l.i

@@ -1,11 +1,11 @@
 -- `plain::fill::fill_row` meets its contract. The invariant, `Falling`: the row holds what comes from the rules done.
-use Prim.Native.Nat.{◌-◌}
-use Rattle.plain.specs.inner.Filling.{grammar_from}
+use Rattle.std.proofs.Common.{◌≤◌}
+use Rattle.grammar.specs.inner.Decoded.{decoded}
 use Rattle.plain.proofs.Falling.{Falling}
 use Rattle.plain.proofs.fill.fill_row.Given as goal
 
-abbrev pub invariant-loop-done : goal.invariant-loop-done
-invariant-loop-done l = Falling (grammar_from l.rules l.sizes) l.tokens l.initial.table l.table l.l l.i (l.sizes.rules - l.done)
-
-abbrev pub decreases-loop-done : goal.decreases-loop-done
-decreases-loop-done l = l.done-end - l.done
+abbrev pub invariant-loop-r : goal.invariant-loop-r
+invariant-loop-r l = record {
+  few : l.r ≤ l.grammar.rules.count;
+  falls : Falling (decoded l.grammar) l.tokens l.initial.table l.table l.l l.i l.r;
+}
