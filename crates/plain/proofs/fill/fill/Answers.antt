@@ -24,27 +24,27 @@ seed-requires c =
     (kept-room required.room (kept_cleared cleared), tokens-narrow required, cleared_seeded _ _ _ cleared)
 
 pub loop-l-init : goal.loop-l-init
-loop-l-init c = (omega arith, kept_refl, lengths_start c.seed.ensures.1)
+loop-l-init c = (kept_refl, lengths_start c.seed.ensures.1)
 
 pub fill_length-requires : goal.fill_length-requires
 fill_length-requires c =
     let required = c.requires in
     let looped = c.loop-l in
     let cleared = cleared_table _ c.stretches_up_to.ensures c.clear.ensures in (
-      kept-given required (kept_trans (kept_trans (kept_cleared cleared) c.seed.ensures.0) looped.invariant.1),
+      kept-given required (kept_trans (kept_trans (kept_cleared cleared) c.seed.ensures.0) looped.invariant.0),
       omega arith,
       omega (arith, c.loop-l-test.true),
-      filling_at looped.invariant.2 (length-begins _ _),
+      filling_at looped.invariant.1 (length-begins _ _),
     )
 
 pub loop-l-preserved : goal.loop-l-preserved
 loop-l-preserved c =
     let looped = c.loop-l in
     let filled = c.fill_length in
-    (omega arith, kept_trans looped.invariant.1 filled.ensures.0, filling_at filled.ensures.1 (sym (length-begins _ _)))
+    (kept_trans looped.invariant.0 filled.ensures.0, filling_at filled.ensures.1 (sym (length-begins _ _)))
 
 pub returns : goal.returns
 returns c =
     let looped = c.loop-l in
     let cleared = cleared_table _ c.stretches_up_to.ensures c.clear.ensures in
-    (kept_trans (kept_trans (kept_cleared cleared) c.seed.ensures.0) looped.invariant.1, filling_at looped.invariant.2 (lengths_end _ _ looped.invariant.0 c.loop-l-test.false))
+    (kept_trans (kept_trans (kept_cleared cleared) c.seed.ensures.0) looped.invariant.0, filling_at looped.invariant.1 (lengths_end _ _ (omega arith) c.loop-l-test.false))

@@ -8,7 +8,4 @@ use Rattle.plain.proofs.fill.fill.Given as goal
 
 abbrev pub invariant-loop-l : goal.invariant-loop-l
 invariant-loop-l l =
-    (l.l ≤ length l.tokens) × Kept (length l.tokens) l.initial.table l.table × Filling (decoded l.grammar) l.tokens l.table (stretches_up_to (length l.tokens) l.l)
-
-abbrev pub decreases-loop-l : goal.decreases-loop-l
-decreases-loop-l l = length l.tokens - l.l
+    Kept (length l.tokens) l.initial.table l.table × Filling (decoded l.grammar) l.tokens l.table (stretches_up_to (length l.tokens) l.l)

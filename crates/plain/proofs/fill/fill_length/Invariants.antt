@@ -8,7 +8,4 @@ use Rattle.plain.proofs.fill.fill_length.Given as goal
 
 abbrev pub invariant-loop-i : goal.invariant-loop-i
 invariant-loop-i l =
-    (l.i ≤ length l.tokens - l.l + 1) × Kept (length l.tokens) l.initial.table l.table × Filling (decoded l.grammar) l.tokens l.table (place (length l.tokens) l.l l.i)
-
-abbrev pub decreases-loop-i : goal.decreases-loop-i
-decreases-loop-i l = length l.tokens - l.l + 1 - l.i
+    Kept (length l.tokens) l.initial.table l.table × Filling (decoded l.grammar) l.tokens l.table (place (length l.tokens) l.l l.i)

@@ -5,7 +5,4 @@ use Rattle.plain.specs.inner.Filling.{Seeded, Kept}
 use Rattle.plain.proofs.fill.seed.Given as goal
 
 abbrev pub invariant-loop-i : goal.invariant-loop-i
-invariant-loop-i l = (l.i ≤ length l.tokens) × Kept (length l.tokens) l.initial.table l.table × Seeded l.tokens l.table l.i
-
-abbrev pub decreases-loop-i : goal.decreases-loop-i
-decreases-loop-i l = l.i-end - l.i
+invariant-loop-i l = Kept (length l.tokens) l.initial.table l.table × Seeded l.tokens l.table l.i

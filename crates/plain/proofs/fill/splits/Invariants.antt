@@ -5,6 +5,3 @@ use Rattle.plain.proofs.fill.splits.Given as goal
 
 abbrev pub invariant-loop-k : goal.invariant-loop-k
 invariant-loop-k l = Unsplit l.table l.n l.l l.i l.b l.c l.k
-
-abbrev pub decreases-loop-k : goal.decreases-loop-k
-decreases-loop-k l = l.l - l.k
