@@ -3,10 +3,8 @@ use mathlib.Core.Path.{refl, ◌∙◌}
 use mathlib.Core.List.{List}
 use Prim.Native.Nat.{ℕ}
 use native.Mathlib.Omega.{arith}
-use lib.ListN.{length}
-use Rattle.grammar.specs.Rules.{Grammar}
 use Rattle.plain.specs.Table.{needed}
-use Rattle.plain.specs.inner.Filling.{Room, Cleared, Given, Kept}
+use Rattle.plain.specs.inner.Filling.{Room, Cleared, Kept}
 
 pub kept_refl : {n : ℕ} {table : List ℕ} → Kept n table table
 kept_refl = record { long = refl; behind = λ j l. refl }
@@ -19,6 +17,3 @@ kept_cleared h = record { long = h.long; behind = h.behind }
 
 pub kept-room : {n : ℕ} {a b : List ℕ} → Room n a → Kept n a b → Room n b
 kept-room room h = record { few = room.few; there = omega (arith, room.there, h.long) }
-
-pub kept-given : {g : Grammar} {ts a b : List ℕ} → Given g ts a → Kept (length ts) a b → Given g ts b
-kept-given given h = record { accepted = given.accepted; ordinary = given.ordinary; room = kept-room given.room h }

@@ -6,7 +6,7 @@ use native.Mathlib.Omega.{arith}
 use lib.ListN.{length}
 use Rattle.laws.specs.Bits.{word_bits}
 use Rattle.grammar.specs.Rules.{Grammar}
-use Rattle.plain.specs.Table.{row_words, Stretch, stretches_up_to, place, needed}
+use Rattle.plain.specs.Table.{row_words, stretches_up_to, place, needed}
 use Rattle.plain.specs.Calls.{Ordinary}
 use Rattle.plain.specs.inner.Filling.{Cleared, Seeded, Filling, Given}
 use Rattle.plain.proofs.Standing.{place-next}
@@ -16,25 +16,11 @@ use Rattle.plain.proofs.Seeding.{seeded_filling}
 pub filling_at : {g : Grammar} {ts table : List ℕ} {p q : ℕ} → Filling g ts table p → p ≡ q → Filling g ts table q
 filling_at {g} {ts} {table} h e = subst (λ (k : ℕ). Filling g ts table k) e h
 
--- The first row of a length, ..
-pub length-begins : (n l : ℕ) → stretches_up_to n l ≡ place n (l + 1) 0
-length-begins n l =
-    let e : l ≡ l + 1 - 1 = omega arith in
-    let f : stretches_up_to n l ≡ stretches_up_to n (l + 1 - 1) = ap (stretches_up_to n) e in omega arith
-
--- .. and the one behind its last.
+-- The row behind the last of a length is the first of the next.
 pub length-ends : (n l i : ℕ) → 0 < l → l ≤ n → i ≤ n - l + 1 → n - l + 1 ≤ i → place n l i ≡ place n (l + 1) 0
 length-ends n l i some few up_to_lem last =
     let e : i ≡ n - l + 1 = omega arith in
     ap (λ (j : ℕ). place n l j) e ∙ place-next n l some few
-
--- All lengths are done.
-pub lengths_end : (n l : ℕ) → l ≤ n → n ≤ l → stretches_up_to n l ≡ stretches_up_to n n
-lengths_end n l few last = let e : l ≡ n = omega arith in ap (stretches_up_to n) e
-
--- A stretch of a length.
-pub of_length : {n l i : ℕ} → 0 < l → l ≤ n → i < n - l + 1 → Stretch n l i
-of_length some few less = record { some = some; inside = omega arith }
 
 -- The tokens of an accepted grammar have bits.
 pub tokens-narrow : {g : Grammar} {ts table : List ℕ} → Given g ts table → Ordinary (word_bits * row_words) ts

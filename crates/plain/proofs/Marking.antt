@@ -1,5 +1,5 @@
 -- What a mark changes: one bit.
-use mathlib.Core.Path.{◌≡◌, refl, sym, ap, subst, ◌∙◌}
+use mathlib.Core.Path.{◌≡◌, sym, ap, subst, ◌∙◌}
 use mathlib.Core.Logic.{◌⊎◌, ⊎_elim}
 use mathlib.Core.List.{List}
 use Prim.Native.Nat.{ℕ, ◌+◌, ◌*◌, ◌/◌, ◌%◌, ◌^◌, ◌≤◌, ◌<◌}
@@ -98,24 +98,3 @@ is_marked table k s bit marked e = record {
 
     power : (b : ℕ) → b < word_bits → 1 * 2 ^ b % 2 ^ word_bits < 2 ^ word_bits
     power b l = subst (λ (x : ℕ). x < 2 ^ word_bits) (sym (one_shifted b l)) (pow-lt l)
-
--- Clearing, word by word.
-pub record Clearing (end : ℕ) (before : List ℕ) (j : ℕ) (after : List ℕ) : Type 0 where
-  pub up_to : j ≤ end
-  pub long : length after ≡ length before
-  pub zero : (i : ℕ) → i < j → get_or after i 0 ≡ 0
-  pub behind : (i : ℕ) → j ≤ i → get_or after i 0 ≡ get_or before i 0
-
-pub clearing_starts : (end : ℕ) (before : List ℕ) → Clearing end before 0 before
-clearing_starts end before = record { up_to = omega arith; long = refl; zero = λ i l. absurd (omega arith); behind = λ i l. refl }
-
-pub clearing_next : (end : ℕ) (before : List ℕ) (j : ℕ) (after : List ℕ) → Clearing end before j after → j < end → end ≤ length before → Clearing end before (j + 1) (set after j 0)
-clearing_next end before j after h l room = record {
-  up_to = omega arith;
-  long = length-set after j 0 ∙ h.long;
-  zero = λ i m. elim (ℕ_discrete i j) [
-    | yes e ↦ ap (λ (q : ℕ). get_or (set after j 0) q 0) e ∙ get_or-set_same after j 0 0 (omega (arith, h.long))
-    | no n ↦ get_or-set_other after j i 0 0 n ∙ h.zero i (omega arith)
-  ];
-  behind = λ i m. get_or-set_other after j i 0 0 (λ (e : i ≡ j). omega arith) ∙ h.behind i (omega arith);
-}

@@ -91,10 +91,6 @@ seeding_more {ts} {before} {table} {marked} {k} {s} room ordinary kept h l is e 
     m : Marked table k s marked
     m = is_marked table k s (token-there (kept-room room kept) ordinary l is) marked e
 
--- After the last token all are there.
-pub seeded-all : {ts table : List ℕ} {k : ℕ} → Seeded ts table k → k ≤ length ts → length ts ≤ k → Seeded ts table (length ts)
-seeded-all {ts} {table} {k} h few last = let e : k ≡ length ts = omega arith in subst (λ (j : ℕ). Seeded ts table j) e h
-
 -- Where a stretch has more than one token its row stands behind the tokens.
 long-behind : (n l i : ℕ) → 1 < l → n ≤ place n l i
 unfolding stretches_up_to

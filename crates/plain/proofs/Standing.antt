@@ -2,7 +2,7 @@
 use mathlib.Core.Path.{◌≡◌, ap, ◌∙◌}
 use mathlib.Core.List.{List}
 use Prim.Native.Nat.{ℕ, zero, suc, ◌+◌, ◌-◌, ◌*◌, ◌/◌, ◌≤◌, ◌<◌}
-use native.Mathlib.Nat.{zero-mul, suc-mul, mul-suc, mul-add, mul-one, mul_left_comm, mul-le-mul, mul-le-mul_left}
+use native.Mathlib.Nat.{zero-mul, suc-mul, mul-suc, mul-add, mul-one, mul_left_comm, mul-le-mul}
 use native.Mathlib.Decide.{dec_lt}
 use native.Mathlib.Omega.{arith}
 use lib.ListN.{length}
@@ -21,15 +21,11 @@ module _ (n m : ℕ) (l : m ≤ n) where
   spread : m * (2 * n + 1) ≡ 2 * (m * n) + m
   spread = mul-add m (2 * n) 1 ∙ (let e : m * (2 * n) ≡ 2 * (m * n) = mul_left_comm m 2 n in omega (arith, mul-one m))
 
-  -- The product that the code takes, ..
-  pub square_less : m * m ≤ m * (2 * n + 1)
-  square_less = mul-le-mul_left m (omega arith)
-
-  -- .. that no number is too large for it, ..
+  -- The product that the code takes is small, ..
   pub product_small : n ≤ max_tokens → m * (2 * n + 1) ≤ 64 * 129
   product_small few = mul-le-mul {n₁ = m} {m₁ = 2 * n + 1} {n₂ = 64} {m₂ = 129} (omega arith) (omega arith)
 
-  -- .. and what it comes to.
+  -- .. and this is what it comes to.
   pub formula : (m * (2 * n + 1) - m * m) / 2 ≡ stretches_up_to n m
   formula = omega (arith, twice n m l, spread)
 

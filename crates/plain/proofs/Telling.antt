@@ -1,5 +1,5 @@
 -- From a filled table to what the call tells.
-use mathlib.Core.Path.{◌≡◌, refl, sym, ap, subst, subst⁻¹, ◌∙◌}
+use mathlib.Core.Path.{◌≡◌, refl, sym, ap, subst, ◌∙◌}
 use mathlib.Core.Bool.{Bool, true, false}
 use mathlib.Core.Logic.{◌↔◌}
 use mathlib.Core.List.{List, [], ◌++◌}
@@ -203,9 +203,6 @@ module _ {file : List ℕ} {held : Held.Grammar} (holds : HoldsFile file held) w
   decoded_is : decoded held ≡ grammar_of file
   decoded_is =
       read_grammar file held.symbols held.tokens held.rules.count held.rules.words (record { symbols = holds.symbols; tokens = holds.tokens; rules = holds.count }) holds.words.rules
-
-  pub decoded-accepted : Accepted (grammar_of file) → Accepted (decoded held)
-  decoded-accepted h = subst⁻¹ Accepted decoded_is h
 
   -- What its grammar settles and tells the file does.
   pub decoded_answers : {ts before left : List ℕ} {number count : ℕ} {says : Bool} → (bytes.Malformed file → ⊥) → Accepted (grammar_of file)

@@ -74,19 +74,7 @@ header-there bytes (whole right few) =
       | no h ↦ omega (arith, h)
     ]
 
--- The first bytes of a front.
-pub front-counts : (front behind : List ℕ) (n : ℕ) → n ≤ length front → IsPrefixLen n (front ++ behind)
-front-counts front behind n low =
-    let fits : n ≤ length (front ++ behind) = omega (arith, length-append front behind) in
-    (fits, sym (length-take-le n (front ++ behind) fits))
-
--- A header that is refused was read, and nothing behind it,
-pub read-header : (front behind : List ℕ) (n : ℕ) → length front ≡ header_bytes → n ≤ length front → IsPrefixLen n (front ++ behind) × ReadTo (take n (front ++ behind))
-read-header front behind n long low =
-    let counts = front-counts front behind n low in
-    (counts, ReadTo.header (omega (arith, counts.1)))
-
--- or a header and what it asks for.
+-- A header and what it asks for were read.
 pub read-rest :
     (file part behind : List ℕ) (first more : ℕ) {l : ℕ} → first ≤ header_bytes → header_bytes ≤ length file → Says (take first file) (Ok l)
     → header_bytes + length part ≡ l → more ≤ length part

@@ -1,5 +1,4 @@
 -- `plain::fill::fill` meets its contract. The invariant: the lengths passed are settled.
-use Prim.Native.Nat.{◌-◌, ◌≤◌}
 use lib.ListN.{length}
 use Rattle.plain.specs.Table.{stretches_up_to}
 use Rattle.grammar.specs.inner.Decoded.{decoded}

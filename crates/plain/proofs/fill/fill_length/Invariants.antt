@@ -1,5 +1,4 @@
 -- `plain::fill::fill_length` meets its contract. The invariant: the stretches passed are settled.
-use Prim.Native.Nat.{◌-◌, ◌+◌, ◌≤◌}
 use lib.ListN.{length}
 use Rattle.plain.specs.Table.{place}
 use Rattle.grammar.specs.inner.Decoded.{decoded}

@@ -1,4 +1,3 @@
-use Rattle.std.proofs.Common.{arith}
 use Rattle.plain.proofs.Keeping.{kept-room}
 use Rattle.plain.proofs.Seeding.{token-there, seeding_more}
 use Rattle.plain.proofs.fill.seed.Goals as goal

@@ -1,5 +1,4 @@
 -- `plain::fill::seed` meets its contract. The invariant: the tokens passed stand in their rows, and nothing else does.
-use Prim.Native.Nat.{◌-◌, ◌≤◌}
 use lib.ListN.{length}
 use Rattle.plain.specs.inner.Filling.{Seeded, Kept}
 use Rattle.plain.proofs.fill.seed.Given as goal

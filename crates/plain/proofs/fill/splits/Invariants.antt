@@ -1,5 +1,4 @@
 -- `plain::fill::splits` meets its contract. The invariant: no cut passed is one.
-use Prim.Native.Nat.{◌-◌}
 use Rattle.plain.proofs.Splitting.{Unsplit}
 use Rattle.plain.proofs.fill.splits.Given as goal
 
