@@ -27,7 +27,7 @@ use Rattle.grammar.specs.File.{grammar_of}
 use Rattle.grammar.specs.inner.Decoded.{decoded, first_in, HoldsFile}
 use Rattle.grammar.proofs.Decoding.{in_count, in_first}
 use Rattle.grammar.proofs.Facts.{sentence-some}
-use Rattle.grammar.proofs.Verdicts.{read_grammar}
+use Rattle.grammar.proofs.Verdicts.{holds-grammar}
 use Rattle.grammar.specs.declared.Grammar as Held
 use Rattle.plain.specs.Table.{max_tokens, row_words, Stretch, stretch, stretches_up_to, place, needed, TableOf}
 use Rattle.plain.specs.Calls.{Ordinary, Settles, Tables, Tells}
@@ -198,20 +198,15 @@ tells_agree {g} {ts} {n} {a} {b} s t = elim (ℕ_discrete n 0) [
     decides : (c : Bool) → (c ≡ true) ↔ Sentence g ts → Decides c (Sentence g ts)
     decides c h = record { if_yes = h.0; if_no = λ e d. true_false (sym (h.1 d) ∙ e) }
 
--- The grammar of a file, decoded.
-module _ {file : List ℕ} {held : Held.Grammar} (holds : HoldsFile file held) where
-  decoded_is : decoded held ≡ grammar_of file
-  decoded_is =
-      read_grammar file held.symbols held.tokens held.rules.count held.rules.words (record { symbols = holds.symbols; tokens = holds.tokens; rules = holds.count }) holds.words.rules
-
-  -- What its grammar settles and tells the file does.
-  pub decoded_answers : {ts before left : List ℕ} {number count : ℕ} {says : Bool} → (bytes.Malformed file → ⊥) → Accepted (grammar_of file)
-      → Settles (decoded held) ts before number count left × Tells (decoded held) ts number says
-      → Tables file ts before number count left × Tells (grammar_of file) ts number says
-  decoded_answers {ts} {before} {left} {number} {count} {says} whole accepted both = (
-    Tables.accepted whole accepted (subst (λ (g : Grammar). Settles g ts before number count left) decoded_is both.0),
-    subst (λ (g : Grammar). Tells g ts number says) decoded_is both.1,
-  )
+-- What the grammar of a file settles and tells the file does.
+pub decoded_answers : {file : List ℕ} {held : Held.Grammar} → HoldsFile file held
+    → {ts before left : List ℕ} {number count : ℕ} {says : Bool} → (bytes.Malformed file → ⊥) → Accepted (grammar_of file)
+    → Settles (decoded held) ts before number count left × Tells (decoded held) ts number says
+    → Tables file ts before number count left × Tells (grammar_of file) ts number says
+decoded_answers {file} {held} holds {ts} {before} {left} {number} {count} {says} whole accepted both = (
+  Tables.accepted whole accepted (subst (λ (g : Grammar). Settles g ts before number count left) (holds-grammar file held holds) both.0),
+  subst (λ (g : Grammar). Tells g ts number says) (holds-grammar file held holds) both.1,
+)
 
 -- S, as the words of rule 0 have it.
 module _ (held : Held.Grammar) {x : ℕ} (accepted : Accepted (decoded held)) (is : x ≡ first_in held.rules.words 0) where
