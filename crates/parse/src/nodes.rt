@@ -46,11 +46,14 @@ fn mark_heads(units: &[u16], heads: &mut Heads) -> bool
             at += 1;
             continue;
         }
-        let Ok(Some(found)) = node::read(units, at) else {
-            return false;
-        };
-        mark(heads, at);
-        at = found.1;
+        match node::read(units, at) {
+            Ok(Some(found)) => {
+                mark(heads, at);
+                at = found.1;
+            }
+            Ok(None) => return false,
+            Err(_) => return false,
+        }
     }
     true
 }

@@ -1,10 +1,10 @@
-use mathlib.Core.Path.{◌≡◌, refl, sym, ap, subst, ◌∙◌}
+use mathlib.Core.Path.{◌≡◌, sym, ap, subst, ◌∙◌}
 use Prim.Native.Nat.{ℕ}
 use native.Mathlib.Omega.{arith}
 use Rattle.node.specs.Answers.{Answer, answer, end, done, node, found}
 use Rattle.node.specs.declared.Node.{Node}
 use Rattle.node.specs.declared.NoNode.{NoNode}
-use Rattle.std.specs.Prelude.{Option, Some, None, Result, Ok, Err}
+use Rattle.std.specs.Prelude.{Option, Result, Ok, Err}
 use Rattle.node.proofs.Exact.{read_onward}
 use Rattle.parse.proofs.Marking.{Marking, marking-start, marking-filler, marking-node, marking-ends, marking_fails}
 use Rattle.parse.proofs.nodes.mark_heads.Goals as goal
@@ -24,22 +24,22 @@ loop-at-preserved-then-units-at c =
     let required = c.requires in
     marking-filler _ required.0 _ _ c.loop-at.invariant c.loop-at-test.true c.if-units-at.true
 
-pub returns-in_default : goal.returns-in_default
-returns-in_default c =
+pub returns-in-Ok-None : goal.returns-in-Ok-None
+returns-in-Ok-None c =
     let required = c.requires in
     let looped = c.loop-at in
     let walked = marking_fails _ required.0 looped.at looped.heads looped.invariant c.loop-at-test.true c.if-units-at.false
-    (end_other (c.in_default.ensures tt).answers) in record {
+    (end_other (ap found (sym (c.in-Ok-None.is ∙ ap Ok c.in-Ok-None.field-0-is)) ∙ c.read.ensures.answers)) in record {
       reads = walked.tells;
       marks = walked.marks;
     }
 
-pub returns-in_default-2 : goal.returns-in_default-2
-returns-in_default-2 c =
+pub returns-in-Err : goal.returns-in-Err
+returns-in-Err c =
     let required = c.requires in
     let looped = c.loop-at in
     let walked = marking_fails _ required.0 looped.at looped.heads looped.invariant c.loop-at-test.true c.if-units-at.false
-    (λ n b e. fault_other c.in_default.is n b (c.read.ensures.answers ∙ e)) in record {
+    (λ n b e. fault_other c.in-Err.is n b (c.read.ensures.answers ∙ e)) in record {
       reads = walked.tells;
       marks = walked.marks;
     }
