@@ -18,7 +18,7 @@ use Rattle.parse.specs.declared.State.{State}
 use Rattle.parse.specs.inner.Parts.{Clear}
 use Rattle.parse.specs.Words.{Words, start_of, padded}
 use Rattle.parse.specs.WellFormed.{second_of}
-use Rattle.advance.specs.declared.Advanced.{Advanced}
+use Rattle.std.specs.Prelude.{Option, Some, None}
 use Rattle.advance.specs.NewItems.{items_from, sorted, binary, new_items}
 use Rattle.advance.specs.inner.Order.{All}
 use Rattle.advance.specs.inner.Advances.{Follows, new_of, reach_of, kept_of, has_room, advance_answer, without_new, advance_words, Advances}
@@ -96,11 +96,11 @@ ending-over w from base is js l fits =
 
 -- What the steps answer and leave, where there is room and where there is none.
 module _ (rs : List Rule) (table : List (List ℕ)) (s : State) (v : Words) (to : ℕ) where
-  pub answer_done : has_room rs s v to ≡ true → advance_answer rs s v to ≡ Advanced.Done (next_state s.used (kept_of rs s v to) v (new_of rs s v to))
+  pub answer_done : has_room rs s v to ≡ true → advance_answer rs s v to ≡ Some (next_state s.used (kept_of rs s v to) v (new_of rs s v to))
   unfolding advance_answer
   answer_done e = rw (advance_answer, e) refl
 
-  pub answer-refused : has_room rs s v to ≡ false → advance_answer rs s v to ≡ Advanced.Refused
+  pub answer-refused : has_room rs s v to ≡ false → advance_answer rs s v to ≡ None
   unfolding advance_answer
   answer-refused e = rw (advance_answer, e) refl
 
@@ -141,7 +141,7 @@ module _ (rules : List ℕ) (count : ℕ) (table : List (List ℕ)) (s : State) 
         ap₂ item_at are at ∙ ending_at v.items s.items new room (p - s.items) (omega (arith, end_is))
 
     pub clear : Clear items₁ (item_words * end)
-    clear = record { zero = λ i l. ap (λ (x : List ℕ). get_or x i 0) are ∙ ending-behind v.items s.items new room i (omega (arith, end_is)) }
+    clear = record { each = λ i l. ap (λ (x : List ℕ). get_or x i 0) are ∙ ending-behind v.items s.items new room i (omega (arith, end_is)) }
 
     -- What the greatest origin asks.
     pub reach_asks : (s.items ≤ end) × (item_words * end ≤ length items₁)
@@ -167,7 +167,7 @@ module _ (rules : List ℕ) (count : ℕ) (table : List (List ℕ)) (s : State) 
 
         -- Where there is no room the new items are cleared.
         pub refuses : length v.rows / row_words ≤ kept + 1 → {items₂ : List ℕ} → items₂ ≡ padded (length items₁) (take (item_words * s.items) items₁)
-            → Advances rs table s v to Advanced.Refused (record { items = items₂; starts = v.starts; rows = v.rows; queue = []; store = [] })
+            → Advances rs table s v to None (record { items = items₂; starts = v.starts; rows = v.rows; queue = []; store = [] })
         unfolding records.flat
         refuses l q = record {
           answer_is = sym (answer-refused rs table s v to full);
@@ -221,9 +221,9 @@ module _ (rules : List ℕ) (count : ℕ) (table : List (List ℕ)) (s : State) 
         pub advances : kept + 1 < length v.rows / row_words → {t : State} {v' : Words}
             → Follows s.used s.set m (record { items = items₁; starts = v.starts; rows = v.rows; queue = []; store = [] }) (items_from items₁ s.items (end - s.items))
             (predictions rs table (items_from items₁ s.items (end - s.items))) t v'
-            → Advances rs table s v to (Advanced.Done t) v'
+            → Advances rs table s v to (Some t) v'
         advances l f = record {
-          answer_is = ap Advanced.Done (f.state_is ∙ state) ∙ sym (answer_done rs table s v to some);
+          answer_is = ap Some (f.state_is ∙ state) ∙ sym (answer_done rs table s v to some);
           items_are = f.items_are ∙ items ∙ sym (ap (λ (x : Words). x.items) (words_done rs table s v to some));
           starts_are = f.starts_are ∙ starts ∙ sym (ap (λ (x : Words). x.starts) (words_done rs table s v to some));
           rows_are = f.rows_are ∙ rows ∙ sym (ap (λ (x : Words). x.rows) (words_done rs table s v to some));

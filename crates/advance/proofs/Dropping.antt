@@ -95,9 +95,8 @@ module _ (rs : List Rule) (w : List ℕ) (from to : ℕ) where
 
 -- The second that the code reads of the item at a place.
 pub second-read : (rules : List ℕ) (count : ℕ) (w : List ℕ) (from to p : ℕ) → Stored count w from to → from ≤ p → p < to
-    → (word r s : ℕ) → word ≡ rule_at w p → r ≡ word → s ≡ second_in rules r → second_of (rules_in rules count) (item_at w p) ≡ s
-second-read rules count w from to p held a b word r s e f g =
-    second_in_lem rules count (item_at w p) (held.rules p a b) ∙ sym (g ∙ ap (second_in rules) (f ∙ e))
+    → (word s : ℕ) → word ≡ rule_at w p → s ≡ second_in rules word → second_of (rules_in rules count) (item_at w p) ≡ s
+second-read rules count w from to p held a b word s e g = second_in_lem rules count (item_at w p) (held.rules p a b) ∙ sym (g ∙ ap (second_in rules) e)
 
 -- Cut behind `end`, and 0 from there on.
 pub cut-ending : (w : List ℕ) (from end : ℕ) (is : List Item) → from ≤ end → item_words * end ≤ length w → is ≡ items_from w from (end - from)
@@ -146,7 +145,7 @@ module _ (rs : List Rule) (count : ℕ) (w : List ℕ) (from to : ℕ) (held : S
       subst (λ (x : List ℕ). Stored count x from to × NeverFalls rs (items_from x from (to - from)) × Clear x (item_words * to)) (sym e) (
         sorted-held,
         subst (NeverFalls rs) (sym sorted-items) (sorted-never_falls rs is),
-        record { zero = λ i l. placed_above w from to (sorted rs is) held.runs held.there long i l ∙ c.zero i l },
+        record { each = λ i l. placed_above w from to (sorted rs is) held.runs held.there long i l ∙ c.each i l },
       )
 
   -- Then the new items are those of step 4 ..

@@ -78,10 +78,10 @@ module _ (rules : List ℕ) (count : ℕ) (table : List (List ℕ)) (w rows₀ :
       pub predicting_length : length rows ≡ length rows₀
       predicting_length = ap length s.are ∙ with_row-length row_words rows₀ k h.row_there (union_from p) s.wide
 
-      module _ (l : from < p) (word r symbol : ℕ) (e : word ≡ rule_at w (p - 1)) (f : r ≡ word) (g : symbol ≡ second_in rules r) where
+      module _ (l : from < p) (word symbol : ℕ) (e : word ≡ rule_at w (p - 1)) (g : symbol ≡ second_in rules word) where
         -- The second of the item before it has a row.
         pub predicting_symbol : symbol < max_symbols
-        predicting_symbol = omega (arith, h.seconds (p - 1) (omega arith) (omega (arith, s.below)), g ∙ ap (second_in rules) (f ∙ e))
+        predicting_symbol = omega (arith, h.seconds (p - 1) (omega arith) (omega (arith, s.below)), g ∙ ap (second_in rules) e)
 
         pub predicting_wide : length (get_or table symbol []) ≡ row_words
         predicting_wide = (h.shape.row symbol predicting_symbol).width_is
@@ -102,7 +102,7 @@ module _ (rules : List ℕ) (count : ℕ) (table : List (List ℕ)) (w rows₀ :
         }
           where
             second : second_of rs (item_at w (p - 1)) ≡ symbol
-            second = second-read rules count w from to (p - 1) h.held (omega arith) (omega (arith, s.below)) word r symbol e f g
+            second = second-read rules count w from to (p - 1) h.held (omega arith) (omega (arith, s.below)) word symbol e g
 
             more : union (union_from p) (get_or table symbol []) ≡ union_from (p - 1)
             more =

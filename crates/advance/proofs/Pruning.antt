@@ -31,12 +31,12 @@ module _ (w : List ℕ) (from to : ℕ) where
   unfolding highest
   reaching-start l = record { above = l; below = omega arith; is = sym (ap highest (items_none w to (to - to) (omega arith))) }
 
-  pub reaching-next : (p m : ℕ) → Reaching p m → from < p → {r : ℕ} → r ≡ max (item_at w (p - 1)).origin m → Reaching (p - 1) r
+  pub reaching-next : (p m : ℕ) → Reaching p m → from < p → {r : ℕ} → r ≡ max m (item_at w (p - 1)).origin → Reaching (p - 1) r
   unfolding highest
   reaching-next p m s l e = record {
     above = omega arith;
     below = omega (arith, s.below);
-    is = e ∙ ap (max (item_at w (p - 1)).origin) s.is ∙ sym (ap highest (items_down w p to (omega arith) s.below));
+    is = omega (arith, e, s.is, ap highest (items_down w p to (omega arith) s.below));
   }
 
   pub reaching-ends : (e p m : ℕ) → Reaching p m → p ≤ from → (from ≡ to → ⊥) → m ≡ greatest_origin e (items_from w from (to - from))
@@ -121,7 +121,7 @@ module _ (w : List ℕ) (from to base : ℕ) (low : base ≤ from) (runs : from 
         one = omega arith
 
     pub moving_clear : Clear w (item_words * to) → Clear words (item_words * to)
-    moving_clear c = record { zero = λ i l. behind i (omega (arith, s.few)) ∙ c.zero i l }
+    moving_clear c = record { each = λ i l. behind i (omega (arith, s.few)) ∙ c.each i l }
 
     pub moving_ends : to - from ≤ q → {words' : List ℕ} → words' ≡ padded (length words) (take (item_words * (base + (to - from))) words)
         → words' ≡ ending w base (items_from w from (to - from))

@@ -22,7 +22,7 @@ use Rattle.parse.specs.inner.Parts.{Clear}
 use Rattle.parse.specs.Words.{Words, max_items, max_sets, padded}
 use Rattle.parse.specs.Heads.{Meets}
 use Rattle.parse.specs.WellFormed.{second_of, used_units, WellFormed}
-use Rattle.advance.specs.declared.Advanced.{Advanced}
+use Rattle.std.specs.Prelude.{Option}
 use Rattle.advance.specs.NewItems.{items_from, sorted, binary}
 use Rattle.advance.specs.inner.Order.{All, Stored}
 use Rattle.advance.specs.inner.Advances.{lent, new_of, reach_of, kept_of, has_room, advance_answer, without_new, advance_words, Advances}
@@ -64,8 +64,8 @@ ready n rules count table s v to w fit held room origins c seconds shape = recor
   room = room;
   origins = origins;
   spare_items = c;
-  spare_starts = record { zero = w.spare_starts };
-  spare_rows = record { zero = w.spare_rows };
+  spare_starts = record { each = w.spare_starts };
+  spare_rows = record { each = w.spare_rows };
   seconds = seconds;
   shape = shape;
 }
@@ -109,7 +109,7 @@ module _ (rules : List ℕ) (count : ℕ) (table : List (List ℕ)) (s : State) 
     shape = h.shape;
   }
 
-  pub advances_whole : (r : Advanced) (items starts rows : List ℕ) → Clear v.queue 0
+  pub advances_whole : (r : Option State) (items starts rows : List ℕ) → Clear v.queue 0
       → Advances (rules_in rules count) table s part to r (lent items starts rows)
       → (r ≡ advance_answer (rules_in rules count) s v to)
       × (◌≡◌ {A = Words} (record { items = items; starts = starts; rows = rows; queue = v.queue; store = v.store }) (advance_words (rules_in rules count) table s v to))

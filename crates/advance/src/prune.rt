@@ -1,5 +1,5 @@
 // Step 5: sets that nothing can reach are dropped.
-ghost use Rattle.std.specs.Prelude.{◌≡◌, ◌+◌, ◌-◌, ◌*◌, ◌≤◌, max, length};
+ghost use Rattle.std.specs.Prelude.{◌≡◌, ◌+◌, ◌-◌, ◌*◌, ◌≤◌, length};
 ghost use Rattle.item.specs.Item.{item_words, HasPlace, item_at, stored};
 ghost use Rattle.parse.specs.inner.Parts.{Clear};
 ghost use Rattle.advance.specs.NewItems.{items_from};
@@ -8,17 +8,9 @@ ghost use Rattle.advance.specs.Advance.{greatest_origin, last_kept, ending};
 ghost use Rattle.advance.specs.inner.Ready.{Prunable};
 
 use bits::WIDTH;
-use item::{ITEM_WORDS, wide};
-use parse::words::{clear, clear_rows};
-
-fn larger(a: usize, b: usize) -> usize
-    ensures { result ≡ max a b }
-{
-    if a < b {
-        return b;
-    }
-    a
-}
+use item::ITEM_WORDS;
+use parse::State;
+use parse::padding::clear;
 
 // m: the greatest origin of the items at the places from `from` up to and without `to`, or `e` if there are none.
 pub fn greatest_origin(items: &[u32], from: usize, to: usize, e: usize) -> usize
@@ -29,10 +21,8 @@ pub fn greatest_origin(items: &[u32], from: usize, to: usize, e: usize) -> usize
         return e;
     }
     let mut m = 0;
-    let mut p = to;
-    while p > from {
-        p -= 1;
-        m = larger(wide(item::origin(items, p)), m);
+    for p in (from..to).rev() {
+        m = m.max(item::origin(items, p) as usize);
     }
     m
 }
@@ -42,10 +32,7 @@ pub fn last_kept(e: usize, m: usize) -> usize
     requires { m ≤ e }
     ensures { result ≡ last_kept e m }
 {
-    if e - m > 1 {
-        return m + 1;
-    }
-    e
+    if e - m > 1 { m + 1 } else { e }
 }
 
 // Copies the item at place `p` to place `q`.
@@ -53,10 +40,8 @@ fn copy(items: &mut [u32], p: usize, q: usize)
     requires { HasPlace items.old p × HasPlace items.old q }
     ensures { items.new ≡ stored items.old q (item_at items.old p) }
 {
-    let origin = item::origin(items, p);
-    let rule = item::rule(items, p);
-    let handle = item::handle(items, p);
-    item::write(items, q, origin, rule, handle);
+    let item = item::read(items, p);
+    item::write(items, q, item);
 }
 
 // Moves the items at the places from `from` up to and without `to` down to the place `base`. The words behind them are 0 then.
@@ -73,28 +58,29 @@ fn move_items(items: &mut [u32], from: usize, to: usize, base: usize)
     clear(items, ITEM_WORDS * (base + count), ITEM_WORDS * to);
 }
 
-// Keeps the sets 0..m+1, or all, with the new items, at the places from `from` up to and without `to`, behind them. Answers where those stand.
+// Keeps the sets 0..m+1, or all, with the new items, at the places from the state's items up to and without `to`, behind them. Answers where
+// those stand.
 pub fn remove_unreachable_sets(
-    e: usize,
+    state: State,
     items: &mut [u32],
     starts: &mut [u32],
     rows: &mut [u64],
-    from: usize,
     to: usize,
     m: usize,
 ) -> usize
-    requires { Prunable e items.old starts.old rows.old from to m }
-    ensures { Pruned e m items.old starts.old rows.old
-        (items_from items.old from (to - from)) result items.new starts.new
+    requires { Prunable state.set items.old starts.old rows.old state.items to m }
+    ensures { Pruned state.set m items.old starts.old rows.old
+        (items_from items.old state.items (to - state.items)) result items.new starts.new
         rows.new }
 {
+    let e = state.set;
     if e - m <= 1 {
-        return from;
+        return state.items;
     }
     // The items of set m+1 end at start m+2. Its row is cleared with those behind it.
-    let base = wide(starts[m + 2]);
-    move_items(items, from, to, base);
+    let base = starts[m + 2] as usize;
+    move_items(items, state.items, to, base);
     clear(starts, m + 3, e + 2);
-    clear_rows(rows, WIDTH * (m + 1), WIDTH * (e + 1));
+    clear(rows, WIDTH * (m + 1), WIDTH * (e + 1));
     base
 }

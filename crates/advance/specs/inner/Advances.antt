@@ -1,11 +1,10 @@
 -- What the functions of steps 4 to 6 give, of the words that they are lent.
-use Rattle.std.specs.Prelude.{◌≡◌, Bool, true, false, List, [], ℕ, ◌+◌, ◌/◌, length, get_or, take, ltb}
+use Rattle.std.specs.Prelude.{◌≡◌, Bool, true, false, Option, Some, None, List, [], ℕ, ◌+◌, ◌/◌, length, get_or, take, ltb}
 use Rattle.bits.specs.Width.{row_words}
 use Rattle.item.specs.Item.{Item}
 use Rattle.grammar.specs.Rules.{Rule}
 use Rattle.parse.specs.declared.State.{State}
 use Rattle.parse.specs.Words.{Words, padded}
-use Rattle.advance.specs.declared.Advanced.{Advanced}
 use Rattle.advance.specs.NewItems.{new_items}
 use Rattle.advance.specs.Advance.{greatest_origin, last_kept, kept_rows, predictions, ending, next_state, next_words}
 
@@ -41,9 +40,9 @@ kept_of rs s v to = last_kept s.set (reach_of rs s v to)
 abbrev pub has_room : List Rule → State → Words → ℕ → Bool
 has_room rs s v to = ltb (kept_of rs s v to + 1) (length v.rows / row_words)
 
-unfoldable pub advance_answer : List Rule → State → Words → ℕ → Advanced
+unfoldable pub advance_answer : List Rule → State → Words → ℕ → Option State
 advance_answer rs s v to =
-    elim (has_room rs s v to) [ true ↦ Advanced.Done (next_state s.used (kept_of rs s v to) v (new_of rs s v to)) | false ↦ Advanced.Refused ]
+    elim (has_room rs s v to) [ true ↦ Some (next_state s.used (kept_of rs s v to) v (new_of rs s v to)) | false ↦ None ]
 
 -- The words of the sets 0..e alone.
 abbrev pub without_new : State → Words → Words
@@ -56,7 +55,7 @@ advance_words rs table s v to =
       | false ↦ without_new s v
     ]
 
-pub record Advances (rs : List Rule) (table : List (List ℕ)) (s : State) (v : Words) (to : ℕ) (r : Advanced) (v' : Words) : Type 0 where
+pub record Advances (rs : List Rule) (table : List (List ℕ)) (s : State) (v : Words) (to : ℕ) (r : Option State) (v' : Words) : Type 0 where
   pub answer_is : r ≡ advance_answer rs s v to
   pub items_are : v'.items ≡ (advance_words rs table s v to).items
   pub starts_are : v'.starts ≡ (advance_words rs table s v to).starts

@@ -15,7 +15,6 @@ second-symbol-requires c =
     let looped = c.loop-p in
     omega (
       arith,
-      c.wide.ensures,
       c.rule.ensures,
       required.held.rules (looped.p - 1) (omega arith) (omega (arith, looped.invariant.below)),
       required.held.few,
@@ -25,8 +24,8 @@ pub bounds-table-symbol : goal.bounds-table-symbol
 bounds-table-symbol c =
     let required = c.requires in
     predicting_symbol _ _ _ _ _ _ _ _ required _ _
-    c.loop-p.invariant c.loop-p-test.true _ _ _
-    c.rule.ensures c.wide.ensures c.second-symbol.ensures.0
+    c.loop-p.invariant c.loop-p-test.true _ _
+    c.rule.ensures c.second-symbol.ensures.0
 
 pub join_at-requires : goal.join_at-requires
 join_at-requires c =
@@ -38,8 +37,8 @@ join_at-requires c =
         required.row_there,
       ),
       predicting_wide _ _ _ _ _ _ _ _ required _ _
-          looped.invariant c.loop-p-test.true _ _ _
-          c.rule.ensures c.wide.ensures c.second-symbol.ensures.0,
+          looped.invariant c.loop-p-test.true _ _
+          c.rule.ensures c.second-symbol.ensures.0,
     )
 
 pub loop-p-preserved : goal.loop-p-preserved
@@ -48,9 +47,8 @@ loop-p-preserved c =
     let looped = c.loop-p in
     let entered = c.loop-p-test in
     let rule-read = c.rule in
-    let rule-widened = c.wide in
-    predicting_next _ _ _ _ _ _ _ _ required _ _ looped.invariant entered.true _ _ _
-    rule-read.ensures rule-widened.ensures
+    predicting_next _ _ _ _ _ _ _ _ required _ _ looped.invariant entered.true _ _
+    rule-read.ensures
     c.second-symbol.ensures.0 c.join_at.ensures
 
 pub returns : goal.returns

@@ -3,7 +3,4 @@ use Rattle.advance.proofs.Predicting.{Predicting}
 use Rattle.advance.proofs.predict.prediction_pass.Given as goal
 
 abbrev pub invariant-loop-p : goal.invariant-loop-p
-invariant-loop-p l = Predicting l.rules l.count l.table l.items l.initial.rows l.from l.to l.k l.p l.rows
-
-abbrev pub decreases-loop-p : goal.decreases-loop-p
-decreases-loop-p l = l.p
+invariant-loop-p l = Predicting l.rules.words l.rules.count l.table l.items l.initial.rows l.from l.to l.k l.p l.rows

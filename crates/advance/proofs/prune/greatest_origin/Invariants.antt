@@ -4,6 +4,3 @@ use Rattle.advance.proofs.prune.greatest_origin.Given as goal
 
 abbrev pub invariant-loop-p : goal.invariant-loop-p
 invariant-loop-p l = Reaching l.items l.from l.to l.p l.m
-
-abbrev pub decreases-loop-p : goal.decreases-loop-p
-decreases-loop-p l = l.p

@@ -5,6 +5,3 @@ use Rattle.advance.proofs.prune.move_items.Given as goal
 
 abbrev pub invariant-loop-q : goal.invariant-loop-q
 invariant-loop-q l = Moving l.initial.items l.from l.to l.base l.q l.items
-
-abbrev pub decreases-loop-q : goal.decreases-loop-q
-decreases-loop-q l = l.count - l.q
