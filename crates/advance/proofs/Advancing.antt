@@ -18,7 +18,7 @@ use Rattle.parse.specs.declared.State.{State}
 use Rattle.parse.specs.inner.Parts.{Clear}
 use Rattle.parse.specs.Words.{Words, start_of, padded}
 use Rattle.parse.specs.WellFormed.{second_of}
-use Rattle.std.specs.Prelude.{Option, Some, None}
+use Rattle.std.specs.Prelude.{Some, None}
 use Rattle.advance.specs.NewItems.{items_from, sorted, binary, new_items}
 use Rattle.advance.specs.inner.Order.{All}
 use Rattle.advance.specs.inner.Advances.{Follows, new_of, reach_of, kept_of, has_room, advance_answer, without_new, advance_words, Advances}

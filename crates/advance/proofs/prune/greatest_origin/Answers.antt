@@ -1,4 +1,4 @@
-use Rattle.std.proofs.Common.{◌≡◌, ℕ, max, ap, ◌∙◌, arith, rules}
+use Rattle.std.proofs.Common.{◌≡◌, ℕ, max, ap, ◌∙◌, rules}
 use Rattle.std.specs.Ordering.{ord_max, nat_cmp}
 use Rattle.advance.proofs.Pruning.{reaching-start, reaching-next, reaching-ends, reaching_none}
 use Rattle.advance.proofs.prune.greatest_origin.Goals as goal

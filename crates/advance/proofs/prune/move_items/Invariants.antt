@@ -1,5 +1,4 @@
 -- `advance::prune::move_items` meets its contract. The invariant: the first `q` items are copied.
-use Prim.Native.Nat.{◌-◌}
 use Rattle.advance.proofs.Pruning.{Moving}
 use Rattle.advance.proofs.prune.move_items.Given as goal
 
