@@ -2,6 +2,8 @@
 pub mod Pushes
 pub mod Overlaid
 pub mod Soundness
+pub mod Stopping
+pub mod Keeping
 pub mod Waiting
 pub mod Searching
 pub mod Pairs

@@ -87,24 +87,24 @@ module _ (s : Pass) where
       absurd (omega arith)
 
   -- A push that the queue refused, and one that it took.
-  pub queue-refused : (place right capacity : ℕ) (queue : List Entry) → capacity ≡ length s.queue → s.at.stopped ≡ 0 → push_answer capacity s.at.queued ≡ Full
+  pub queue-refused : (place right capacity : ℕ) (queue : List Entry) → capacity ≡ length s.queue → push_answer capacity s.at.queued ≡ Full
       → queue ≡ push_queue (entry_key s.items) capacity s.queue s.at.queued (record { place = place; right = right })
-      → pass_with (record { stopped = queue_full; items = s.at.items; queued = s.at.queued; used = s.at.used }) s.items queue s.units ≡ and_then s (enqueue place right)
+      → pass_with (record { stopped = queue_full; items = s.at.items; queued = s.at.queued; used = s.at.used }) s.items queue s.units ≡ enqueue place right s
   unfolding push_queue
-  queue-refused place right capacity queue room on full pushed =
+  queue-refused place right capacity queue room full pushed =
       let no_room : length s.queue ≤ s.at.queued = full-answer (ltb s.at.queued (length s.queue)) refl (subst (λ (c : ℕ). push_answer c s.at.queued ≡ Full) room full) in
       let same : queue ≡ s.queue = pushed ∙ rw (push_queue, le-ltb s.at.queued capacity (omega arith)) refl in
       ap (λ (w : List Entry). pass_with (record { stopped = queue_full; items = s.at.items; queued = s.at.queued; used = s.at.used }) s.items w s.units) same
-      ∙ sym (goes_on (enqueue place right) on ∙ enqueue-refused place right no_room)
+      ∙ sym (enqueue-refused place right no_room)
 
-  pub queue_took : (place right capacity n : ℕ) (queue : List Entry) → capacity ≡ length s.queue → s.at.stopped ≡ 0 → push_answer capacity s.at.queued ≡ Count n
+  pub queue_took : (place right capacity n : ℕ) (queue : List Entry) → capacity ≡ length s.queue → push_answer capacity s.at.queued ≡ Count n
       → queue ≡ push_queue (entry_key s.items) capacity s.queue s.at.queued (record { place = place; right = right })
-      → pass_with (record { stopped = 0; items = s.at.items; queued = n; used = s.at.used }) s.items queue s.units ≡ and_then s (enqueue place right)
-  queue_took place right capacity n queue room on count pushed =
+      → pass_with (record { stopped = 0; items = s.at.items; queued = n; used = s.at.used }) s.items queue s.units ≡ enqueue place right s
+  queue_took place right capacity n queue room count pushed =
       let told = count-answer n (ltb s.at.queued (length s.queue)) refl (subst (λ (c : ℕ). push_answer c s.at.queued ≡ Count n) room count) in
       let into = pushed ∙ ap (λ (c : ℕ). push_queue (entry_key s.items) c s.queue s.at.queued (record { place = place; right = right })) room in
       ap₂ (λ (m : ℕ) (w : List Entry). pass_with (record { stopped = 0; items = s.at.items; queued = m; used = s.at.used }) s.items w s.units) told.1 into
-      ∙ sym (goes_on (enqueue place right) on ∙ enqueue_done place right told.0)
+      ∙ sym (enqueue_done place right told.0)
 
   -- A node is not written where something was refused before.
   pub append-stopped : (n : Node) → (s.at.stopped ≡ 0 → ⊥) → append n s ≡ s

@@ -106,6 +106,11 @@ module _ (rs : List Rule) (x link : ℕ) where
 abbrev pub queueing : ℕ → ℕ → ℕ → Pass → Pass
 queueing link first i s = and_then s (enqueue (first + i) link)
 
+-- A turn is one place more, in a pass that nothing stopped.
+pub queueing_step : (link first i place : ℕ) (s last : Pass) → s.at.stopped ≡ 0 → place ≡ first + i → last ≡ enqueue place link s → last ≡ queueing link first i s
+queueing_step link first i place s last going is step =
+    step ∙ ap (λ (p : ℕ). enqueue p link s) is ∙ sym (goes_on s (enqueue (first + i) link) going)
+
 module _ (rs : List Rule) (starts : List ℕ) (k x link first number : ℕ) (s : Pass)
     (found : Found rs s.items (get_or starts k 0) (get_or starts (k + 1) 0) x first number) where
   Same : Pass → Type 0

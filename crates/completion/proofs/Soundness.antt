@@ -15,7 +15,7 @@ use Rattle.binary_heap.specs.Sift.{entry_at}
 use Rattle.binary_heap.specs.Heap.{pushed}
 use Rattle.binary_heap.specs.Queue.{Places, push_queue}
 use Rattle.binary_heap.proofs.PushLaws.{pushed-length, pushed_every}
-use Rattle.completion.specs.declared.Progress.{Progress}
+use Rattle.completion.specs.Pass.{Progress}
 use Rattle.completion.specs.Pass.{Pass, pass_with, refused, and_then, store, enqueue}
 use Rattle.completion.specs.inner.Ready.{PassFits}
 use Rattle.completion.proofs.Pushes.{store_done, store-refused, enqueue_done, enqueue-refused, goes_on, stays}

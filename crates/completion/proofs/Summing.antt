@@ -24,6 +24,7 @@ use Rattle.parse.specs.WellFormed.{left_of}
 use Rattle.completion.specs.Pass.{Pass, pass_with}
 use Rattle.completion.specs.inner.Ready.{PassFits, RulesRead}
 use Rattle.completion.specs.Complete.{complete}
+use Rattle.completion.proofs.Pushes.{append-stopped}
 use Rattle.completion.proofs.Entries.{append-count, append-items, append_queued}
 use Rattle.completion.specs.Sums.{greatest, is_of, product_node, sum_ends, pop_greatest, next_summand, summed, complete_sum}
 
@@ -62,6 +63,16 @@ unfolding pop_greatest
 popped_entry s place right left queue answer popped =
     ap₂ (λ (m : ℕ) (w : List Entry). pass_with (record { stopped = s.at.stopped; items = s.at.items; queued = m; used = s.at.used }) s.items w s.units)
     (pop_entry_tells s.queue s.at.queued place right left answer).3 popped
+
+-- In a pass that was refused that is all: its Product is not written.
+pub next_stopped : (s : Pass) (n place right left : ℕ) (queue : List Entry) → n ≡ s.at.stopped → (n ≡ 0 → ⊥) → pop_answer s.queue s.at.queued ≡ pops.Entry place right left
+    → queue ≡ pop_queue (entry_key s.items) s.queue s.at.queued
+    → pass_with (record { stopped = n; items = s.at.items; queued = left; used = s.at.used }) s.items queue s.units ≡ next_summand s
+unfolding next_summand pop_greatest
+next_stopped s n place right left queue is stopped answer popped =
+    ap (λ (m : ℕ). pass_with (record { stopped = m; items = s.at.items; queued = left; used = s.at.used }) s.items queue s.units) is
+    ∙ popped_entry s place right left queue answer popped
+    ∙ sym (append-stopped (pop_greatest s) (product_node s.items (entry_at s.queue 0)) (λ e. stopped (is ∙ e)))
 
 -- A summand is an entry fewer, and leaves the items.
 pub next_queued : (s : Pass) → (next_summand s).at.queued ≡ s.at.queued - 1

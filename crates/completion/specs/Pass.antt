@@ -7,7 +7,14 @@ use Rattle.binary_heap.specs.Queue.{push_queue}
 use Rattle.node.specs.Answers.{Values, nothing, position, node, end, nodes, values_of}
 use Rattle.node.specs.Writing.{write_at}
 use Rattle.node.specs.declared.Node.{Node}
-use Rattle.completion.specs.declared.Progress.{Progress}
+
+-- How far a pass has come: the refusal that it met, or 0; the items stored so far, those of the sets included; the entries of the queue; the
+-- used units of the store.
+pub record Progress : Type 0 where
+  pub stopped : ℕ
+  pub items : ℕ
+  pub queued : ℕ
+  pub used : ℕ
 
 pub record Pass : Type 0 where
   pub at : Progress

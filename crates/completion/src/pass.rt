@@ -1,105 +1,83 @@
-// The pushes and writes of a completion pass, each refused where there is no place.
-ghost use Rattle.std.specs.Prelude.{◌≡◌, List, ℕ, ◌<◌, ◌^◌};
-ghost use Rattle.binary_heap.specs.Entry.{Entry};
-ghost use Rattle.completion.specs.Pass.{pass_with, pass_of, and_then, store, enqueue, append};
+// A completion pass: its pushes and writes, each refused where there is no place.
+ghost use Rattle.std.specs.Prelude.{◌≡◌, ◌<◌, ◌^◌};
+ghost use Rattle.completion.specs.Pass.{store, enqueue, append};
+ghost use Rattle.completion.specs.Lent.{pass_in, after, Kept};
 ghost use Rattle.completion.specs.inner.Ready.{PassFits};
 
-use crate::Progress;
 use binary_heap::Pushed;
 use binary_heap::entry::ENTRY_WORDS;
+use grammar::rules::Rules;
 use node::{Node, Written};
 
 // The refusals: no place for an item, no place in the queue, no place for a node.
-pub const ITEMS_FULL: u32 = 7;
-
-pub const QUEUE_FULL: u32 = 8;
-
-pub const STORE_FULL: u32 = 14;
-
-// Stores an item behind the others, with the handle of its first symbol's node.
-pub fn store(items: &mut [u32], origin: usize, rule: usize, handle: u32, at: Progress) -> Progress
-    requires { (origin < 2 ^ 32) × (rule < 2 ^ 32) }
-    ensures { (q : List ℕ) → pass_of result items.new q ≡ store origin rule handle
-        (pass_of at items.old q) }
-{
-    let place = at.items;
-    let queued = at.queued;
-    let used = at.used;
-    if place >= items.len() / item::ITEM_WORDS {
-        return Progress {
-            stopped: ITEMS_FULL,
-            items: place,
-            queued: queued,
-            used: used,
-        };
-    }
-    item::write(items, place, origin as u32, rule as u32, handle);
-    Progress {
-        stopped: 0,
-        items: place + 1,
-        queued: queued,
-        used: used,
-    }
+#[derive(Clone, Copy, PartialEq, Eq, Debug)]
+pub enum Full {
+    Items,
+    Queue,
+    Store,
 }
 
-// Queues the place of an item with a right factor, unless something was refused before.
-pub fn enqueue(items: &[u32], queue: &mut [u32], place: usize, right: u32, at: Progress) -> Progress
-    requires { PassFits (pass_of at items.now queue.old) × (at.stopped ≡ 0 → place < at.items) }
-    ensures { pass_of result items.now queue.new
-        ≡ and_then (pass_of at items.now queue.old) (enqueue place right) }
-{
-    if at.stopped != 0 {
-        return at;
-    }
-    let stored = at.items;
-    let queued = at.queued;
-    let used = at.used;
-    let capacity = queue.len() / ENTRY_WORDS;
-    match binary_heap::push(items, queue, capacity, queued, place as u32, right) {
-        Pushed::Full => Progress {
-            stopped: QUEUE_FULL,
-            items: stored,
-            queued: queued,
-            used: used,
-        },
-        Pushed::Count(n) => Progress {
-            stopped: 0,
-            items: stored,
-            queued: n,
-            used: used,
-        },
-    }
+// The rules and sets that it reads, the words that it writes, and how far it has come: the items stored so far, those of the sets included; the
+// entries of the queue; the used units of the store.
+#[derive(Drop)]
+pub struct Pass<'a> {
+    pub rules: &'a Rules,
+    pub count: usize,
+    pub starts: &'a [u32],
+    pub rows: &'a [u64],
+    pub items: &'a mut [u32],
+    pub queue: &'a mut [u32],
+    pub store: &'a mut [u16],
+    pub stored: usize,
+    pub queued: usize,
+    pub used: usize,
 }
 
-// Writes a node behind the used units, unless something was refused before.
-pub fn append(store: &mut [u16], node: Node, at: Progress) -> Progress
-    ensures { (items : List ℕ) (queue : List Entry) → pass_with result items queue store.new ≡ append node
-        (pass_with at items queue store.old) }
-{
-    if at.stopped != 0 {
-        return at;
+impl Pass<'_> {
+    // Stores an item behind the others, with the handle of its first symbol's node.
+    pub fn store(&mut self, origin: usize, rule: usize, handle: u32) -> Result<(), Full>
+        requires { (origin < 2 ^ 32) × (rule < 2 ^ 32) }
+        ensures kept { Kept self.old self.new }
+        ensures pass { after result self.new ≡ store origin rule handle (pass_in self.old) }
+    {
+        if self.stored >= self.items.len() / item::ITEM_WORDS {
+            return Err(Full::Items);
+        }
+        item::write(self.items, self.stored, origin as u32, rule as u32, handle);
+        self.stored += 1;
+        Ok(())
     }
-    let stored = at.items;
-    let queued = at.queued;
-    let used = at.used;
-    match node::write(store, used, node) {
-        Written::Behind(behind) => Progress {
-            stopped: 0,
-            items: stored,
-            queued: queued,
-            used: behind,
-        },
-        Written::Unfit(_) => Progress {
-            stopped: STORE_FULL,
-            items: stored,
-            queued: queued,
-            used: used,
-        },
-        Written::NoRoom(_) => Progress {
-            stopped: STORE_FULL,
-            items: stored,
-            queued: queued,
-            used: used,
-        },
+
+    // Queues the place of an item with a right factor.
+    pub fn enqueue(&mut self, place: usize, right: u32) -> Result<(), Full>
+        requires { PassFits (pass_in self.old) × (place < self.old.stored) }
+        ensures kept { Kept self.old self.new }
+        ensures pass { after result self.new ≡ enqueue place right (pass_in self.old) }
+    {
+        let capacity = self.queue.len() / ENTRY_WORDS;
+        let queued = self.queued;
+        let items = &mut *self.items;
+        match binary_heap::push(items, self.queue, capacity, queued, place as u32, right) {
+            Pushed::Full => Err(Full::Queue),
+            Pushed::Count(n) => {
+                self.queued = n;
+                Ok(())
+            }
+        }
+    }
+
+    // Writes a node behind the used units.
+    pub fn append(&mut self, node: Node) -> Result<(), Full>
+        ensures kept { Kept self.old self.new }
+        ensures pass { after result self.new ≡ append node (pass_in self.old) }
+    {
+        match node::write(self.store, self.used, node) {
+            Written::Behind(behind) => {
+                self.used = behind;
+                Ok(())
+            }
+            Written::Unfit(_) => Err(Full::Store),
+            Written::NoRoom(_) => Err(Full::Store),
+        }
     }
 }

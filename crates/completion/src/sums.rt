@@ -3,235 +3,156 @@
 ghost use Rattle.std.specs.Prelude.{◌≡◌, ◌<◌};
 ghost use Rattle.binary_heap.specs.Entry.{entries_in};
 ghost use Rattle.binary_heap.specs.Sift.{entry_at};
-ghost use Rattle.grammar.specs.inner.Decoded.{rules_in, Chained};
+ghost use Rattle.grammar.specs.inner.Decoded.{Chained};
 ghost use Rattle.item.specs.Item.{item_at};
 ghost use Rattle.parse.specs.WellFormed.{left_of};
-ghost use Rattle.completion.specs.Pass.{pass_over, pass_of};
+ghost use Rattle.completion.specs.Lent.{its_rules, pass_in, after, Kept};
 ghost use Rattle.completion.specs.inner.Ready.{PassFits, UnitsFit, RulesRead};
 ghost use Rattle.completion.specs.inner.Pending.{Grounds, Pending, Rooted};
 ghost use Rattle.completion.specs.Sums.{greatest, is_of, summands, product_node, sum_ends, next_summand, pop_sum, complete_sum, complete_all_sums};
 
-use crate::pass::append;
-use crate::{Progress, complete};
+use crate::Pair;
+use crate::pass::{Full, Pass};
 use binary_heap::{Popped, entry};
-use grammar::rules::Rules;
-use item::wide;
+use grammar::rules::left;
 use node::Node;
 use node::factor::long_right;
-use parse::room::least;
 
-// The origin of the greatest entry's item.
-fn greatest_origin(items: &[u32], queue: &[u32], at: Progress) -> usize
-    requires { PassFits (pass_of at items.now queue.now) × (0 < at.queued) }
-    ensures { result ≡ (greatest (pass_of at items.now queue.now)).origin }
-{
-    wide(item::origin(items, wide(entry::place(queue, 0))))
-}
-
-// Its left side.
-fn greatest_left(rules: &Rules, count: usize, items: &[u32], queue: &[u32], at: Progress) -> usize
-    requires { RulesRead (rules_in rules.now count) (pass_of at items.now queue.now) × (0 < at.queued) }
-    ensures { result ≡ left_of (rules_in rules.now count)
-        (greatest (pass_of at items.now queue.now)) }
-{
-    grammar::rules::left(rules, wide(item::rule(items, wide(entry::place(queue, 0)))))
-}
-
-// Whether the item of the entry at `pos` is of origin `k` and left side `x`.
-fn is_of(
-    rules: &Rules,
-    count: usize,
-    items: &[u32],
-    queue: &[u32],
-    k: usize,
-    x: usize,
-    at: Progress,
-    pos: usize,
-) -> bool
-    requires { RulesRead (rules_in rules.now count) (pass_of at items.now queue.now) × (pos < at.queued) }
-    ensures { result ≡ is_of (rules_in rules.now count) k x
-        (item_at items.now (entry_at (entries_in queue.now) pos).place) }
-{
-    let place = wide(entry::place(queue, pos));
-    if wide(item::origin(items, place)) != k {
-        return false;
+impl Pass<'_> {
+    // The origin of the greatest entry's item.
+    fn greatest_origin(&self) -> usize
+        requires { PassFits (pass_in self.now) × (0 < self.now.queued) }
+        ensures { result ≡ (greatest (pass_in self.now)).origin }
+    {
+        item::origin(self.items, entry::place(self.queue, 0) as usize) as usize
     }
-    grammar::rules::left(rules, wide(item::rule(items, place))) == x
-}
 
-// Whether the queue is empty, or its greatest entry is of another origin or left side.
-fn sum_ends(
-    rules: &Rules,
-    count: usize,
-    items: &[u32],
-    queue: &[u32],
-    k: usize,
-    x: usize,
-    at: Progress,
-) -> bool
-    requires { RulesRead (rules_in rules.now count) (pass_of at items.now queue.now) }
-    ensures { result ≡ sum_ends (rules_in rules.now count) k x
-        (pass_of at items.now queue.now) }
-{
-    if at.queued == 0 {
-        return true;
+    // Its left side.
+    fn greatest_left(&self) -> usize
+        requires { RulesRead (its_rules self.now) (pass_in self.now) × (0 < self.now.queued) }
+        ensures { result ≡ left_of (its_rules self.now) (greatest (pass_in self.now)) }
+    {
+        let place = entry::place(self.queue, 0) as usize;
+        left(self.rules, item::rule(self.items, place) as usize)
     }
-    !is_of(rules, count, items, queue, k, x, at, 0)
-}
 
-// How many entries of the queue are of origin `k` and left side `x`. Each but the root has its parent among them, so that behind the children of the
-// last one found there is none.
-fn summands(
-    rules: &Rules,
-    count: usize,
-    items: &[u32],
-    queue: &[u32],
-    k: usize,
-    x: usize,
-    at: Progress,
-) -> u32
-    requires rules_read { RulesRead (rules_in rules.now count) (pass_of at items.now queue.now) × (0 < at.queued) }
-    requires rooted { Rooted (rules_in rules.now count) k x (pass_of at items.now queue.now) }
-    ensures { result ≡ summands (rules_in rules.now count) k x
-        (pass_of at items.now queue.now) }
-{
-    let mut number = 0;
-    let mut end = 1;
-    let mut pos = 0;
-    while pos < end {
-        if !is_of(rules, count, items, queue, k, x, at, pos) {
-            pos += 1;
-            continue;
+    // Whether the item of the entry at `pos` is of the origin and left side of a pair.
+    fn is_of(&self, pair: Pair, pos: usize) -> bool
+        requires { RulesRead (its_rules self.now) (pass_in self.now) × (pos < self.now.queued) }
+        ensures { result ≡ is_of (its_rules self.now) pair.set pair.symbol
+            (item_at self.now.items.now (entry_at (entries_in self.now.queue.now) pos).place) }
+    {
+        let place = entry::place(self.queue, pos) as usize;
+        item::origin(self.items, place) as usize == pair.set
+            && left(self.rules, item::rule(self.items, place) as usize) == pair.symbol
+    }
+
+    // Whether the queue is empty, or its greatest entry is of another origin or left side.
+    fn sum_ends(&self, pair: Pair) -> bool
+        requires { RulesRead (its_rules self.now) (pass_in self.now) }
+        ensures { result ≡ sum_ends (its_rules self.now) pair.set pair.symbol (pass_in self.now) }
+    {
+        self.queued == 0 || !self.is_of(pair, 0)
+    }
+
+    // How many entries of the queue are of the origin and left side of a pair. Each but the root has its parent among them, so that behind the
+    // children of the last one found there is none.
+    fn summands(&self, pair: Pair) -> u32
+        requires rules_read { RulesRead (its_rules self.now) (pass_in self.now) × (0 < self.now.queued) }
+        requires rooted { Rooted (its_rules self.now) pair.set pair.symbol (pass_in self.now) }
+        ensures { result ≡ summands (its_rules self.now) pair.set pair.symbol (pass_in self.now) }
+    {
+        let mut number = 0;
+        let mut end = 1;
+        for pos in 0..self.queued {
+            if pos == end {
+                break;
+            }
+            if self.is_of(pair, pos) {
+                number += 1;
+                end = (2 * pos + 3).min(self.queued);
+            }
         }
-        number += 1;
-        pos += 1;
-        end = least(2 * pos + 1, at.queued);
+        number
     }
-    number
-}
 
-// The summand of the greatest entry.
-fn greatest_product(items: &[u32], queue: &[u32], at: Progress) -> Node
-    requires { PassFits (pass_of at items.now queue.now) × (0 < at.queued) }
-    ensures { result ≡ product_node items.now (entry_at (entries_in queue.now) 0) }
-{
-    let place = wide(entry::place(queue, 0));
-    let action = item::rule(items, place);
-    let left = item::handle(items, place);
-    let right = long_right(entry::right(queue, 0));
-    Node::Product {
-        action: action,
-        left: left,
-        right: right,
-    }
-}
-
-// Takes the greatest entry off the queue, and writes its Product.
-fn next_summand(items: &[u32], queue: &mut [u32], store: &mut [u16], at: Progress) -> Progress
-    requires { PassFits (pass_of at items.now queue.old) × (0 < at.queued) }
-    ensures { pass_over result items.now queue.new store.new
-        ≡ next_summand (pass_over at items.now queue.old store.old) }
-{
-    let stopped = at.stopped;
-    let stored = at.items;
-    let queued = at.queued;
-    let used = at.used;
-    let product = greatest_product(items, queue, at);
-    match binary_heap::pop(items, queue, queued) {
-        Popped::Empty => at,
-        Popped::Entry {
-            place: _,
-            right: _,
-            left,
-        } => append(
-            store,
-            product,
-            Progress {
-                stopped: stopped,
-                items: stored,
-                queued: left,
-                used: used,
-            },
-        ),
-    }
-}
-
-// Takes all entries of origin `k` and left side `x` off the queue, which are its greatest, and writes their Products.
-fn pop_sum(
-    rules: &Rules,
-    count: usize,
-    items: &[u32],
-    queue: &mut [u32],
-    store: &mut [u16],
-    k: usize,
-    x: usize,
-    at: Progress,
-) -> Progress
-    requires { RulesRead (rules_in rules.now count) (pass_of at items.now queue.old) }
-    ensures { pass_over result items.now queue.new store.new
-        ≡ pop_sum (rules_in rules.now count) k x
-        (pass_over at items.now queue.old store.old) }
-{
-    let mut now = at;
-    while !sum_ends(rules, count, items, queue, k, x, now) {
-        now = next_summand(items, queue, store, now);
-    }
-    now
-}
-
-// Takes one sum off the queue, writes it, and completes its pair.
-fn complete_sum(
-    rules: &Rules,
-    count: usize,
-    items: &mut [u32],
-    starts: &[u32],
-    rows: &[u64],
-    queue: &mut [u32],
-    store: &mut [u16],
-    at: Progress,
-) -> Progress
-    requires { Grounds (rules_in rules.now count) starts.now rows.now × Pending (rules_in rules.now count)
-        starts.now (pass_over at items.old queue.old store.old) × UnitsFit (pass_over at items.old queue.old store.old)
-        × (0 < at.queued) × Chained rules.now count }
-    ensures { pass_over result items.new queue.new store.new ≡ complete_sum (rules_in rules.now count)
-        starts.now rows.now (pass_over at items.old queue.old store.old) }
-{
-    let k = greatest_origin(items, queue, at);
-    let x = greatest_left(rules, count, items, queue, at);
-    let link = at.used as u32;
-    let sum = Node::Sum {
-        count: summands(rules, count, items, queue, k, x, at),
-        nonterminal: x as u32,
-    };
-    let begun = append(store, sum, at);
-    let popped = pop_sum(rules, count, items, queue, store, k, x, begun);
-    complete(rules, count, items, starts, rows, queue, k, x, link, popped)
-}
-
-// Completes sum after sum, until the queue is empty or something is refused.
-pub fn complete_all_sums_entirely(
-    rules: &Rules,
-    count: usize,
-    items: &mut [u32],
-    starts: &[u32],
-    rows: &[u64],
-    queue: &mut [u32],
-    store: &mut [u16],
-    at: Progress,
-) -> Progress
-    requires { Grounds (rules_in rules.now count) starts.now rows.now × Pending (rules_in rules.now count)
-        starts.now (pass_over at items.old queue.old store.old) × UnitsFit (pass_over at items.old queue.old store.old)
-        × Chained rules.now count }
-    ensures { pass_over result items.new queue.new store.new
-        ≡ complete_all_sums (rules_in rules.now count) starts.now rows.now
-        (pass_over at items.old queue.old store.old) }
-{
-    let mut now = at;
-    while now.queued > 0 {
-        if now.stopped != 0 {
-            return now;
+    // The summand of the greatest entry.
+    fn greatest_product(&self) -> Node
+        requires { PassFits (pass_in self.now) × (0 < self.now.queued) }
+        ensures { result ≡ product_node self.now.items.now (entry_at (entries_in self.now.queue.now) 0) }
+    {
+        let place = entry::place(self.queue, 0) as usize;
+        Node::Product {
+            action: item::rule(self.items, place),
+            left: item::handle(self.items, place),
+            right: long_right(entry::right(self.queue, 0)),
         }
-        now = complete_sum(rules, count, items, starts, rows, queue, store, now);
     }
-    now
+
+    // Takes the greatest entry off the queue, and writes its Product, unless something was refused before.
+    fn next_summand(&mut self, before: Result<(), Full>) -> Result<(), Full>
+        requires { PassFits (pass_in self.old) × (0 < self.old.queued) }
+        ensures kept { Kept self.old self.new }
+        ensures pass { after result self.new ≡ next_summand (after before self.old) }
+    {
+        let product = self.greatest_product();
+        let queued = self.queued;
+        let items = &mut *self.items;
+        match binary_heap::pop(items, self.queue, queued) {
+            Popped::Empty => before,
+            Popped::Entry { left, .. } => {
+                self.queued = left;
+                before?;
+                self.append(product)
+            }
+        }
+    }
+
+    // Takes all entries of the origin and left side of a pair off the queue, which are its greatest, and writes their Products. They come off the
+    // queue where the store is full too: that is `pop_sum`.
+    fn pop_sum(&mut self, pair: Pair, before: Result<(), Full>) -> Result<(), Full>
+        requires { RulesRead (its_rules self.old) (pass_in self.old) }
+        ensures kept { Kept self.old self.new }
+        ensures pass { after result self.new ≡ pop_sum (its_rules self.old) pair.set pair.symbol (after before self.old) }
+    {
+        let mut now = before;
+        while !self.sum_ends(pair) {
+            now = self.next_summand(now);
+        }
+        now
+    }
+
+    // Takes one sum off the queue, writes it, and completes its pair.
+    fn complete_sum(&mut self) -> Result<(), Full>
+        requires { Grounds (its_rules self.old) self.old.starts.now self.old.rows.now × Pending (its_rules self.old) self.old.starts.now (pass_in self.old)
+            × UnitsFit (pass_in self.old) × (0 < self.old.queued) × Chained self.old.rules.now self.old.count }
+        ensures kept { Kept self.old self.new }
+        ensures pass { after result self.new ≡ complete_sum (its_rules self.old) self.old.starts.now self.old.rows.now (pass_in self.old) }
+    {
+        let pair = Pair {
+            set: self.greatest_origin(),
+            symbol: self.greatest_left(),
+            link: self.used as u32,
+        };
+        let sum = Node::Sum {
+            count: self.summands(pair),
+            nonterminal: pair.symbol as u32,
+        };
+        let begun = self.append(sum);
+        self.pop_sum(pair, begun)?;
+        self.complete(pair)
+    }
+
+    // Completes sum after sum, until the queue is empty or something is refused.
+    pub fn complete_all_sums_entirely(&mut self) -> Result<(), Full>
+        requires { Grounds (its_rules self.old) self.old.starts.now self.old.rows.now × Pending (its_rules self.old) self.old.starts.now (pass_in self.old)
+            × UnitsFit (pass_in self.old) × Chained self.old.rules.now self.old.count }
+        ensures kept { Kept self.old self.new }
+        ensures pass { after result self.new ≡ complete_all_sums (its_rules self.old) self.old.starts.now self.old.rows.now (pass_in self.old) }
+    {
+        while self.queued > 0 {
+            self.complete_sum()?;
+        }
+        Ok(())
+    }
 }

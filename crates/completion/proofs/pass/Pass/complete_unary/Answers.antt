@@ -1,0 +1,64 @@
+use mathlib.Core.Path.{refl, sym, ap, ◌∙◌, subst}
+use Prim.Native.Nat.{◌<◌}
+use native.Mathlib.Omega.{arith}
+use Rattle.std.proofs.lemmas.Result.{err_from_is_err_and}
+use Rattle.node.specs.Rows.{all_ones}
+use Rattle.completion.specs.Pass.{Pass, store, enqueue}
+use Rattle.completion.specs.Lent.{its_rules, pass_in}
+use Rattle.completion.specs.inner.Ready.{PassFits}
+use Rattle.completion.proofs.Soundness.{store-sound}
+use Rattle.completion.proofs.Stopping.{is_refusal, then_stopped, then_on}
+use Rattle.completion.proofs.Waiting.{rules-length, rule-second, store-place, unary_two, unary_passed, unary-waits}
+use Rattle.completion.proofs.pass.Pass.complete_unary.Goals as goal
+
+pub second-requires : goal.second-requires
+second-requires c = omega (arith, rules-length c.args.self.now.rules.now c.args.self.now.count, c.requires.0.few_rules)
+
+pub returns-then-second-ne-NONE-clause-pass : goal.returns-then-second-ne-NONE-clause-pass
+returns-then-second-ne-NONE-clause-pass c =
+    let given = c.args in
+    let its = given.self.now in
+    sym (unary_two (its_rules its) its.rows.now given.pair.set given.pair.symbol given.r given.pair.link (pass_in its) refl c.second.result
+    (c.second.ensures.0 ∙ rule-second its.rules.now its.count given.r c.requires.2) c.if-second-ne-NONE.true)
+
+pub returns-then-not-waits-clause-pass : goal.returns-then-not-waits-clause-pass
+returns-then-not-waits-clause-pass c =
+    let given = c.args in
+    let its = given.self.now in
+    sym (unary_passed (its_rules its) its.rows.now given.pair.set given.pair.symbol given.r given.pair.link (pass_in its) refl
+    (sym (c.if-not-waits.true) ∙ c.waits.ensures))
+
+pub store-requires : goal.store-requires
+store-requires c =
+    let required = c.requires in
+    (omega (arith, required.1.few_sets, required.1.row), omega (arith, rules-length c.args.self.now.rules.now c.args.self.now.count, required.0.few_rules))
+
+pub returns-in_err-store-clause-pass : goal.returns-in_err-store-clause-pass
+returns-in_err-store-clause-pass c =
+    let given = c.args in
+    let its = given.self.now in
+    let p = err_from_is_err_and c.from_residual.result c.from_residual.ensures.1 in
+    rw (p.1, p.2)
+    (then_stopped _ (store given.pair.set given.r given.pair.link (pass_in its)) (enqueue its.stored all_ones) (is_refusal _) c.in_err-store.ensures.pass
+    ∙ sym (unary-waits (its_rules its) its.rows.now given.pair.set given.pair.symbol given.r given.pair.link (pass_in its) refl c.second.result
+    (c.second.ensures.0 ∙ rule-second its.rules.now its.count given.r c.requires.2) c.if-second-ne-NONE.false
+    (sym (c.if-not-waits.false) ∙ c.waits.ensures)))
+
+pub enqueue-requires : goal.enqueue-requires
+enqueue-requires c =
+    let given = c.args in
+    let its = given.self.now in
+    let stored = c.in_ok-store.ensures.pass in (
+      subst PassFits (sym stored) (store-sound given.pair.set given.r given.pair.link (pass_in its) c.requires.3),
+      subst (λ (u : Pass). its.stored < u.at.items) (sym stored)
+          (store-place given.pair.set given.r given.pair.link (pass_in its) (sym (ap (λ (u : Pass). u.at.stopped) stored))),
+    )
+
+pub returns-clause-pass : goal.returns-clause-pass
+returns-clause-pass c =
+    let given = c.args in
+    let its = given.self.now in
+    then_on _ (store given.pair.set given.r given.pair.link (pass_in its)) (enqueue its.stored all_ones) _ refl c.in_ok-store.ensures.pass c.enqueue.ensures.pass
+    ∙ sym (unary-waits (its_rules its) its.rows.now given.pair.set given.pair.symbol given.r given.pair.link (pass_in its) refl c.second.result
+    (c.second.ensures.0 ∙ rule-second its.rules.now its.count given.r c.requires.2) c.if-second-ne-NONE.false
+    (sym (c.if-not-waits.false) ∙ c.waits.ensures))

@@ -1,0 +1,19 @@
+-- The rules up to `r`, the next of the chain, are completed.
+use mathlib.Core.Path.{◌≡◌}
+use Prim.Native.Nat.{◌-◌, ◌≤◌, ◌<◌}
+use Rattle.laws.specs.Turns.{over}
+use Rattle.grammar.specs.inner.Decoded.{first_in}
+use Rattle.completion.specs.Complete.{complete_unary}
+use Rattle.completion.specs.Lent.{its_rules, pass_in, Kept}
+use Rattle.completion.proofs.pass.Pass.complete_unary_predictions.Given as goal
+
+abbrev pub invariant-loop-r : goal.invariant-loop-r
+invariant-loop-r l =
+    let its = l.fn.self in
+    Kept its l.self
+    × (l.r ≤ its.count)
+    × (l.r < its.count → first_in its.rules.now l.r ≡ l.pair.symbol)
+    × (pass_in l.self ≡ over l.r (complete_unary (its_rules its) its.rows.now l.pair.set l.pair.symbol l.pair.link) (pass_in its))
+
+abbrev pub decreases-loop-r : goal.decreases-loop-r
+decreases-loop-r l = l.fn.self.count - l.r

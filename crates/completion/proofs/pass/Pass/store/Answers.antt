@@ -1,0 +1,16 @@
+use mathlib.Core.Path.{sym, ap, ◌∙◌}
+use mathlib.Core.List.{List}
+use Prim.Native.Nat.{ℕ, ◌+◌}
+use Rattle.completion.specs.Pass.{pass_over}
+use Rattle.completion.specs.Lent.{pass_in}
+use Rattle.completion.proofs.Pushes.{store_done, store-refused}
+use Rattle.completion.proofs.pass.Pass.store.Goals as goal
+
+pub returns-then-self-clause-pass : goal.returns-then-self-clause-pass
+returns-then-self-clause-pass c = sym (store-refused (pass_in c.args.self.now) c.args.origin c.args.rule c.args.handle c.if-self.true)
+
+pub returns-clause-pass : goal.returns-clause-pass
+returns-clause-pass c =
+    let before = c.args.self.now in
+    ap (λ (w : List ℕ). pass_over (record { stopped = 0; items = before.stored + 1; queued = before.queued; used = before.used }) w before.queue.now before.store.now) c.write.ensures
+    ∙ sym (store_done (pass_in before) c.args.origin c.args.rule c.args.handle c.if-self.false)
