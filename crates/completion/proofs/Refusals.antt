@@ -17,11 +17,12 @@ use Rattle.node.specs.Rows.{all_ones}
 use Rattle.node.specs.declared.Node.{Node}
 use Rattle.node.specs.declared.Node.TheVariants.{Evaluated, Sum}
 use Rattle.completion.specs.Pass.{Pass, store, enqueue, append, items_full, queue_full, store_full}
-use Rattle.completion.specs.Complete.{complete_medial, complete_medial_items, complete_unary, complete_unary_predictions, complete_binary, complete_binary_predictions, complete}
+use Rattle.completion.specs.Complete.{predicted, complete_medial, complete_medial_items, complete_unary, complete_unary_predictions, complete_binary, complete_binary_predictions, complete}
 use Rattle.completion.specs.Scan.{scan_all}
 use Rattle.completion.specs.Sums.{greatest, summands, product_node, sum_ends, pop_greatest, next_summand, pop_sum, summed, complete_sum, rests, complete_all_sums}
-use Rattle.completion.proofs.Pushes.{stays, store_done, store-refused, enqueue_done, enqueue-refused}
+use Rattle.completion.proofs.Pushes.{append-stopped, stays, store_done, store-refused, enqueue_done, enqueue-refused}
 use Rattle.completion.proofs.Waiting.{unary-stopped, binary-stopped}
+use Rattle.completion.proofs.Pairs.{complete_parts}
 use Rattle.completion.proofs.Entries.{append_cases, then_cases}
 use Rattle.completion.proofs.Through.{medial_items_keep, unary_predictions_go, binary_predictions_go, complete_cases}
 use Rattle.completion.proofs.Turning.{not_resting, rests-stopped, rest-empty}
@@ -161,6 +162,27 @@ module _ (rs : List Rule) (starts rows : List ℕ) where
           ap (λ (t : Pass). complete_binary_predictions rs rows k x link (complete_unary_predictions rs rows k x link t)) medial_items_stopped
           ∙ ap (complete_binary_predictions rs rows k x link) unary-predictions-stopped
           ∙ binary-predictions-stopped)
+
+    -- A completion that is refused on its way does no more.
+    module _ (s now : Pass) (there : predicted rows k x ≡ true) (stopped : now.at.stopped ≡ 0 → ⊥) where
+      pub medials-refused : now ≡ complete_medial_items rs starts k x link s → now ≡ complete rs starts rows k x link s
+      medials-refused is =
+          sym (ap (complete_binary_predictions rs rows k x link) (unary-predictions-stopped now stopped) ∙ binary-predictions-stopped now stopped)
+          ∙ ap (λ (t : Pass). complete_binary_predictions rs rows k x link (complete_unary_predictions rs rows k x link t)) is
+          ∙ sym (complete_parts rs starts rows k x link s there)
+
+      pub unaries-refused : now ≡ complete_unary_predictions rs rows k x link (complete_medial_items rs starts k x link s) → now ≡ complete rs starts rows k x link s
+      unaries-refused is =
+          sym (binary-predictions-stopped now stopped) ∙ ap (complete_binary_predictions rs rows k x link) is ∙ sym (complete_parts rs starts rows k x link s there)
+
+  -- No kind follows a refusal.
+  pub scan_all-stopped : (e : ℕ) (kinds : List ℕ) (s : Pass) → (s.at.stopped ≡ 0 → ⊥) → scan_all rs starts rows e kinds s ≡ s
+  scan_all-stopped e kinds s stopped =
+      scan_all-keeps rs starts rows e kinds (λ (u : Pass). u ≡ s)
+      (λ t u m on same.
+      let still : u.at.stopped ≡ 0 → ⊥ = λ going. stopped (ap (λ (v : Pass). v.at.stopped) (sym same) ∙ going) in
+      ap (complete rs starts rows e t u.at.used) (append-stopped u (Evaluated t) still) ∙ complete-stopped e t u.at.used u still ∙ same)
+      s refl
 
   -- Scanning a position leaves a pass going on, or refused by what is full.
   pub stops_scan_all : (e : ℕ) (kinds : List ℕ) (s : Pass) → Stops s → Stops (scan_all rs starts rows e kinds s)

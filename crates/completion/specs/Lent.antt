@@ -1,5 +1,5 @@
 -- A pass as the code holds it: words that are lent to it, and how far it has come.
-use Rattle.std.specs.Prelude.{◌≡◌, List, ℕ, Result, Ok, Err, length}
+use Rattle.std.specs.Prelude.{◌≡◌, List, ℕ, Result, Ok, Err}
 use Rattle.grammar.specs.Rules.{Rule}
 use Rattle.grammar.specs.inner.Decoded.{rules_in}
 use Rattle.completion.specs.declared.pass.Pass.{Pass as Lent}

@@ -7,10 +7,9 @@ ghost use Rattle.completion.specs.inner.Search.{second_at, Searchable, FirstNotB
 ghost use Rattle.completion.specs.inner.Ready.{IsSet, PassFits, Charted};
 ghost use Rattle.completion.specs.Complete.{complete_medial_items};
 
-use std::ops::Range;
-
 use crate::Pair;
 use crate::pass::{Full, Pass};
+use std::ops::Range;
 
 impl Pass<'_> {
     // The second of the item at place `p`.

@@ -29,7 +29,9 @@ impl Pass<'_> {
             symbol: kind,
             link: self.used as u32,
         };
-        self.append(Node::Evaluated { symbol: kind as u32 })?;
+        self.append(Node::Evaluated {
+            symbol: kind as u32,
+        })?;
         self.complete(pair)
     }
 

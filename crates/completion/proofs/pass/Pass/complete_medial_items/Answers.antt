@@ -1,10 +1,10 @@
 use mathlib.Core.Path.{◌≡◌, refl, sym, ap, ◌∙◌, subst}
-use Prim.Native.Nat.{ℕ, ◌+◌, ◌-◌, ◌≤◌, ◌<◌}
+use Prim.Native.Nat.{ℕ, ◌+◌, ◌-◌, ◌<◌}
 use native.Mathlib.Omega.{arith}
 use Rattle.std.proofs.lemmas.Result.{err_from_is_err_and}
 use Rattle.laws.specs.Turns.{over}
 use Rattle.laws.proofs.Turns.{over-next, over_none}
-use Rattle.completion.specs.Pass.{Pass, enqueue}
+use Rattle.completion.specs.Pass.{Pass}
 use Rattle.completion.specs.Lent.{its_rules, pass_in}
 use Rattle.completion.specs.inner.Ready.{PassFits}
 use Rattle.completion.proofs.Keeping.{kept_trans}
@@ -21,9 +21,13 @@ medial_item_set_range-place-items-requires c =
 
 pub loop-place-init : goal.loop-place-init
 loop-place-init c =
-    let range = c.into_iter-place-iterator.result in
-    ((refl, refl, refl, refl, refl, refl, refl), omega arith, omega arith, refl,
-    over_none _ _ ∙ ap (λ (n : ℕ). over n (queueing c.args.pair.link range.start) (pass_in c.args.self.now)) (let none : 0 ≡ range.start - range.start = omega arith in none))
+    let range = c.into_iter-place-iterator.result in (
+      (refl, refl, refl, refl, refl, refl, refl),
+      omega arith,
+      omega arith,
+      refl,
+      over_none _ _ ∙ ap (λ (n : ℕ). over n (queueing c.args.pair.link range.start) (pass_in c.args.self.now)) (let none : 0 ≡ range.start - range.start = omega arith in none),
+    )
 
 pub enqueue-requires : goal.enqueue-requires
 enqueue-requires c =

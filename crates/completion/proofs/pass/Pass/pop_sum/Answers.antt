@@ -1,6 +1,5 @@
 use mathlib.Core.Path.{◌≡◌, refl, sym, ap, ◌∙◌, subst}
 use mathlib.Core.Bool.{false}
-use Prim.Native.Nat.{◌<◌}
 use native.Mathlib.Omega.{arith}
 use Rattle.laws.proofs.Turns.{until-rests}
 use Rattle.completion.specs.Pass.{Pass}
@@ -23,8 +22,8 @@ sum_ends-requires c =
     let kept = c.loop-pair.invariant.0 in
     rw (kept.3, kept.4) (read_stopped 0 _ c.loop-pair.invariant.2)
 
-pub next_summand-requires : goal.next_summand-requires
-next_summand-requires c =
+pub next_summand-now-requires : goal.next_summand-now-requires
+next_summand-now-requires c =
     let given = c.args in
     let its = given.self.now in
     let looped = c.loop-pair in
@@ -41,14 +40,14 @@ loop-pair-smaller c =
     let u = after looped.now looped.self in
     let asked = rw (looped.invariant.0.3, looped.invariant.0.4) at c.sum_ends.ensures in
     let on : sum_ends (its_rules its) given.pair.set given.pair.symbol u ≡ false = sym asked ∙ c.loop-pair-test.true in
-    omega (arith, ap (λ (s : Pass). s.at.queued) c.next_summand.ensures.pass, next_queued u, sum_goes (its_rules its) given.pair.set given.pair.symbol u on)
+    omega (arith, ap (λ (s : Pass). s.at.queued) c.next_summand-now.ensures.pass, next_queued u, sum_goes (its_rules its) given.pair.set given.pair.symbol u on)
 
 pub loop-pair-preserved : goal.loop-pair-preserved
 loop-pair-preserved c =
     let given = c.args in
     let its = given.self.now in
     let looped = c.loop-pair in
-    let taken = c.next_summand in
+    let taken = c.next_summand-now in
     let u = after looped.now looped.self in
     let asked = rw (looped.invariant.0.3, looped.invariant.0.4) at c.sum_ends.ensures in
     let on : sum_ends (its_rules its) given.pair.set given.pair.symbol u ≡ false = sym asked ∙ c.loop-pair-test.true in

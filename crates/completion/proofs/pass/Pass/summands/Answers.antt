@@ -1,10 +1,10 @@
-use mathlib.Core.Path.{◌≡◌, sym, ◌∙◌, subst}
-use Prim.Native.Nat.{ℕ, ◌+◌, ◌*◌, ◌≤◌, ◌<◌}
+use mathlib.Core.Path.{◌≡◌, sym, ◌∙◌}
+use Prim.Native.Nat.{◌+◌, ◌*◌, ◌≤◌, ◌<◌}
 use native.Mathlib.Omega.{arith}
 use Rattle.binary_heap.specs.Entry.{entries_in}
 use Rattle.completion.specs.Lent.{its_rules}
 use Rattle.completion.proofs.Summing.{counted-few}
-use Rattle.completion.proofs.Counting.{is_summand, Counting, counting_begins, counting_passed, counting_found, counting_done}
+use Rattle.completion.proofs.Counting.{is_summand, counting_begins, counting_passed, counting_found, counting_done}
 use Rattle.completion.proofs.pass.Pass.summands.Goals.{then-is_of, else-is_of}
 use Rattle.completion.proofs.pass.Pass.summands.Goals as goal
 
