@@ -1,23 +1,23 @@
 -- What pushes and writes do, where there is a place and where there is none.
-use mathlib.Core.Path.{◌≡◌, refl, sym, ap, ap₂, ◌∙◌, subst}
-use mathlib.Core.Bool.{Bool, true, false}
+use mathlib.Core.Path.{◌≡◌, refl, sym, ap, ap₂, ◌∙◌}
 use mathlib.Core.List.{List, [], ◌∷◌}
 use Prim.Native.Nat.{ℕ, ◌+◌, ◌/◌, ◌≤◌, ◌<◌}
 use lib.ListN.{length}
-use lib.Dec.{ltb, leb}
+use lib.Dec.{leb}
 use native.Mathlib.Omega.{arith}
-use borrow.Author.Tests.{lt-ltb, le-ltb, eq-eqb, ne_eqb, ltb-true, ltb-false}
+use borrow.Author.Tests.{lt-ltb, le-ltb, eq-eqb, ne_eqb}
 use Rattle.item.specs.Item.{item_words, stored}
 use Rattle.binary_heap.specs.Entry.{Entry, entry_key}
-use Rattle.binary_heap.specs.declared.Pushed.TheVariants.{Full, Count}
+use Rattle.std.specs.Prelude.{Some, None, Result, Ok, Err}
 use Rattle.binary_heap.specs.Queue.{push_answer, push_queue}
+use Rattle.binary_heap.proofs.Answers.{full-tells, count-tells}
 use Rattle.laws.proofs.Tests.{either_way}
 use Rattle.node.specs.Rows.{units_at}
 use Rattle.node.specs.Answers.{nothing, position, values_of, written as written_answer}
 use Rattle.node.specs.Writing.{StoreOutcome, usable, place, write_units, write_at}
 use Rattle.node.specs.declared.Node.{Node}
-use Rattle.node.specs.declared.Written.{Written}
-use Rattle.node.specs.declared.Written.TheVariants.{Behind}
+use Rattle.node.specs.declared.Unwritten.{Unwritten}
+use Rattle.node.specs.declared.Unwritten.TheVariants.{Unfit, NoRoom}
 use Rattle.completion.specs.Pass.{Pass, pass_with, refused, and_then, store, enqueue, written, append, items_full, queue_full, store_full}
 
 -- A refusal of the node writer leaves the store.
@@ -65,53 +65,37 @@ module _ (s : Pass) where
   unfolding and_then
   stays next stopped = rw (and_then, ne_eqb s.at.stopped 0 stopped) refl
 
-  -- What the queue answers tells whether the place was queued.
-  full-answer : (b : Bool) → ltb s.at.queued (length s.queue) ≡ b → push_answer (length s.queue) s.at.queued ≡ Full
-      → length s.queue ≤ s.at.queued
-  unfolding push_answer
-  full-answer true free full =
-      let answer : Count (s.at.queued + 1) ≡ Full = rw (push_answer, free) at full in
-      let z : ◌≡◌ {A = ℕ} 0 1 = cc in
-      omega arith
-  full-answer false free full = ltb-false s.at.queued (length s.queue) free
-
-  count-answer : (n : ℕ) (b : Bool) → ltb s.at.queued (length s.queue) ≡ b → push_answer (length s.queue) s.at.queued ≡ Count n
-      → (s.at.queued < length s.queue) × (n ≡ s.at.queued + 1)
-  unfolding push_answer
-  count-answer n true free count =
-      let answer : Count (s.at.queued + 1) ≡ Count n = rw (push_answer, free) at count in
-      (ltb-true s.at.queued (length s.queue) free, cc)
-  count-answer n false free count =
-      let answer : Full ≡ Count n = rw (push_answer, free) at count in
-      let z : ◌≡◌ {A = ℕ} 0 1 = cc in
-      absurd (omega arith)
-
   -- A push that the queue refused, and one that it took.
-  pub queue-refused : (place right capacity : ℕ) (queue : List Entry) → capacity ≡ length s.queue → push_answer capacity s.at.queued ≡ Full
+  pub queue-refused : (place right capacity : ℕ) (queue : List Entry) → capacity ≡ length s.queue → push_answer capacity s.at.queued ≡ None
       → queue ≡ push_queue (entry_key s.items) capacity s.queue s.at.queued (record { place = place; right = right })
       → pass_with (record { stopped = queue_full; items = s.at.items; queued = s.at.queued; used = s.at.used }) s.items queue s.units ≡ enqueue place right s
   unfolding push_queue
   queue-refused place right capacity queue room full pushed =
-      let no_room : length s.queue ≤ s.at.queued = full-answer (ltb s.at.queued (length s.queue)) refl (subst (λ (c : ℕ). push_answer c s.at.queued ≡ Full) room full) in
+      let no_room : length s.queue ≤ s.at.queued = omega (arith, room, full-tells capacity s.at.queued full) in
       let same : queue ≡ s.queue = pushed ∙ rw (push_queue, le-ltb s.at.queued capacity (omega arith)) refl in
       ap (λ (w : List Entry). pass_with (record { stopped = queue_full; items = s.at.items; queued = s.at.queued; used = s.at.used }) s.items w s.units) same
       ∙ sym (enqueue-refused place right no_room)
 
-  pub queue_took : (place right capacity n : ℕ) (queue : List Entry) → capacity ≡ length s.queue → push_answer capacity s.at.queued ≡ Count n
+  pub queue_took : (place right capacity n : ℕ) (queue : List Entry) → capacity ≡ length s.queue → push_answer capacity s.at.queued ≡ Some n
       → queue ≡ push_queue (entry_key s.items) capacity s.queue s.at.queued (record { place = place; right = right })
       → pass_with (record { stopped = 0; items = s.at.items; queued = n; used = s.at.used }) s.items queue s.units ≡ enqueue place right s
   queue_took place right capacity n queue room count pushed =
-      let told = count-answer n (ltb s.at.queued (length s.queue)) refl (subst (λ (c : ℕ). push_answer c s.at.queued ≡ Count n) room count) in
+      let told = count-tells capacity s.at.queued n count in
       let into = pushed ∙ ap (λ (c : ℕ). push_queue (entry_key s.items) c s.queue s.at.queued (record { place = place; right = right })) room in
       ap₂ (λ (m : ℕ) (w : List Entry). pass_with (record { stopped = 0; items = s.at.items; queued = m; used = s.at.used }) s.items w s.units) told.1 into
-      ∙ sym (enqueue_done place right told.0)
+      ∙ sym (enqueue_done place right (omega (arith, room, told.0)))
 
   -- A node is not written where something was refused before.
   pub append-stopped : (n : Node) → (s.at.stopped ≡ 0 → ⊥) → append n s ≡ s
   unfolding append
   append-stopped n stopped = stays _ stopped
 
-  module _ (n : Node) (r : Written) (units : List ℕ) where
+  -- The node writer's refusals tell nothing else.
+  pub refusal-tells : (why : Unwritten) → values_of (written_answer (Err why)) ≡ nothing
+  refusal-tells (Unfit p) = refl
+  refusal-tells (NoRoom p) = refl
+
+  module _ (n : Node) (r : Result ℕ Unwritten) (units : List ℕ) where
     -- Else the node writer's answer tells what comes of it: the position behind the node, or a refusal, which leaves the store.
     answered : s.at.stopped ≡ 0 → record { answer = written_answer r; store = units } ≡ write_at s.units s.at.used n → append n s ≡ written s units (values_of (written_answer r))
     unfolding append
@@ -119,10 +103,10 @@ module _ (s : Pass) where
         goes_on (λ (u : Pass). written u (write_at u.units u.at.used n).store (values_of (write_at u.units u.at.used n).answer)) going
         ∙ ap (λ (o : StoreOutcome). written s o.store (values_of o.answer)) (sym wrote)
 
-    pub append-wrote : (behind : ℕ) → s.at.stopped ≡ 0 → record { answer = written_answer r; store = units } ≡ write_at s.units s.at.used n → r ≡ Behind behind
+    pub append-wrote : (behind : ℕ) → s.at.stopped ≡ 0 → record { answer = written_answer r; store = units } ≡ write_at s.units s.at.used n → r ≡ Ok behind
         → pass_with (record { stopped = 0; items = s.at.items; queued = s.at.queued; used = behind }) s.items s.queue units ≡ append n s
     unfolding written
-    append-wrote behind going wrote is = sym (answered going wrote ∙ ap (λ (w : Written). written s units (values_of (written_answer w))) is)
+    append-wrote behind going wrote is = sym (answered going wrote ∙ ap (λ (w : Result ℕ Unwritten). written s units (values_of (written_answer w))) is)
 
     kept : record { answer = written_answer r; store = units } ≡ write_at s.units s.at.used n → values_of (written_answer r) ≡ nothing → units ≡ s.units
     kept wrote none =

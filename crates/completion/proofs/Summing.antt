@@ -15,7 +15,7 @@ use Rattle.laws.specs.Turns.{until}
 use Rattle.laws.proofs.Turns.{until_turns}
 use Rattle.binary_heap.specs.Entry.{Entry, no_entry, entry_key}
 use Rattle.binary_heap.specs.Queue.{pop_queue, pop_answer}
-use Rattle.binary_heap.specs.declared.Popped.TheVariants as pops
+use Rattle.std.specs.Prelude.{Some}
 use Rattle.binary_heap.proofs.Answers.{pop_entry_tells}
 use Rattle.grammar.specs.Rules.{Rule}
 use Rattle.item.specs.Item.{Item, rule_at}
@@ -56,22 +56,22 @@ module _ (rs : List Rule) (k x : ℕ) (s : Pass) where
         sym (ap₂ (λ (a b : Bool). not (a && b)) (eq-eqb (greatest s).origin k same) (eq-eqb (left_of rs (greatest s)) x left)) ∙ ends-greatest
 
 -- The greatest entry comes off.
-pub popped_entry : (s : Pass) (place right left : ℕ) (queue : List Entry) → pop_answer s.queue s.at.queued ≡ pops.Entry place right left
+pub popped_entry : (s : Pass) (entry : Entry) (left : ℕ) (queue : List Entry) → pop_answer s.queue s.at.queued ≡ Some (entry, left)
     → queue ≡ pop_queue (entry_key s.items) s.queue s.at.queued
     → pass_with (record { stopped = s.at.stopped; items = s.at.items; queued = left; used = s.at.used }) s.items queue s.units ≡ pop_greatest s
 unfolding pop_greatest
-popped_entry s place right left queue answer popped =
+popped_entry s entry left queue answer popped =
     ap₂ (λ (m : ℕ) (w : List Entry). pass_with (record { stopped = s.at.stopped; items = s.at.items; queued = m; used = s.at.used }) s.items w s.units)
-    (pop_entry_tells s.queue s.at.queued place right left answer).3 popped
+    (pop_entry_tells s.queue s.at.queued entry left answer).2 popped
 
 -- In a pass that was refused that is all: its Product is not written.
-pub next_stopped : (s : Pass) (n place right left : ℕ) (queue : List Entry) → n ≡ s.at.stopped → (n ≡ 0 → ⊥) → pop_answer s.queue s.at.queued ≡ pops.Entry place right left
+pub next_stopped : (s : Pass) (n : ℕ) (entry : Entry) (left : ℕ) (queue : List Entry) → n ≡ s.at.stopped → (n ≡ 0 → ⊥) → pop_answer s.queue s.at.queued ≡ Some (entry, left)
     → queue ≡ pop_queue (entry_key s.items) s.queue s.at.queued
     → pass_with (record { stopped = n; items = s.at.items; queued = left; used = s.at.used }) s.items queue s.units ≡ next_summand s
 unfolding next_summand pop_greatest
-next_stopped s n place right left queue is stopped answer popped =
+next_stopped s n entry left queue is stopped answer popped =
     ap (λ (m : ℕ). pass_with (record { stopped = m; items = s.at.items; queued = left; used = s.at.used }) s.items queue s.units) is
-    ∙ popped_entry s place right left queue answer popped
+    ∙ popped_entry s entry left queue answer popped
     ∙ sym (append-stopped (pop_greatest s) (product_node s.items (entry_at s.queue 0)) (λ e. stopped (is ∙ e)))
 
 -- A summand is an entry fewer, and leaves the items.

@@ -10,11 +10,12 @@ use lib.Dec.{eqb}
 use borrow.Author.Tests.{eq-eqb, ne_eqb}
 use Rattle.laws.specs.Turns.{over}
 use Rattle.laws.proofs.Turns.{over-keeps, over-next, over_none, over-split, over_still}
-use Rattle.item.specs.Item.{item_words}
+use Rattle.item.specs.Item.{Item, item_words}
 use Rattle.grammar.specs.Rules.{Rule, none, no_rule}
 use Rattle.grammar.specs.inner.Decoded.{left_in, first_in, second_in, rules_in, FirstFrom}
 use Rattle.grammar.proofs.Decoding.{in_count, in_rule}
 use Rattle.node.specs.Rows.{all_ones}
+use Rattle.parse.specs.WellFormed.{left_of}
 use Rattle.completion.specs.Pass.{Pass, and_then, store, enqueue}
 use Rattle.completion.specs.Complete.{waits, predicted, complete_unary, complete_binary}
 use Rattle.completion.specs.inner.Ready.{PassFits}
@@ -35,6 +36,10 @@ module _ (words : List ℕ) (count : ℕ) where
 
     pub rule-second : second_in words r ≡ (get_or (rules_in words count) r no_rule).second
     rule-second = sym (ap (λ (i : Rule). i.second) (in_rule words 0 0 count r there))
+
+  -- The left side of an item's rule, as the code reads it.
+  pub item-left : (read item : Item) (left : ℕ) → read ≡ item → item.rule < count → left ≡ left_in words read.rule → left ≡ left_of (rules_in words count) item
+  item-left read item left is there found = found ∙ ap (λ (i : Item). left_in words i.rule) is ∙ rule-left item.rule there
 
 module _ (rs : List Rule) (rows : List ℕ) (k x r : ℕ) where
   -- A rule that begins with another symbol does not wait.

@@ -1,7 +1,7 @@
 -- A pass as the code holds it: words that are lent to it, and how far it has come.
 use Rattle.std.specs.Prelude.{◌≡◌, List, ℕ, Result, Ok, Err}
 use Rattle.grammar.specs.Rules.{Rule}
-use Rattle.grammar.specs.inner.Decoded.{rules_in}
+use Rattle.grammar.specs.inner.Decoded.{rules_of}
 use Rattle.completion.specs.declared.pass.Pass.{Pass as Lent}
 use Rattle.completion.specs.declared.pass.Full.{Full}
 use Rattle.completion.specs.declared.pass.Full.TheVariants.{Items, Queue, Store}
@@ -9,7 +9,7 @@ use Rattle.completion.specs.Pass.{Pass, pass_over, items_full, queue_full, store
 
 -- The rules that it reads.
 abbrev pub its_rules : Lent → List Rule
-its_rules p = rules_in p.rules.now p.count
+its_rules p = rules_of p.rules.now
 
 -- The number of a refusal.
 abbrev pub number : Full → ℕ
@@ -37,6 +37,5 @@ Kept p q =
     × (q.queue.ghost_name ≡ p.queue.ghost_name)
     × (q.store.ghost_name ≡ p.store.ghost_name)
     × (q.rules ≡ p.rules)
-    × (q.count ≡ p.count)
     × (q.starts ≡ p.starts)
     × (q.rows ≡ p.rows)

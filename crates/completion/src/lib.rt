@@ -28,7 +28,7 @@ pub struct Pair {
 impl Pass<'_> {
     // Completes a pair: nothing if the symbol is not predicted at the set.
     pub fn complete(&mut self, pair: Pair) -> Result<(), Full>
-        requires rules_fit { RulesFit (its_rules self.old) × Rowed self.old.starts.now self.old.rows.now × Chained self.old.rules.now self.old.count }
+        requires rules_fit { RulesFit (its_rules self.old) × Rowed self.old.starts.now self.old.rows.now × Chained self.old.rules.now.words self.old.rules.now.count }
         requires set { IsSet self.old.starts.now pair.set × (pair.symbol < word_bits * row_words) }
         requires pass_fits { PassFits (pass_in self.old) × Charted (its_rules self.old) self.old.starts.now (pass_in self.old) }
         ensures kept { Kept self.old self.new }

@@ -14,15 +14,15 @@ use std::ops::Range;
 impl Pass<'_> {
     // The second of the item at place `p`.
     fn second_at(&self, p: usize) -> usize
-        requires { (self.now.count ≤ max_rules) × HasPlace self.now.items.now p × (rule_at self.now.items.now p < length (its_rules self.now)) }
+        requires { (self.now.rules.now.count ≤ max_rules) × HasPlace self.now.items.now p × (rule_at self.now.items.now p < length (its_rules self.now)) }
         ensures { result ≡ second_at (its_rules self.now) self.now.items.now p }
     {
-        grammar::rules::second(self.rules, item::rule(self.items, p) as usize)
+        self.rules.second(item::rule(self.items, p) as usize)
     }
 
     // The first place from `from` on whose item's second is not below `x`, or `to`, by halves: before `low` all are below, from `high` on none is.
     fn by_halves(&self, from: usize, to: usize, x: usize) -> usize
-        requires { (self.now.count ≤ max_rules) × Searchable (its_rules self.now) self.now.items.now from to }
+        requires { (self.now.rules.now.count ≤ max_rules) × Searchable (its_rules self.now) self.now.items.now from to }
         ensures { FirstNotBelow (its_rules self.now) self.now.items.now from to x result }
     {
         let mut low = from;
@@ -41,7 +41,7 @@ impl Pass<'_> {
 
     // The same in steps that double, as most are found near `from`: before `low` all are below. Then by halves within the last step.
     fn first_not_below(&self, from: usize, to: usize, x: usize) -> usize
-        requires { (self.now.count ≤ max_rules) × Searchable (its_rules self.now) self.now.items.now from to }
+        requires { (self.now.rules.now.count ≤ max_rules) × Searchable (its_rules self.now) self.now.items.now from to }
         ensures { FirstNotBelow (its_rules self.now) self.now.items.now from to x result }
     {
         let mut low = from;
@@ -58,7 +58,7 @@ impl Pass<'_> {
 
     // Where the items whose second is `x` stand among the places `from` to `to`, which rise by their seconds.
     pub fn medial_item_set_range(&self, from: usize, to: usize, x: usize) -> Range<usize>
-        requires { (self.now.count ≤ max_rules) × Searchable (its_rules self.now) self.now.items.now from to × (x < 65536) }
+        requires { (self.now.rules.now.count ≤ max_rules) × Searchable (its_rules self.now) self.now.items.now from to × (x < 65536) }
         ensures { Found (its_rules self.now) self.now.items.now from to x result.start (result.end - result.start) }
     {
         let first = self.first_not_below(from, to, x);
@@ -68,7 +68,7 @@ impl Pass<'_> {
 
     // Queues each item of the set whose second is the symbol, with the link for its right factor.
     pub fn complete_medial_items(&mut self, pair: Pair) -> Result<(), Full>
-        requires count_le_max_rules { (self.old.count ≤ max_rules) × IsSet self.old.starts.now pair.set × (pair.symbol < 65536) }
+        requires count_le_max_rules { (self.old.rules.now.count ≤ max_rules) × IsSet self.old.starts.now pair.set × (pair.symbol < 65536) }
         requires pass_fits { PassFits (pass_in self.old) × Charted (its_rules self.old) self.old.starts.now (pass_in self.old) }
         ensures kept { Kept self.old self.new }
         ensures pass { after result self.new

@@ -4,10 +4,10 @@ ghost use Rattle.completion.specs.Pass.{store, enqueue, append};
 ghost use Rattle.completion.specs.Lent.{pass_in, after, Kept};
 ghost use Rattle.completion.specs.inner.Ready.{PassFits};
 
-use binary_heap::Pushed;
-use binary_heap::entry::ENTRY_WORDS;
+use binary_heap::entry::{ENTRY_WORDS, Entry};
 use grammar::rules::Rules;
-use node::{Node, Written};
+use item::Item;
+use node::Node;
 
 // The refusals: no place for an item, no place in the queue, no place for a node.
 #[derive(Clone, Copy, PartialEq, Eq, Debug)]
@@ -22,7 +22,6 @@ pub enum Full {
 #[derive(Drop)]
 pub struct Pass<'a> {
     pub rules: &'a Rules,
-    pub count: usize,
     pub starts: &'a [u32],
     pub rows: &'a [u64],
     pub items: &'a mut [u32],
@@ -43,7 +42,12 @@ impl Pass<'_> {
         if self.stored >= self.items.len() / item::ITEM_WORDS {
             return Err(Full::Items);
         }
-        item::write(self.items, self.stored, origin as u32, rule as u32, handle);
+        let item = Item {
+            origin: origin as u32,
+            rule: rule as u32,
+            handle,
+        };
+        item::write(self.items, self.stored, item);
         self.stored += 1;
         Ok(())
     }
@@ -57,9 +61,13 @@ impl Pass<'_> {
         let capacity = self.queue.len() / ENTRY_WORDS;
         let queued = self.queued;
         let items = &mut *self.items;
-        match binary_heap::push(items, self.queue, capacity, queued, place as u32, right) {
-            Pushed::Full => Err(Full::Queue),
-            Pushed::Count(n) => {
+        let entry = Entry {
+            place: place as u32,
+            right,
+        };
+        match binary_heap::push(items, self.queue, capacity, queued, entry) {
+            None => Err(Full::Queue),
+            Some(n) => {
                 self.queued = n;
                 Ok(())
             }
@@ -72,12 +80,11 @@ impl Pass<'_> {
         ensures pass { after result self.new ≡ append node (pass_in self.old) }
     {
         match node::write(self.store, self.used, node) {
-            Written::Behind(behind) => {
+            Ok(behind) => {
                 self.used = behind;
                 Ok(())
             }
-            Written::Unfit(_) => Err(Full::Store),
-            Written::NoRoom(_) => Err(Full::Store),
+            Err(_) => Err(Full::Store),
         }
     }
 }

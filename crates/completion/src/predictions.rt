@@ -8,32 +8,28 @@ ghost use Rattle.completion.specs.Complete.{waits, complete_unary, complete_unar
 
 use crate::Pair;
 use crate::pass::{Full, Pass};
-use grammar::chains::{head, next};
-use grammar::rules::{NONE, left, second};
+use grammar::rules::NONE;
 use node::factor::NO_FACTOR;
 
 impl Pass<'_> {
     // Whether rule `r`, which begins with the symbol, waits for it: its left side is predicted at the set.
     fn waits(&self, pair: Pair, r: usize) -> bool
-        requires { RulesFit (its_rules self.now) × HasRow self.now.rows.now pair.set × (r < self.now.count)
-            × (first_in self.now.rules.now r ≡ pair.symbol) }
+        requires { RulesFit (its_rules self.now) × HasRow self.now.rows.now pair.set × (r < self.now.rules.now.count)
+            × (first_in self.now.rules.now.words r ≡ pair.symbol) }
         ensures { result ≡ waits (its_rules self.now) self.now.rows.now pair.set pair.symbol r }
     {
-        bits::has_at(self.rows, pair.set, left(self.rules, r))
+        bits::has_at(self.rows, pair.set, self.rules.left(r))
     }
 
     // Stores and queues rule `r`, which begins with the symbol, if it waits for it alone.
     fn complete_unary(&mut self, pair: Pair, r: usize) -> Result<(), Full>
-        requires { RulesFit (its_rules self.old) × HasRow self.old.rows.now pair.set × (r < self.old.count)
-            × PassFits (pass_in self.old) × (first_in self.old.rules.now r ≡ pair.symbol) }
+        requires { RulesFit (its_rules self.old) × HasRow self.old.rows.now pair.set × (r < self.old.rules.now.count)
+            × PassFits (pass_in self.old) × (first_in self.old.rules.now.words r ≡ pair.symbol) }
         ensures kept { Kept self.old self.new }
         ensures pass { after result self.new ≡ complete_unary (its_rules self.old) self.old.rows.now
             pair.set pair.symbol pair.link r (pass_in self.old) }
     {
-        if second(self.rules, r) != NONE {
-            return Ok(());
-        }
-        if !self.waits(pair, r) {
+        if self.rules.second(r) != NONE || !self.waits(pair, r) {
             return Ok(());
         }
         let place = self.stored;
@@ -44,32 +40,29 @@ impl Pass<'_> {
     // Stores and queues each rule that waits for the symbol alone.
     pub fn complete_unary_predictions(&mut self, pair: Pair) -> Result<(), Full>
         requires { RulesFit (its_rules self.old) × HasRow self.old.rows.now pair.set × PassFits (pass_in self.old)
-            × Chained self.old.rules.now self.old.count × (pair.symbol < max_symbols) }
+            × Chained self.old.rules.now.words self.old.rules.now.count × (pair.symbol < max_symbols) }
         ensures kept { Kept self.old self.new }
         ensures pass { after result self.new ≡ complete_unary_predictions (its_rules self.old) self.old.rows.now
             pair.set pair.symbol pair.link (pass_in self.old) }
     {
-        let mut r = head(self.rules, self.count, pair.symbol);
+        let mut r = self.rules.head(pair.symbol);
         // The rules of a chain are no range: each names the next.
-        while r < self.count {
+        while r < self.rules.count {
             self.complete_unary(pair, r)?;
-            r = next(self.rules, self.count, r);
+            r = self.rules.next(r);
         }
         Ok(())
     }
 
     // Stores rule `r`, which begins with the symbol, if it waits for it and another symbol behind it.
     fn complete_binary(&mut self, pair: Pair, r: usize) -> Result<(), Full>
-        requires { RulesFit (its_rules self.old) × HasRow self.old.rows.now pair.set × (r < self.old.count)
-            × (first_in self.old.rules.now r ≡ pair.symbol) }
+        requires { RulesFit (its_rules self.old) × HasRow self.old.rows.now pair.set × (r < self.old.rules.now.count)
+            × (first_in self.old.rules.now.words r ≡ pair.symbol) }
         ensures kept { Kept self.old self.new }
         ensures pass { after result self.new ≡ complete_binary (its_rules self.old) self.old.rows.now
             pair.set pair.symbol pair.link r (pass_in self.old) }
     {
-        if second(self.rules, r) == NONE {
-            return Ok(());
-        }
-        if !self.waits(pair, r) {
+        if self.rules.second(r) == NONE || !self.waits(pair, r) {
             return Ok(());
         }
         self.store(pair.set, r, pair.link)
@@ -78,16 +71,16 @@ impl Pass<'_> {
     // Stores each rule that waits for the symbol and another symbol behind it.
     pub fn complete_binary_predictions(&mut self, pair: Pair) -> Result<(), Full>
         requires { RulesFit (its_rules self.old) × HasRow self.old.rows.now pair.set
-            × Chained self.old.rules.now self.old.count × (pair.symbol < max_symbols) }
+            × Chained self.old.rules.now.words self.old.rules.now.count × (pair.symbol < max_symbols) }
         ensures kept { Kept self.old self.new }
         ensures pass { after result self.new ≡ complete_binary_predictions (its_rules self.old) self.old.rows.now
             pair.set pair.symbol pair.link (pass_in self.old) }
     {
-        let mut r = head(self.rules, self.count, pair.symbol);
+        let mut r = self.rules.head(pair.symbol);
         // A chain, as above.
-        while r < self.count {
+        while r < self.rules.count {
             self.complete_binary(pair, r)?;
-            r = next(self.rules, self.count, r);
+            r = self.rules.next(r);
         }
         Ok(())
     }

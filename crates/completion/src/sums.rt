@@ -5,7 +5,6 @@ ghost use Rattle.binary_heap.specs.Entry.{entries_in};
 ghost use Rattle.binary_heap.specs.Sift.{entry_at};
 ghost use Rattle.grammar.specs.inner.Decoded.{Chained};
 ghost use Rattle.item.specs.Item.{item_at};
-ghost use Rattle.parse.specs.WellFormed.{left_of};
 ghost use Rattle.completion.specs.Lent.{its_rules, pass_in, after, Kept};
 ghost use Rattle.completion.specs.inner.Ready.{PassFits, UnitsFit, RulesRead};
 ghost use Rattle.completion.specs.inner.Pending.{Grounds, Pending, Rooted};
@@ -13,27 +12,18 @@ ghost use Rattle.completion.specs.Sums.{greatest, is_of, summands, product_node,
 
 use crate::Pair;
 use crate::pass::{Full, Pass};
-use binary_heap::{Popped, entry};
-use grammar::rules::left;
+use binary_heap::entry;
+use item::Item;
 use node::Node;
 use node::factor::long_right;
 
 impl Pass<'_> {
-    // The origin of the greatest entry's item.
-    fn greatest_origin(&self) -> usize
+    // The item of the greatest entry.
+    fn greatest(&self) -> Item
         requires { PassFits (pass_in self.now) × (0 < self.now.queued) }
-        ensures { result ≡ (greatest (pass_in self.now)).origin }
+        ensures { result ≡ greatest (pass_in self.now) }
     {
-        item::origin(self.items, entry::place(self.queue, 0) as usize) as usize
-    }
-
-    // Its left side.
-    fn greatest_left(&self) -> usize
-        requires { RulesRead (its_rules self.now) (pass_in self.now) × (0 < self.now.queued) }
-        ensures { result ≡ left_of (its_rules self.now) (greatest (pass_in self.now)) }
-    {
-        let place = entry::place(self.queue, 0) as usize;
-        left(self.rules, item::rule(self.items, place) as usize)
+        item::read(self.items, entry::read(self.queue, 0).place as usize)
     }
 
     // Whether the item of the entry at `pos` is of the origin and left side of a pair.
@@ -42,9 +32,8 @@ impl Pass<'_> {
         ensures { result ≡ is_of (its_rules self.now) pair.set pair.symbol
             (item_at self.now.items.now (entry_at (entries_in self.now.queue.now) pos).place) }
     {
-        let place = entry::place(self.queue, pos) as usize;
-        item::origin(self.items, place) as usize == pair.set
-            && left(self.rules, item::rule(self.items, place) as usize) == pair.symbol
+        let item = item::read(self.items, entry::read(self.queue, pos).place as usize);
+        item.origin as usize == pair.set && self.rules.left(item.rule as usize) == pair.symbol
     }
 
     // Whether the queue is empty, or its greatest entry is of another origin or left side.
@@ -81,11 +70,12 @@ impl Pass<'_> {
         requires { PassFits (pass_in self.now) × (0 < self.now.queued) }
         ensures { result ≡ product_node self.now.items.now (entry_at (entries_in self.now.queue.now) 0) }
     {
-        let place = entry::place(self.queue, 0) as usize;
+        let entry = entry::read(self.queue, 0);
+        let item = item::read(self.items, entry.place as usize);
         Node::Product {
-            action: item::rule(self.items, place),
-            left: item::handle(self.items, place),
-            right: long_right(entry::right(self.queue, 0)),
+            action: item.rule,
+            left: item.handle,
+            right: long_right(entry.right),
         }
     }
 
@@ -99,8 +89,8 @@ impl Pass<'_> {
         let queued = self.queued;
         let items = &mut *self.items;
         match binary_heap::pop(items, self.queue, queued) {
-            Popped::Empty => before,
-            Popped::Entry { left, .. } => {
+            None => before,
+            Some((_, left)) => {
                 self.queued = left;
                 before?;
                 self.append(product)
@@ -125,13 +115,14 @@ impl Pass<'_> {
     // Takes one sum off the queue, writes it, and completes its pair.
     fn complete_sum(&mut self) -> Result<(), Full>
         requires { Grounds (its_rules self.old) self.old.starts.now self.old.rows.now × Pending (its_rules self.old) self.old.starts.now (pass_in self.old)
-            × UnitsFit (pass_in self.old) × (0 < self.old.queued) × Chained self.old.rules.now self.old.count }
+            × UnitsFit (pass_in self.old) × (0 < self.old.queued) × Chained self.old.rules.now.words self.old.rules.now.count }
         ensures kept { Kept self.old self.new }
         ensures pass { after result self.new ≡ complete_sum (its_rules self.old) self.old.starts.now self.old.rows.now (pass_in self.old) }
     {
+        let greatest = self.greatest();
         let pair = Pair {
-            set: self.greatest_origin(),
-            symbol: self.greatest_left(),
+            set: greatest.origin as usize,
+            symbol: self.rules.left(greatest.rule as usize),
             link: self.used as u32,
         };
         let sum = Node::Sum {
@@ -146,7 +137,7 @@ impl Pass<'_> {
     // Completes sum after sum, until the queue is empty or something is refused.
     pub fn complete_all_sums_entirely(&mut self) -> Result<(), Full>
         requires { Grounds (its_rules self.old) self.old.starts.now self.old.rows.now × Pending (its_rules self.old) self.old.starts.now (pass_in self.old)
-            × UnitsFit (pass_in self.old) × Chained self.old.rules.now self.old.count }
+            × UnitsFit (pass_in self.old) × Chained self.old.rules.now.words self.old.rules.now.count }
         ensures kept { Kept self.old self.new }
         ensures pass { after result self.new ≡ complete_all_sums (its_rules self.old) self.old.starts.now self.old.rows.now (pass_in self.old) }
     {

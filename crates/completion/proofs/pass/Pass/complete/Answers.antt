@@ -20,7 +20,7 @@ returns-then-not-has_at-clause-pass c =
 pub complete_medial_items-requires-clause-count_le_max_rules : goal.complete_medial_items-requires-clause-count_le_max_rules
 complete_medial_items-requires-clause-count_le_max_rules c =
     let its = c.args.self.now in
-    (omega (arith, rules-length its.rules.now its.count, c.requires.rules_fit.0.few_rules), c.requires.set.0, omega (arith, c.requires.set.1))
+    (omega (arith, rules-length its.rules.now.words its.rules.now.count, c.requires.rules_fit.0.few_rules), c.requires.set.0, omega (arith, c.requires.set.1))
 
 pub returns-in_err-complete_medial_items-clause-pass : goal.returns-in_err-complete_medial_items-clause-pass
 returns-in_err-complete_medial_items-clause-pass c =
@@ -38,7 +38,7 @@ complete_unary_predictions-requires c =
     let required = c.requires in
     let medial = c.in_ok-complete_medial_items.ensures in
     let sound = subst PassFits (sym medial.pass) (medials_sound (its_rules its) its.starts.now pair.set pair.symbol pair.link (pass_in its) required.pass_fits.0 required.pass_fits.1) in
-    rw (medial.kept.3, medial.kept.4, medial.kept.6)
+    rw (medial.kept.3, medial.kept.5)
     (required.rules_fit.0, has-row its.starts.now its.rows.now pair.set required.rules_fit.1 required.set.0, sound, required.rules_fit.2, required.set.1)
 
 pub returns-in_err-complete_unary_predictions-clause-pass : goal.returns-in_err-complete_unary_predictions-clause-pass
@@ -46,7 +46,7 @@ returns-in_err-complete_unary_predictions-clause-pass c =
     let its = c.args.self.now in
     let pair = c.args.pair in
     let medial = c.in_ok-complete_medial_items.ensures in
-    let step = rw (medial.kept.3, medial.kept.4, medial.kept.6) at c.in_err-complete_unary_predictions.ensures.pass in
+    let step = rw (medial.kept.3, medial.kept.5) at c.in_err-complete_unary_predictions.ensures.pass in
     let exit = c.from_residual-in_err-complete_unary_predictions in
     let p = err_from_is_err_and exit.result exit.ensures.1 in
     rw (p.1, p.2)
@@ -60,8 +60,8 @@ returns-clause-pass c =
     let medial = c.in_ok-complete_medial_items.ensures in
     let unary = c.in_ok-complete_unary_predictions.ensures in
     let kept = kept_trans its c.complete_medial_items.new.self c.complete_unary_predictions.new.self medial.kept unary.kept in
-    let second = rw (medial.kept.3, medial.kept.4, medial.kept.6) at unary.pass in
-    let third = rw (kept.3, kept.4, kept.6) at c.complete_binary_predictions.ensures.pass in
+    let second = rw (medial.kept.3, medial.kept.5) at unary.pass in
+    let third = rw (kept.3, kept.5) at c.complete_binary_predictions.ensures.pass in
     third
     ∙ ap (complete_binary_predictions (its_rules its) its.rows.now pair.set pair.symbol pair.link)
     (second ∙ ap (complete_unary_predictions (its_rules its) its.rows.now pair.set pair.symbol pair.link) medial.pass)

@@ -11,9 +11,9 @@ abbrev pub invariant-loop-r : goal.invariant-loop-r
 invariant-loop-r l =
     let its = l.fn.self in
     Kept its l.self
-    × (l.r ≤ its.count)
-    × (l.r < its.count → first_in its.rules.now l.r ≡ l.pair.symbol)
+    × (l.r ≤ its.rules.now.count)
+    × (l.r < its.rules.now.count → first_in its.rules.now.words l.r ≡ l.pair.symbol)
     × (pass_in l.self ≡ over l.r (complete_binary (its_rules its) its.rows.now l.pair.set l.pair.symbol l.pair.link) (pass_in its))
 
 abbrev pub decreases-loop-r : goal.decreases-loop-r
-decreases-loop-r l = l.fn.self.count - l.r
+decreases-loop-r l = l.fn.self.rules.now.count - l.r

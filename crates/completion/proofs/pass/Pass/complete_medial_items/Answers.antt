@@ -22,7 +22,7 @@ medial_item_set_range-place-items-requires c =
 pub loop-place-init : goal.loop-place-init
 loop-place-init c =
     let range = c.into_iter-place-iterator.result in (
-      (refl, refl, refl, refl, refl, refl, refl),
+      (refl, refl, refl, refl, refl, refl),
       omega arith,
       omega arith,
       refl,

@@ -16,11 +16,11 @@ pub loop-r-init : goal.loop-r-init
 loop-r-init c =
     let its = c.args.self.now in
     let pair = c.args.pair in (
-      (refl, refl, refl, refl, refl, refl, refl),
+      (refl, refl, refl, refl, refl, refl),
       c.head-r.ensures.up_to,
       c.head-r.ensures.begins,
-      walk_begins its.rules.now its.count pair.symbol (complete_unary (its_rules its) its.rows.now pair.set pair.symbol pair.link)
-          (λ r s there differs. unary-other its.rules.now its.count its.rows.now pair.set pair.symbol pair.link r s there differs)
+      walk_begins its.rules.now.words its.rules.now.count pair.symbol (complete_unary (its_rules its) its.rows.now pair.set pair.symbol pair.link)
+          (λ r s there differs. unary-other its.rules.now.words its.rules.now.count its.rows.now pair.set pair.symbol pair.link r s there differs)
           _ (pass_in its) c.head-r.ensures,
     )
 
@@ -31,9 +31,9 @@ complete_unary-requires c =
     let required = c.requires in
     let looped = c.loop-r in
     let kept = looped.invariant.0 in
-    let there = rw kept.4 at c.loop-r-test.true in
+    let there = rw kept.3 at c.loop-r-test.true in
     let sound = subst PassFits (sym looped.invariant.3) (unaries_sound (its_rules its) its.rows.now pair.set pair.symbol pair.link looped.r (pass_in its) required.2) in
-    rw (kept.3, kept.4, kept.6) (required.0, required.1, there, sound, looped.invariant.2 there)
+    rw (kept.3, kept.5) (required.0, required.1, there, sound, looped.invariant.2 there)
 
 pub returns-in_err-complete_unary-clause-pass : goal.returns-in_err-complete_unary-clause-pass
 unfolding complete_unary_predictions
@@ -42,23 +42,23 @@ returns-in_err-complete_unary-clause-pass c =
     let pair = c.args.pair in
     let looped = c.loop-r in
     let kept = looped.invariant.0 in
-    let there = rw kept.4 at c.loop-r-test.true in
-    let step = rw (kept.3, kept.4, kept.6) at c.in_err-complete_unary.ensures.pass in
+    let there = rw kept.3 at c.loop-r-test.true in
+    let step = rw (kept.3, kept.5) at c.in_err-complete_unary.ensures.pass in
     let p = err_from_is_err_and c.from_residual.result c.from_residual.ensures.1 in
     rw (p.1, p.2)
     (turns_stopped (complete_unary (its_rules its) its.rows.now pair.set pair.symbol pair.link)
     (λ r s stopped. unary-stopped (its_rules its) its.rows.now pair.set pair.symbol r pair.link s stopped)
-    looped.r (length (its_rules its)) (pass_in its) (pass_in looped.self) _ (omega (arith, rules-length its.rules.now its.count)) looped.invariant.3 (is_refusal _) step)
+    looped.r (length (its_rules its)) (pass_in its) (pass_in looped.self) _ (omega (arith, rules-length its.rules.now.words its.rules.now.count)) looped.invariant.3 (is_refusal _) step)
 
 pub next-r-requires : goal.next-r-requires
 next-r-requires c =
     let its = c.args.self.now in
     let kept = kept_trans its c.loop-r.self c.complete_unary.new.self c.loop-r.invariant.0 c.in_ok-complete_unary.ensures.kept in
-    let there = rw c.loop-r.invariant.0.4 at c.loop-r-test.true in
-    rw (kept.3, kept.4) (c.requires.3, there, omega (arith, rules-length its.rules.now its.count, c.requires.0.few_rules))
+    let there = rw c.loop-r.invariant.0.3 at c.loop-r-test.true in
+    rw kept.3 (c.requires.3, there, omega (arith, rules-length its.rules.now.words its.rules.now.count, c.requires.0.few_rules))
 
 pub loop-r-smaller : goal.loop-r-smaller
-loop-r-smaller c = omega (arith, c.next-r.ensures.from_on, c.loop-r-test.true, c.loop-r.invariant.0.4)
+loop-r-smaller c = omega (arith, c.next-r.ensures.from_on, rw c.loop-r.invariant.0.3 at c.loop-r-test.true)
 
 pub loop-r-preserved : goal.loop-r-preserved
 loop-r-preserved c =
@@ -67,15 +67,15 @@ loop-r-preserved c =
     let looped = c.loop-r in
     let before = looped.invariant.0 in
     let kept = kept_trans its looped.self c.complete_unary.new.self before c.in_ok-complete_unary.ensures.kept in
-    let there = rw before.4 at c.loop-r-test.true in
+    let there = rw before.3 at c.loop-r-test.true in
     let begins = looped.invariant.2 there in
-    let first = rw (kept.3, kept.4) at c.next-r.ensures in
-    let step = rw (before.3, before.4, before.6) at c.in_ok-complete_unary.ensures.pass in (
+    let first = rw kept.3 at c.next-r.ensures in
+    let step = rw (before.3, before.5) at c.in_ok-complete_unary.ensures.pass in (
       kept,
       first.up_to,
       λ more. first.begins more ∙ begins,
-      walk-next its.rules.now its.count pair.symbol (complete_unary (its_rules its) its.rows.now pair.set pair.symbol pair.link)
-          (λ r s there differs. unary-other its.rules.now its.count its.rows.now pair.set pair.symbol pair.link r s there differs)
+      walk-next its.rules.now.words its.rules.now.count pair.symbol (complete_unary (its_rules its) its.rows.now pair.set pair.symbol pair.link)
+          (λ r s there differs. unary-other its.rules.now.words its.rules.now.count its.rows.now pair.set pair.symbol pair.link r s there differs)
           looped.r _ (pass_in its) (pass_in looped.self) _ begins first looped.invariant.3 step,
     )
 
@@ -85,5 +85,5 @@ returns-clause-pass c =
     let its = c.args.self.now in
     let pair = c.args.pair in
     let looped = c.loop-r in
-    let all : looped.r ≡ length (its_rules its) = omega (arith, looped.invariant.0.4, looped.invariant.1, c.loop-r-test.false, rules-length its.rules.now its.count) in
+    let all : looped.r ≡ length (its_rules its) = omega (arith, looped.invariant.1, rw looped.invariant.0.3 at c.loop-r-test.false, rules-length its.rules.now.words its.rules.now.count) in
     looped.invariant.3 ∙ ap (λ (n : ℕ). over n (complete_unary (its_rules its) its.rows.now pair.set pair.symbol pair.link) (pass_in its)) all

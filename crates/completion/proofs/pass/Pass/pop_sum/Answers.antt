@@ -15,12 +15,12 @@ use Rattle.completion.proofs.pass.Pass.pop_sum.Goals as goal
 
 pub loop-pair-init : goal.loop-pair-init
 unfolding pop_sum
-loop-pair-init c = ((refl, refl, refl, refl, refl, refl, refl), refl, read_stopped (stopped_by c.args.before) _ c.requires)
+loop-pair-init c = ((refl, refl, refl, refl, refl, refl), refl, read_stopped (stopped_by c.args.before) _ c.requires)
 
 pub sum_ends-requires : goal.sum_ends-requires
 sum_ends-requires c =
     let kept = c.loop-pair.invariant.0 in
-    rw (kept.3, kept.4) (read_stopped 0 _ c.loop-pair.invariant.2)
+    rw kept.3 (read_stopped 0 _ c.loop-pair.invariant.2)
 
 pub next_summand-now-requires : goal.next_summand-now-requires
 next_summand-now-requires c =
@@ -28,7 +28,7 @@ next_summand-now-requires c =
     let its = given.self.now in
     let looped = c.loop-pair in
     let u = after looped.now looped.self in
-    let asked = rw (looped.invariant.0.3, looped.invariant.0.4) at c.sum_ends.ensures in
+    let asked = rw looped.invariant.0.3 at c.sum_ends.ensures in
     let on : sum_ends (its_rules its) given.pair.set given.pair.symbol u ≡ false = sym asked ∙ c.loop-pair-test.true in
     ((read_stopped 0 u looped.invariant.2).sound, sum_goes (its_rules its) given.pair.set given.pair.symbol u on)
 
@@ -38,7 +38,7 @@ loop-pair-smaller c =
     let its = given.self.now in
     let looped = c.loop-pair in
     let u = after looped.now looped.self in
-    let asked = rw (looped.invariant.0.3, looped.invariant.0.4) at c.sum_ends.ensures in
+    let asked = rw looped.invariant.0.3 at c.sum_ends.ensures in
     let on : sum_ends (its_rules its) given.pair.set given.pair.symbol u ≡ false = sym asked ∙ c.loop-pair-test.true in
     omega (arith, ap (λ (s : Pass). s.at.queued) c.next_summand-now.ensures.pass, next_queued u, sum_goes (its_rules its) given.pair.set given.pair.symbol u on)
 
@@ -49,7 +49,7 @@ loop-pair-preserved c =
     let looped = c.loop-pair in
     let taken = c.next_summand-now in
     let u = after looped.now looped.self in
-    let asked = rw (looped.invariant.0.3, looped.invariant.0.4) at c.sum_ends.ensures in
+    let asked = rw looped.invariant.0.3 at c.sum_ends.ensures in
     let on : sum_ends (its_rules its) given.pair.set given.pair.symbol u ≡ false = sym asked ∙ c.loop-pair-test.true in
     let some = sum_goes (its_rules its) given.pair.set given.pair.symbol u on in (
       kept_trans its looped.self taken.new.self looped.invariant.0 taken.ensures.kept,
@@ -62,6 +62,6 @@ returns-clause-pass c =
     let given = c.args in
     let its = given.self.now in
     let looped = c.loop-pair in
-    let asked = rw (looped.invariant.0.3, looped.invariant.0.4) at c.sum_ends.ensures in
+    let asked = rw looped.invariant.0.3 at c.sum_ends.ensures in
     sym (until-rests (sum_ends (its_rules its) given.pair.set given.pair.symbol) next_summand looped.self.queued (after looped.now looped.self)
     (sym asked ∙ c.loop-pair-test.false)) ∙ looped.invariant.1

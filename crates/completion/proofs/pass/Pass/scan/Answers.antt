@@ -32,14 +32,14 @@ complete-requires-clause-pass_fits c =
     let written = c.in_ok-append.ensures in
     let begun = subst (Steady rs its.starts.now (pass_in its)) (sym written.pass)
     (steady_append rs its.starts.now (pass_in its) (Evaluated c.args.kind) (pass_in its) (steady_refl rs its.starts.now (pass_in its) c.requires.pass_fits.0 c.requires.pass_fits.2)) in
-    rw (written.kept.3, written.kept.4, written.kept.5) (begun.sound, begun.charted)
+    rw (written.kept.3, written.kept.4) (begun.sound, begun.charted)
 
 pub returns-clause-pass : goal.returns-clause-pass
 returns-clause-pass c =
     let its = c.args.self.now in
     let kind = c.args.kind in
     let written = c.in_ok-append.ensures in
-    let completed = rw (written.kept.3, written.kept.4, written.kept.5, written.kept.6) at c.complete.ensures.pass in
+    let completed = rw (written.kept.3, written.kept.4, written.kept.5) at c.complete.ensures.pass in
     completed
     ∙ ap (complete (its_rules its) its.starts.now its.rows.now c.args.e kind its.used) written.pass
     ∙ sym (scan_on (its_rules its) its.starts.now its.rows.now c.args.e kind (pass_in its) (sym c.has_at.ensures ∙ c.if-not-has_at.false))

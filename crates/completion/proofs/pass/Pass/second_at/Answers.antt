@@ -5,10 +5,10 @@ use Rattle.completion.proofs.pass.Pass.second_at.Goals as goal
 
 pub second-requires : goal.second-requires
 second-requires c =
-    omega (arith, c.rule.ensures, c.requires.2, rules-length c.args.self.now.rules.now c.args.self.now.count, c.requires.0)
+    omega (arith, c.rule.ensures, c.requires.2, rules-length c.args.self.now.rules.now.words c.args.self.now.rules.now.count, c.requires.0)
 
 pub returns : goal.returns
 returns c =
     let its = c.args.self.now in
-    second-read its.rules.now its.count its.items.now c.args.p _ _ c.rule.ensures
-    (omega (arith, c.requires.2, rules-length its.rules.now its.count)) c.second.ensures.0
+    second-read its.rules.now.words its.rules.now.count its.items.now c.args.p _ _ c.rule.ensures
+    (omega (arith, c.requires.2, rules-length its.rules.now.words its.rules.now.count)) c.second.ensures.0
