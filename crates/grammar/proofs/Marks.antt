@@ -2,15 +2,18 @@
 use mathlib.Core.Path.{◌≡◌, sym, ap, subst, ◌∙◌}
 use mathlib.Core.Logic.{◌⊎◌, inl, inr, ⊎_elim}
 use mathlib.Core.Bool.{Bool, true, false, not}
-use mathlib.Core.List.{List}
-use Prim.Native.Nat.{ℕ, ◌+◌, ◌≤◌, ◌<◌}
+use mathlib.Core.List.{List, ◌++◌}
+use Rattle.std.specs.Bool.{MatchBool}
+use Rattle.std.specs.List.{AllWithin, HoldsAt}
+use Prim.Native.Nat.{ℕ, ◌+◌, ◌-◌, ◌≤◌, ◌<◌}
 use native.Mathlib.Decide.{ℕ_discrete, dec_lt}
 use native.Mathlib.Omega.{arith}
 use borrow.Author.Count.{below_more}
 use borrow.Author.Tests.{not-true, not-false}
-use lib.ListN.{length, get_or, set, replicate, length-set, length-replicate, get_or-replicate, get_or-eq_default}
+use lib.ListN.{length, get_or, set, take, drop, replicate, length-set, length-replicate, get_or-replicate, get_or-eq_default}
+use Rattle.std.proofs.lemmas.List.{length-append, length-drop, length-take-le, get_or-take, get_or-drop, get_or_append_left, get_or-append_right}
 use lib.Seq.{get_or-set_same, get_or-set_other}
-use Rattle.laws.proofs.Decides.{true_false, false_true, decides_map}
+use Rattle.laws.proofs.Decides.{true_false, false_true, decides_map, says_yes_lem, says_no}
 use Rattle.grammar.specs.Accepted.{max_symbols}
 use Rattle.grammar.specs.inner.Checking.{Marked, LeftBelow, Met, TokensMarked, AllMarked, LowSymbols, RightMarked, Fires, Spreads, Last}
 use Rattle.grammar.specs.Rules.{none}
@@ -43,19 +46,24 @@ mark_kept marks a b m l = elim (ℕ_discrete b a) [
 pub mark_old : (marks : List Bool) (a b : ℕ) → Marked (set marks a true) b → (b ≡ a) ⊎ Marked marks b
 mark_old marks a b m = elim (ℕ_discrete b a) [ yes e ↦ inl e | no n ↦ inr (sym (get_or-set_other marks a b true false n) ∙ m) ]
 
--- One token more.
-pub more-tokens : (marks : List Bool) (t : ℕ) → t < max_symbols → TokensMarked t marks → TokensMarked (t + 1) (set marks t true)
-more-tokens marks t l h = record {
-  long = length-set marks t true ∙ h.long;
-  token = below_more _ _ (λ a m. mark_kept marks t a (h.token a m) (omega (arith, h.long))) (mark_new marks t (omega (arith, h.long)));
-  no_other = λ a m. ⊎_elim (λ (e : a ≡ t). omega arith) (λ (o : Marked marks a). up a (h.no_other a o)) (mark_old marks t a m);
+-- The tokens' marks, set all at once.
+pub tokens_filled : (n t : ℕ) (marks : List Bool) → n ≡ max_symbols → t ≤ n → marks ≡ replicate (length (take t (replicate n false))) true
+    → TokensMarked t (marks ++ drop t (replicate n false))
+tokens_filled n t marks all few e = record {
+  long = length-append marks (drop t (replicate n false)) ∙ omega (arith, long, length-drop t (replicate n false), length-replicate {A = Bool} n false);
+  token = λ a l. get_or_append_left marks (drop t (replicate n false)) false a (omega (arith, long)) ∙ ap (λ (m : List Bool). get_or m a false) e
+      ∙ get_or-replicate (length (take t (replicate n false))) a true false (omega (arith, taken));
+  no_other = λ a m. elim (dec_lt a t) [
+    | yes l ↦ l
+    | no k ↦ absurd (unmarked_at n (t + (a - t)) (sym (get_or-append_right marks (drop t (replicate n false)) t a false long (omega arith) ∙ get_or-drop t (replicate n false) (a - t) false) ∙ m))
+  ];
 }
   where
-    up : (a : ℕ) → a < t → a < t + 1
-    up a x = omega arith
+    taken : length (take t (replicate n false)) ≡ t
+    taken = length-take-le t (replicate n false) (omega (arith, length-replicate {A = Bool} n false))
 
-pub last-token : (marks : List Bool) (a t : ℕ) → TokensMarked a marks → a ≤ t → t ≤ a → TokensMarked t marks
-last-token marks a t h l m = subst (λ (x : ℕ). TokensMarked x marks) (omega arith) h
+    long : length marks ≡ t
+    long = ap length e ∙ length-replicate {A = Bool} (length (take t (replicate n false))) true ∙ taken
 
 -- No left side is met before rule 0, and then one rule's after the other's.
 pub none_met : (words : List ℕ) → Met words 0 (replicate max_symbols false)
@@ -73,26 +81,21 @@ more-met words marks r a h e l = record {
     older : (b : ℕ) → LeftBelow words r b → LeftBelow words (r + 1) b
     older b old = record { rule = old.rule; below = omega (arith, old.below); is = old.is }
 
--- All from `from` on are marked, one after the other.
-pub none_marked : (marks : List Bool) (from : ℕ) → AllMarked marks from from
-none_marked marks from = record { marked = λ a l m. absurd (omega arith) }
+-- A part of the marks is looked through up to the first that is not set.
+module _ (marks : List Bool) (from to : ℕ) (order : from ≤ to) (there : to ≤ length marks) where
+  abbrev part : List Bool
+  part = take (to - from) (drop from marks)
 
-pub more-marked : (marks : List Bool) (from a : ℕ) → AllMarked marks from a → Marked marks a → AllMarked marks from (a + 1)
-more-marked marks from a h m = record {
-  marked = λ b l u. elim (ℕ_discrete b a) [
-    | yes e ↦ subst (λ (x : ℕ). Marked marks x) (sym e) m
-    | no n ↦ h.marked b l (lower b u n)
-  ];
-}
-  where
-    lower : (b : ℕ) → b < a + 1 → (b ≡ a → ⊥) → b < a
-    lower b u n = omega arith
+  part-long : length part ≡ to - from
+  part-long = length-take-le (to - from) (drop from marks) (omega (arith, length-drop from marks))
 
-pub last-marked : (marks : List Bool) (from a to : ℕ) → AllMarked marks from a → to ≤ a → AllMarked marks from to
-last-marked marks from a to h l = record { marked = λ b m u. h.marked b m (omega arith) }
+  part_at : (k : ℕ) → k < to - from → get_or part k false ≡ get_or marks (from + k) false
+  part_at k l = get_or-take (to - from) (drop from marks) k false l ∙ get_or-drop from marks k false
 
-pub one_unmarked : (marks : List Bool) (from a to : ℕ) → from ≤ a → a < to → get_or marks a false ≡ false → AllMarked marks from to → ⊥
-one_unmarked marks from a to l u m h = true_false (sym (h.marked a l u) ∙ m)
+  pub part-marked : (answer : Bool) → MatchBool answer (AllWithin (λ m. m ≡ true) part 0 (length part)) ((k : ℕ) × (k < length part) × HoldsAt (λ m. m ≡ false) part k)
+      → Decides answer (AllMarked marks from to)
+  part-marked true h = says_yes_lem (record { marked = λ a low high. ap (λ (k : ℕ). get_or marks k false) (omega arith) ∙ sym (part_at (a - from) (omega arith)) ∙ h (a - from) false (omega arith) (omega (arith, part-long)) })
+  part-marked false h = says_no (λ all. true_false (sym (all.marked (from + h.0) (omega arith) (omega (arith, h.1, part-long))) ∙ sym (part_at h.0 (omega (arith, h.1, part-long))) ∙ h.2 false))
 
 -- A right side is not marked where its first symbol is not; where that is, it is where its last symbol is.
 pub right_not : (words : List ℕ) (marks : List Bool) (r b : ℕ) → b ≡ first_in words r → get_or marks b false ≡ false → RightMarked words marks r → ⊥

@@ -20,13 +20,8 @@ pub fn right_marked(rules: &Rules, marks: &Marks, r: usize) -> bool
 
 // Whether all symbols from `from` up to `to` are marked.
 pub fn all_marked(marks: &Marks, from: usize, to: usize) -> bool
-    requires { to ≤ max_symbols }
+    requires { (from ≤ to) × (to ≤ max_symbols) }
     ensures { Decides result (AllMarked marks.now from to) }
 {
-    for a in from..to {
-        if !marks[a] {
-            return false;
-        }
-    }
-    true
+    marks[from..to].iter().all(|mark| *mark)
 }

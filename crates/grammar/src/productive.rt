@@ -16,9 +16,7 @@ fn mark_tokens(t: usize) -> Marks
     ensures { TokensMarked t result }
 {
     let mut marks = [false; SYMBOLS];
-    for a in 0..t {
-        marks[a] = true;
-    }
+    marks[..t].fill(true);
     marks
 }
 

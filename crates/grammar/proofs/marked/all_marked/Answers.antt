@@ -1,17 +1,11 @@
-use Rattle.laws.proofs.Decides.{says_yes_lem, says_no}
-use Rattle.grammar.proofs.Marks.{none_marked, more-marked, last-marked, one_unmarked}
-use native.Mathlib.Omega.{arith}
+-- `grammar::marked::all_marked` meets its contract.
+use Rattle.std.proofs.Common.{rules, arith, true, false, ◌≡◌}
+use borrow.Author.Tests.{tests}
+use Rattle.std.proofs.lemmas.Iterator.{cases_from_all, YieldsList-from_slice}
+use Rattle.grammar.proofs.Marks.{part-marked}
 use Rattle.grammar.proofs.marked.all_marked.Goals as goal
 
-pub loop-a-init : goal.loop-a-init
-loop-a-init c = (omega arith, none_marked _ _)
-
-pub returns-then-not-marks-a : goal.returns-then-not-marks-a
-returns-then-not-marks-a c =
-    says_no (one_unmarked _ _ _ _ c.loop-a.invariant.0 c.loop-a-test.true (c.if-not-marks-a.true))
-
-pub loop-a-preserved : goal.loop-a-preserved
-loop-a-preserved c = (omega arith, more-marked _ _ _ c.loop-a.invariant.1 (c.if-not-marks-a.false))
-
 pub returns : goal.returns
-returns c = says_yes_lem (last-marked _ _ _ _ c.loop-a.invariant.1 c.loop-a-test.false)
+returns c =
+    part-marked _ _ _ c.requires.0 (omega (arith, c.told-marks, c.requires.1)) _
+    (cases_from_all _ _ _ (λ m. m ≡ true) (λ m. m ≡ false) c.all.ensures.ran (YieldsList-from_slice _ c.iter.ensures.rest) (λ x q k. search (rules, tests)) (λ x q k. search (rules, tests)))
