@@ -186,17 +186,6 @@ more-decoded file i a b c before after h ea eb ec p = record {
   rest = λ k behind. p.rest k (omega (arith, p.counted, h.counted)) ∙ h.rest k (omega arith);
 }
 
--- With all rules decoded the words hold the file's rules.
-pub all-decoded : (file : List ℕ) (rules : Rules) → Decoding file rules (rule_count_of file) → DecodedRules file rules.words × (rules.count ≡ rule_count_of file)
-all-decoded file rules h = (
-  record {
-    long = h.long;
-    rules = ap (λ (l : List Rule). record { symbols = symbols_of file; tokens = tokens_of file; rules = l }) (ap (rules_in rules.words) (sym h.counted) ∙ h.same);
-    rest = h.rest;
-  },
-  h.counted,
-)
-
 -- With the chains put in they hold the file's rules still.
 pub linked_holds : (file words linked : List ℕ) (count : ℕ) → rule_count_of file ≤ max_rules → count ≡ rule_count_of file → DecodedRules file words → Links count words linked
     → HoldsRules file linked

@@ -1,7 +1,7 @@
 -- Marks, one a symbol.
 use mathlib.Core.Path.{◌≡◌, sym, ap, subst, ◌∙◌}
 use mathlib.Core.Logic.{◌⊎◌, inl, inr, ⊎_elim}
-use mathlib.Core.Bool.{Bool, true, false, not}
+use mathlib.Core.Bool.{Bool, true, false}
 use mathlib.Core.List.{List, ◌++◌}
 use Rattle.std.specs.Bool.{MatchBool}
 use Rattle.std.specs.List.{AllWithin, HoldsAt}
@@ -9,13 +9,12 @@ use Prim.Native.Nat.{ℕ, ◌+◌, ◌-◌, ◌≤◌, ◌<◌}
 use native.Mathlib.Decide.{ℕ_discrete, dec_lt}
 use native.Mathlib.Omega.{arith}
 use borrow.Author.Count.{below_more}
-use borrow.Author.Tests.{not-true, not-false}
 use lib.ListN.{length, get_or, set, take, drop, replicate, length-set, length-replicate, get_or-replicate, get_or-eq_default}
 use Rattle.std.proofs.lemmas.List.{length-append, length-drop, length-take-le, get_or-take, get_or-drop, get_or_append_left, get_or-append_right}
 use lib.Seq.{get_or-set_same, get_or-set_other}
 use Rattle.laws.proofs.Decides.{true_false, false_true, decides_map, says_yes_lem, says_no}
 use Rattle.grammar.specs.Accepted.{max_symbols}
-use Rattle.grammar.specs.inner.Checking.{Marked, LeftBelow, Met, TokensMarked, AllMarked, LowSymbols, RightMarked, Fires, Spreads, Last}
+use Rattle.grammar.specs.inner.Checking.{Marked, LeftBelow, Met, TokensMarked, AllMarked, LowSymbols, RightMarked, Fires, Last}
 use Rattle.grammar.specs.Rules.{none}
 use Rattle.grammar.specs.inner.Decoded.{left_in, first_in, second_in}
 use Rattle.laws.specs.Decides.{Decides}
@@ -98,9 +97,6 @@ module _ (marks : List Bool) (from to : ℕ) (order : from ≤ to) (there : to �
   part-marked false h = says_no (λ all. true_false (sym (all.marked (from + h.0) (omega arith) (omega (arith, h.1, part-long))) ∙ sym (part_at h.0 (omega (arith, h.1, part-long))) ∙ h.2 false))
 
 -- A right side is not marked where its first symbol is not; where that is, it is where its last symbol is.
-pub right_not : (words : List ℕ) (marks : List Bool) (r b : ℕ) → b ≡ first_in words r → get_or marks b false ≡ false → RightMarked words marks r → ⊥
-right_not words marks r b e m h = true_false (sym h.first ∙ ap (λ (x : ℕ). get_or marks x false) (sym e) ∙ m)
-
 pub right-last : (words : List ℕ) (marks : List Bool) (r b d : ℕ) → b ≡ first_in words r → get_or marks b false ≡ true → Last words r d
     → Decides (get_or marks d false) (RightMarked words marks r)
 right-last words marks r b d e mb last = record {
@@ -115,26 +111,12 @@ right-last words marks r b d e mb last = record {
 }
 
 -- Rule `r` does not fire where its left side is marked; where that is not, it fires where its right side is marked.
-pub fires_not : (words : List ℕ) (marks : List Bool) (r a : ℕ) → a ≡ left_in words r → get_or marks a false ≡ true → Fires words marks r → ⊥
-fires_not words marks r a e m f = f.left (subst (λ (x : ℕ). Marked marks x) e m)
-
 pub fires_right : (words : List ℕ) (marks : List Bool) (r a : ℕ) (answer : Bool) → a ≡ left_in words r → get_or marks a false ≡ false
     → Decides answer (RightMarked words marks r) → Decides answer (Fires words marks r)
 fires_right words marks r a answer e m = decides_map (λ h. record { left = still; right = h }) (λ f. f.right)
   where
     still : Marked marks (left_in words r) → ⊥
     still x = true_false (sym x ∙ ap (λ (x : ℕ). get_or marks x false) (sym e) ∙ m)
-
--- Rule `r` does not spread where its left side is not marked; where that is, it spreads where its right side is not.
-pub spreads_not : (words : List ℕ) (marks : List Bool) (r a : ℕ) → a ≡ left_in words r → get_or marks a false ≡ false → Spreads words marks r → ⊥
-spreads_not words marks r a e m s = true_false (sym s.left ∙ ap (λ (x : ℕ). get_or marks x false) (sym e) ∙ m)
-
-pub spreads_right : (words : List ℕ) (marks : List Bool) (r a : ℕ) (answer : Bool) → a ≡ left_in words r → get_or marks a false ≡ true
-    → Decides answer (RightMarked words marks r) → Decides (not answer) (Spreads words marks r)
-spreads_right words marks r a answer e m d = record {
-  if_yes = λ x. record { left = subst (λ (x : ℕ). Marked marks x) e m; right = d.if_no (not-true answer x) };
-  if_no = λ x s. s.right (d.if_yes (not-false answer x));
-}
 
 -- The last symbol is low.
 pub low-last : (words : List ℕ) (r d : ℕ) → LowSymbols words (r + 1) → Last words r d → d < max_symbols

@@ -58,7 +58,11 @@ fn accepted(grammar: &Grammar) -> bool
     requires { Sized grammar.now.symbols grammar.now.tokens grammar.now.rules.count }
     ensures { Decides result (asked.Accepted (decoded grammar.now)) }
 {
-    wraps(grammar) && ruled(grammar) && !equal_pair(&grammar.rules) && all_productive(grammar) && all_reachable(grammar)
+    wraps(grammar)
+        && ruled(grammar)
+        && !equal_pair(&grammar.rules)
+        && all_productive(grammar)
+        && all_reachable(grammar)
 }
 
 // The check of any bytes. The rules of an accepted file are left in `grammar`, linked, so that no call decodes its file again.
