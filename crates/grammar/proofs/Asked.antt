@@ -1,21 +1,9 @@
 -- Each condition of the check as the code comes to it.
-use mathlib.Core.Path.{◌≡◌}
 use mathlib.Core.List.{List}
-use Prim.Native.Nat.{ℕ, ◌+◌, ◌*◌, ◌≤◌, ◌<◌}
+use Prim.Native.Nat.{ℕ, ◌+◌, ◌<◌}
 use native.Mathlib.Omega.{arith}
 use borrow.Author.Count.{below_more}
-use lib.ListN.{length}
-use Rattle.grammar.specs.File.{version_of, length_of, rule_count_of, header_bytes, rule_bytes, Malformed}
-use Rattle.grammar.specs.File.Malformed.{short, version, real_length, told_length}
 use Rattle.grammar.specs.inner.Checking.{Drawn, Adjoins, Precedes, Ruled, Same}
-
--- A file that passes the four tests is not malformed.
-pub well_formed : (file : List ℕ) → header_bytes ≤ length file → version_of file ≡ 1 → length_of file ≡ length file
-    → length_of file ≡ header_bytes + rule_bytes * rule_count_of file → Malformed file → ⊥
-well_formed file a b c d (short x) = omega arith
-well_formed file a b c d (version x) = x b
-well_formed file a b c d (real_length x) = x c
-well_formed file a b c d (told_length x) = x d
 
 -- Every rule from 1 to `r` is as asked, one after the other.
 pub ruled_none : (words : List ℕ) (n t : ℕ) → Ruled words n t 1
@@ -28,20 +16,9 @@ ruled-more words n t r h d a p = record {
   precedes = λ q z m. below_more (λ k. 0 < k → Precedes words k) r (λ k l u. h.precedes k u l) (λ u. p) q m z;
 }
 
-pub ruled-last : (words : List ℕ) (n t r count : ℕ) → Ruled words n t r → count ≤ r → Ruled words n t count
-ruled-last words n t r count h l = record {
-  drawn = λ q z m. h.drawn q z (omega arith);
-  adjoins = λ q z m. h.adjoins q z (omega arith);
-  precedes = λ q z m. h.precedes q z (omega arith);
-}
-
 -- A search among all pairs: no pair below rule `r` is equal, and none of `q` lower rules equals rule `r`.
 pub record PairsPassed (words : List ℕ) (r : ℕ) : Type 0 where
   pub passed : (h : ℕ) → h < r → (k : ℕ) → k < h → Same words k h → ⊥
 
 pub record RowPassed (words : List ℕ) (r q : ℕ) : Type 0 where
   pub passed : (k : ℕ) → k < q → Same words k r → ⊥
-
--- Nothing is passed at first.
-pub no_row : (words : List ℕ) (r : ℕ) → RowPassed words r 0
-no_row words r = record { passed = λ k l. absurd (omega arith) }

@@ -12,9 +12,9 @@ use borrow.Author.Count.{below_more}
 use lib.ListN.{length, get_or, set, take, drop, replicate, length-set, length-replicate, get_or-replicate, get_or-eq_default}
 use Rattle.std.proofs.lemmas.List.{length-append, length-drop, length-take-le, get_or-take, get_or-drop, get_or_append_left, get_or-append_right}
 use lib.Seq.{get_or-set_same, get_or-set_other}
-use Rattle.laws.proofs.Decides.{true_false, false_true, decides_map, says_yes_lem, says_no}
+use Rattle.laws.proofs.Decides.{true_false, false_true, says_yes_lem, says_no}
 use Rattle.grammar.specs.Accepted.{max_symbols}
-use Rattle.grammar.specs.inner.Checking.{Marked, LeftBelow, Met, TokensMarked, AllMarked, LowSymbols, RightMarked, Fires, Last}
+use Rattle.grammar.specs.inner.Checking.{Marked, LeftBelow, Met, TokensMarked, AllMarked, LowSymbols, RightMarked, Last}
 use Rattle.grammar.specs.Rules.{none}
 use Rattle.grammar.specs.inner.Decoded.{left_in, first_in, second_in}
 use Rattle.laws.specs.Decides.{Decides}
@@ -28,9 +28,6 @@ unmarked_at n a m = elim (dec_lt a n) [
   where
     out : (a < n → ⊥) → length (replicate n false) ≤ a
     out g = omega (arith, length-replicate {A = Bool} n false)
-
-pub no_tokens : TokensMarked 0 (replicate max_symbols false)
-no_tokens = record { long = length-replicate {A = Bool} max_symbols false; token = λ a l. absurd (omega arith); no_other = λ a m. absurd (unmarked_at max_symbols a m) }
 
 -- A mark that is set is there, and others are kept.
 pub mark_new : (marks : List Bool) (a : ℕ) → a < length marks → Marked (set marks a true) a
@@ -109,14 +106,6 @@ right-last words marks r b d e mb last = record {
     | no two ↦ ⊎_elim two (λ (y : Marked marks (second_in words r)). true_false (sym y ∙ ap (λ (x : ℕ). get_or marks x false) (sym (last.behind two)) ∙ m)) h.second
   ];
 }
-
--- Rule `r` does not fire where its left side is marked; where that is not, it fires where its right side is marked.
-pub fires_right : (words : List ℕ) (marks : List Bool) (r a : ℕ) (answer : Bool) → a ≡ left_in words r → get_or marks a false ≡ false
-    → Decides answer (RightMarked words marks r) → Decides answer (Fires words marks r)
-fires_right words marks r a answer e m = decides_map (λ h. record { left = still; right = h }) (λ f. f.right)
-  where
-    still : Marked marks (left_in words r) → ⊥
-    still x = true_false (sym x ∙ ap (λ (x : ℕ). get_or marks x false) (sym e) ∙ m)
 
 -- The last symbol is low.
 pub low-last : (words : List ℕ) (r d : ℕ) → LowSymbols words (r + 1) → Last words r d → d < max_symbols

@@ -5,9 +5,8 @@ use mathlib.Core.Bool.{Bool, true, false}
 use mathlib.Core.List.{List, [], ◌∷◌}
 use Prim.Native.Nat.{ℕ, zero, suc, ◌+◌, ◌≤◌, ◌<◌}
 use native.Mathlib.Omega.{arith}
-use borrow.Author.Count.{below_more}
 use lib.ListN.{length, get_or, set, length-set}
-use Rattle.laws.proofs.Decides.{true_false, false_true}
+use Rattle.laws.proofs.Decides.{true_false}
 use Rattle.grammar.specs.Accepted.{max_symbols}
 use Rattle.grammar.specs.inner.Checking.{Marked}
 use Rattle.grammar.proofs.Marks.{mark_kept, mark_old}
@@ -63,24 +62,6 @@ module _ (Given Right : ℕ → Type 0) where
       pub quiet : marked ≡ false → (q : ℕ) → q < r → Marks marks q → ⊥
 
     -- A round begins, passes a rule that has nothing to mark, or marks.
-    pub round_begins : (marks : List Bool) → Marking marks → Round marks marks false 0
-    round_begins marks h = record {
-      right = h;
-      few = omega arith;
-      no_more = omega arith;
-      less = λ e. absurd (false_true e);
-      quiet = λ e q l. absurd (omega arith);
-    }
-
-    pub round_passes : (before marks : List Bool) (marked : Bool) (r : ℕ) → Round before marks marked r → r < count → (Marks marks r → ⊥) → Round before marks marked (r + 1)
-    round_passes before marks marked r h l n = record {
-      right = h.right;
-      few = omega arith;
-      no_more = h.no_more;
-      less = h.less;
-      quiet = λ e. below_more _ _ (h.quiet e) n;
-    }
-
     pub round_marks : (before marks more : List Bool) (marked : Bool) (r : ℕ) → Round before marks marked r → r < count → Marking more → unmarked more < unmarked marks
         → Round before more true (r + 1)
     round_marks before marks more marked r h l right fewer = record {

@@ -19,17 +19,6 @@ use Rattle.grammar.proofs.Decoding.{of_count, holds_agree}
 use Rattle.grammar.proofs.Judging.{Formed, formed, accepted_sized}
 
 module _ (file : List ℕ) where
-  -- 1: malformed.
-  pub verdict_one : bytes.Malformed file → Verdict file 1
-  verdict_one m = record {
-    one = λ e. m;
-    always_one = λ x. refl;
-    two = λ e. absurd (omega arith);
-    always_two = λ n. absurd (n m);
-    zero = λ e. absurd (omega arith);
-    always_zero = λ n. absurd (n m);
-  }
-
   -- 2: not malformed, and not accepted.
   pub verdict_two : (bytes.Malformed file → ⊥) → (Accepted (grammar_of file) → ⊥) → Verdict file 2
   verdict_two n k = record {
@@ -39,17 +28,6 @@ module _ (file : List ℕ) where
     always_two = λ x y. refl;
     zero = λ e. absurd (omega arith);
     always_zero = λ x a. absurd (k a);
-  }
-
-  -- 0: neither.
-  pub verdict_zero : (bytes.Malformed file → ⊥) → Accepted (grammar_of file) → Verdict file 0
-  verdict_zero n a = record {
-    one = λ e. absurd (omega arith);
-    always_one = λ m. absurd (n m);
-    two = λ e. absurd (omega arith);
-    always_two = λ x k. absurd (k a);
-    zero = λ e. a;
-    always_zero = λ x y. refl;
   }
 
   -- The numbers of an accepted file are sized.

@@ -16,7 +16,7 @@ pub fn u16_at(file: &[u8], at: usize) -> usize
     requires { at + 2 ≤ length file.now }
     ensures { (result ≡ u16_at file.now at) × (result < 65536) }
 {
-    usize::from(file[at]) * 256 + usize::from(file[at + 1])
+    usize::from(u16::from_be_bytes([file[at], file[at + 1]]))
 }
 
 // The big-endian number in the four bytes at `at`.
@@ -24,7 +24,7 @@ pub fn u32_at(file: &[u8], at: usize) -> usize
     requires { at + 4 ≤ length file.now }
     ensures { result ≡ u32_at file.now at }
 {
-    u16_at(file, at) * 65536 + u16_at(file, at + 2)
+    u32::from_be_bytes([file[at], file[at + 1], file[at + 2], file[at + 3]]) as usize
 }
 
 // N, the number of symbols.

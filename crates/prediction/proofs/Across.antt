@@ -51,10 +51,6 @@ module _ (words : List ℕ) (begins : List (List ℕ)) (width : ℕ) where
         | no k ↦ inr (beside {r = q} (omega arith) n b)
       ]
 
-  -- The same at an equal number of rules.
-  pub beside_at : (r s : ℕ) (table : List (List ℕ)) → Tells width (Beside words begins r) table → r ≡ s → Tells width (Beside words begins s) table
-  beside_at r s table h e = subst (λ (k : ℕ). Tells width (Beside words begins k) table) e h
-
 -- Across two tables, as far as the rows below `i` lead, and row `i` by symbols below `m`.
 pub record Passed (to on : List (List ℕ)) (n i m x y : ℕ) : Type 0 where
   pub across : Across to on n x y
@@ -105,7 +101,3 @@ module _ (to on : List (List ℕ)) (width n : ℕ) where
 
       within : (x : ℕ) {y : ℕ} (p : Passed to on n (i + 1) 0 x y) → x < i + 1 → (x < i) ⊎ ((x ≡ i) × (p.across.middle < m))
       within x p k = elim (dec_lt x i) [ yes b ↦ inl b | no b ↦ inr (omega arith, (let c = p.across.middle_low in omega arith)) ]
-
-  -- and so do the rows.
-  pub across_all : (i : ℕ) (table : List (List ℕ)) → n ≤ i → Tells width (Passed to on n i 0) table → Tells width (Across to on n) table
-  across_all i table l h = tells_as (λ x y p. p.across) (λ x y a. record { across = a; done = inl (let b = a.low in omega arith) }) h
