@@ -72,10 +72,7 @@ pub fn ruled(grammar: &Grammar) -> bool
     let mut met = [false; SYMBOLS];
     met[rules.left(0)] = true;
     for r in 1..rules.count {
-        if !drawn(grammar, r) {
-            return false;
-        }
-        if !adjoins(rules, &met, r) {
+        if !drawn(grammar, r) || !adjoins(rules, &met, r) {
             return false;
         }
         met[rules.left(r)] = true;

@@ -55,15 +55,8 @@ pub fn rule_count(file: &[u8]) -> usize
 pub fn malformed(file: &[u8]) -> bool
     ensures { Decides result (Malformed file.now) }
 {
-    if file.len() < HEADER {
-        return true;
-    }
-    if usize::from(file[0]) != VERSION {
-        return true;
-    }
-    let length = u32_at(file, 1);
-    if length != file.len() {
-        return true;
-    }
-    length != HEADER + RULE * rule_count(file)
+    file.len() < HEADER
+        || usize::from(file[0]) != VERSION
+        || u32_at(file, 1) != file.len()
+        || file.len() != HEADER + RULE * rule_count(file)
 }
