@@ -1,4 +1,5 @@
 -- What tree answers, from the weight at the handle and from the walks.
+use Rattle.trees.specs.declared.table.Table.{Table}
 use mathlib.Core.Path.{◌≡◌, sym, ap, subst, ◌∙◌}
 use mathlib.Core.List.{List, ◌++◌}
 use Prim.Native.Nat.{ℕ, ◌+◌, ◌≤◌, ◌<◌, min}
@@ -21,7 +22,7 @@ use Rattle.trees.specs.inner.Tables.{Filled}
 use Rattle.trees.specs.inner.Walks.{Walkable, Walks, Walked}
 use Rattle.trees.specs.declared.Weight.{Weight}
 use Rattle.trees.specs.declared.Weight.TheVariants.{Fault, Number, Many}
-use Rattle.trees.specs.declared.Entry.TheVariants.{Weighed}
+use Rattle.std.specs.Prelude.{Some}
 use Rattle.trees.proofs.Means.{Means}
 use Rattle.trees.proofs.Weighing.{FaultBelow}
 use Rattle.trees.proofs.Counting.{weight_means, all_sound, lowest-fault}
@@ -29,7 +30,7 @@ use Rattle.trees.proofs.Agree.{at_one}
 use Rattle.trees.proofs.Laying.{sets_past}
 
 -- The Sum at the handle weighs so much.
-module _ {store : List ℕ} {h : ℕ} (here : SumAt store h) {w : Weight} (told : entry_at store h ≡ Weighed w) where
+module _ {store : List ℕ} {h : ℕ} (here : SumAt store h) {w : Weight} (told : entry_at store h ≡ Some w) where
   means : {v : Weight} → w ≡ v → Means (FaultBelow store h) (length (trees_at store h)) v
   means is = subst (Means (FaultBelow store h) (length (trees_at store h))) is (weight_means store h here.products w here.is told)
 
@@ -45,20 +46,20 @@ module _ {store : List ℕ} {h : ℕ} (here : SumAt store h) {w : Weight} (told 
       on : Means (FaultBelow store h) (length (trees_at store h)) (Number n) → Tells store h k place (answer no_such_tree nothing) place
       on (Means.number none same small) = Tells.none (all_sound none) (omega arith)
 
-  module _ {kinds counts lows : List ℕ} {k : ℕ} (filled : Filled store h kinds counts lows) where
-    walks : Sound store h → k < length (trees_at store h) → Sound store h × Walks store kinds counts lows h k
+  module _ {table : Table} {k : ℕ} (filled : Filled store h table) where
+    walks : Sound store h → k < length (trees_at store h) → Sound store h × Walks store table h k
     walks sound less = (sound, record { inside = here.inside; walkable = Walkable.sums here.is sound; number = less; filled = filled })
 
-    pub number_walks : {n : ℕ} → w ≡ Number n → k < n → Sound store h × Walks store kinds counts lows h k
+    pub number_walks : {n : ℕ} → w ≡ Number n → k < n → Sound store h × Walks store table h k
     number_walks {n} is less = on (means is)
       where
-        on : Means (FaultBelow store h) (length (trees_at store h)) (Number n) → Sound store h × Walks store kinds counts lows h k
+        on : Means (FaultBelow store h) (length (trees_at store h)) (Number n) → Sound store h × Walks store table h k
         on (Means.number none same small) = walks (all_sound none) (omega arith)
 
-    pub many_walks : w ≡ Many → k < tree_limit → Sound store h × Walks store kinds counts lows h k
+    pub many_walks : w ≡ Many → k < tree_limit → Sound store h × Walks store table h k
     many_walks is less = on (means is)
       where
-        on : Means (FaultBelow store h) (length (trees_at store h)) Many → Sound store h × Walks store kinds counts lows h k
+        on : Means (FaultBelow store h) (length (trees_at store h)) Many → Sound store h × Walks store table h k
         on (Means.over none big) = walks (all_sound none) (omega arith)
 
 -- What is counted as far as a limit past the usable units is told as what there is.

@@ -1,4 +1,5 @@
 -- The walker's choice by weights: the Product of the k-th tree, and the numbers of its factors' trees.
+use Rattle.trees.specs.declared.table.Table.{Table}
 use mathlib.Core.Path.{◌≡◌, refl, sym, ap, subst, ◌∙◌}
 use mathlib.Core.Bool.{true, false}
 use mathlib.Core.List.{List, [], ◌∷◌, flat_map}
@@ -13,8 +14,7 @@ use native.Mathlib.Omega.{arith}
 use lib.ListN.{length, length-append, length-map}
 use borrow.Author.Tests.{ltb-true, ltb-false}
 use Rattle.node.specs.Writing.{usable_units, usable}
-use Rattle.node.specs.declared.Right.{Right}
-use Rattle.node.specs.declared.Right.TheVariants.{At as Second, Nothing as Single}
+use Rattle.std.specs.Prelude.{Option, Some, None}
 use Rattle.forest.specs.Trees.{Tree, one, two}
 use Rattle.forest.specs.Lists.{At}
 use Rattle.forest.specs.Forests.{Product, sum, other, FactorOf, of_product, listed}
@@ -26,14 +26,12 @@ use Rattle.trees.specs.inner.Heads.{head_at, step_at, product_of}
 use Rattle.trees.specs.inner.Weights.{factor_weight, product_weight}
 use Rattle.trees.specs.inner.Tables.{tabled, Filled}
 use Rattle.trees.specs.inner.Walks.{chooses, passed_over, left_number, right_number, choice_in, Divides, Walkable, Walks, Choosing, FrontWalks, FrontWords, Reached, Picks}
-use Rattle.trees.specs.declared.Entry.{Entry}
 use Rattle.trees.specs.declared.Weight.{Weight}
 use Rattle.trees.specs.declared.Weight.TheVariants.{Number}
-use Rattle.trees.specs.declared.Front.TheVariants.{Empty, Left}
+use Rattle.trees.specs.declared.Step.{Step}
 use Rattle.trees.specs.declared.Choice.{Choice}
 use Rattle.trees.specs.declared.Choice.TheVariants.{Word, Chosen}
-use Rattle.trees.specs.declared.Head.TheVariants.{SumOf, Leaf, Neither}
-use Rattle.trees.specs.declared.Step.TheVariants.{ProductOf, Ended}
+use Rattle.trees.specs.declared.Head.TheVariants.{SumOf, Leaf}
 use Rattle.trees.proofs.Belows.{FactorIn}
 use Rattle.trees.proofs.Means.{Means, means_same}
 use Rattle.trees.proofs.Weighing.{Weighs, entry_weighs, sound-factor, sound-product}
@@ -89,14 +87,14 @@ pub second-some : (n m k : ℕ) → k < n * m → 0 < m
 second-some n zero k less = absurd (omega (arith, mul-zero n))
 second-some n (suc m) k less = omega arith
 
-pub filled-before : {store kinds counts lows : List ℕ} {h q : ℕ} → Filled store h kinds counts lows → q < h → Filled store q kinds counts lows
+pub filled-before : {store : List ℕ} {table : Table} {h q : ℕ} → Filled store h table → q < h → Filled store q table
 filled-before filled less = record { tells = λ p before. filled.tells p (omega arith) }
 
 -- Of a sound Sum each factor and each Product weighs the number of its trees.
-module _ {store kinds counts lows : List ℕ} {s : ℕ} {ps : List Product} (sound : Sound store s) (is : node_at store s ≡ sum ps)
-    (filled : Filled store s kinds counts lows) where
-  abbrev under : ℕ → Entry
-  under = tabled kinds counts lows
+module _ {store : List ℕ} {table : Table} {s : ℕ} {ps : List Product} (sound : Sound store s) (is : node_at store s ≡ sum ps)
+    (filled : Filled store s table) where
+  abbrev under : ℕ → Option Weight
+  under = tabled table
 
   told : (q : ℕ) → q < s → Weighs store s q (under q)
   told q less = subst (Weighs store s q) (sym (filled.tells q less)) (entry_weighs store s q less)
@@ -116,7 +114,7 @@ module _ {store kinds counts lows : List ℕ} {s : ℕ} {ps : List Product} (sou
 
   -- The k-th tree of one of its Products.
   module _ (inside : s < usable_units) (k rest : ℕ) (small : rest < tree_limit) where
-    walks_on : {q number : ℕ} → FactorIn q ps → number < length (trees_at store q) → Walks store kinds counts lows q number
+    walks_on : {q number : ℕ} → FactorIn q ps → number < length (trees_at store q) → Walks store table q number
     walks_on {q} f less = record {
       inside = omega (arith, factor-before sound is f);
       walkable = factor-walkable sound is f;
@@ -124,9 +122,9 @@ module _ {store kinds counts lows : List ℕ} {s : ℕ} {ps : List Product} (sou
       filled = filled-before filled (factor-before sound is f);
     }
 
-    pub divides : (action a : ℕ) (right : Right) → Member (product_of action a right) ps → rest < length (of_product (trees_at store) (product_of action a right))
+    pub divides : (action a : ℕ) (right : Option ℕ) → Member (product_of action a right) ps → rest < length (of_product (trees_at store) (product_of action a right))
         → Divides under s right
-    divides action a (Second b) m less c e zero-weight = none (factor_weighs b (record { product = _; member = m; factor = FactorOf.right }))
+    divides action a (Some b) m less c e zero-weight = none (factor_weighs b (record { product = _; member = m; factor = FactorOf.right }))
       where
         none : Weighed_as (length (trees_at store b)) (factor_weight under s b) → ⊥
         none weighs = no (factor_weight under s b) weighs (let same : b ≡ c = cc in ap (factor_weight under s) same ∙ zero-weight)
@@ -137,21 +135,21 @@ module _ {store kinds counts lows : List ℕ} {s : ℕ} {ps : List Product} (sou
                 let none : n ≡ 0 = cc in
                 omega (arith, second-some (length (trees_at store a)) (length (trees_at store b)) rest (omega (arith, length_pairs (two action) (trees_at store a) (trees_at store b))))
             no w (Means.over x y) z = let z : ◌≡◌ {A = ℕ} 0 1 = cc in omega arith
-    divides action a Single m less c e zero-weight = let z : ◌≡◌ {A = ℕ} 0 1 = cc in omega arith
+    divides action a None m less c e zero-weight = let z : ◌≡◌ {A = ℕ} 0 1 = cc in omega arith
 
-    pub choice_picks : (action a : ℕ) (right : Right) → Member (product_of action a right) ps
+    pub choice_picks : (action a : ℕ) (right : Option ℕ) → Member (product_of action a right) ps
         → rest < length (of_product (trees_at store) (product_of action a right))
         → ((d : Tree) → At (of_product (trees_at store) (product_of action a right)) rest d → At (trees_at store s) k d)
-        → Picks store kinds counts lows s k (choice_in under s action a right rest)
+        → Picks store table s k (choice_in under s action a right rest)
     unfolding choice_in
-    choice_picks action a Single m less reaches =
+    choice_picks action a None m less reaches =
         let f : FactorIn a ps = record { product = _; member = m; factor = FactorOf.only } in
         let below : rest < length (trees_at store a) = omega (arith, length-map (trees_at store a) (one action)) in
-        Picks.chosen {front = Empty} (omega arith) (factor-before sound is f) FrontWalks.empty (walks_on f below) (λ words d w at. reach words d w at)
+        Picks.chosen {front = None} (omega arith) (factor-before sound is f) FrontWalks.empty (walks_on f below) (λ words d w at. reach words d w at)
       where
-        reach : (words : List ℕ) (d : Tree) → FrontWords store Empty words → At (trees_at store a) rest d → Reached store s k (action ∷ words) d
+        reach : (words : List ℕ) (d : Tree) → FrontWords store None words → At (trees_at store a) rest d → Reached store s k (action ∷ words) d
         reach words d FrontWords.empty at = record { tree = one action d; chosen = reaches (one action d) (at_map (one action) at); spells = refl }
-    choice_picks action a (Second b) m less reaches =
+    choice_picks action a (Some b) m less reaches =
         let f : FactorIn a ps = record { product = _; member = m; factor = FactorOf.left } in
         let g : FactorIn b ps = record { product = _; member = m; factor = FactorOf.right } in
         let weighs = factor_weighs b g in
@@ -163,14 +161,14 @@ module _ {store kinds counts lows : List ℕ} {s : ℕ} {ps : List Product} (sou
         let j = right_divides rest weighs small in
         let i-low : left_number (factor_weight under s b) rest < length (trees_at store a) = omega (arith, i, quotient) in
         let j-low : right_number (factor_weight under s b) rest < length (trees_at store b) = omega (arith, j, mod-lt rest some) in
-        Picks.chosen {front = Left a (left_number (factor_weight under s b) rest)} (factor-before sound is f) (factor-before sound is g)
+        Picks.chosen {front = Some (a, left_number (factor_weight under s b) rest)} (factor-before sound is f) (factor-before sound is g)
         (FrontWalks.left (walks_on f i-low))
         (walks_on g j-low)
         (λ words d w at. reach words d i j w at)
       where
         reach : (words : List ℕ) (d : Tree) → left_number (factor_weight under s b) rest ≡ rest / length (trees_at store b)
             → right_number (factor_weight under s b) rest ≡ rest % length (trees_at store b)
-            → FrontWords store (Left a (left_number (factor_weight under s b) rest)) words
+            → FrontWords store (Some (a, left_number (factor_weight under s b) rest)) words
             → At (trees_at store b) (right_number (factor_weight under s b) rest) d → Reached store s k (action ∷ words) d
         reach words d i j (FrontWords.left {d = e} at_left) at = record {
           tree = two action e d;
@@ -185,7 +183,7 @@ pub record Passing (store : List ℕ) (s k rest : ℕ) (ps qs : List Product) : 
   pub inside : rest < length (flat_map (of_product (trees_at store)) qs)
   pub reaches : (d : Tree) → At (flat_map (of_product (trees_at store)) qs) rest d → At (trees_at store s) k d
 
-pub passing-starts : {store kinds counts lows : List ℕ} {s k from count : ℕ} → Choosing store kinds counts lows s k from count → k < tree_limit
+pub passing-starts : {store : List ℕ} {table : Table} {s k from count : ℕ} → Choosing store table s k from count → k < tree_limit
     → Passing store s k k (products_at count (usable store) from) (products_at count (usable store) from)
 passing-starts {store} {s = s} {k = k} {from = from} {count = count} c bound =
     let listing = sum-trees store s (products_at count (usable store) from) c.sound c.is in
@@ -228,18 +226,14 @@ module _ {store : List ℕ} {s k rest : ℕ} {ps qs : List Product} (p : Product
       }
 
 -- The Products read from a position on: none, or the first and those behind it.
-module _ (store : List ℕ) (left at : ℕ) (some : 0 < left) where
-  pub reads_none : Ended ≡ step_at store at → products_at left (usable store) at ≡ []
+module _ (store : List ℕ) (left n at : ℕ) (is : left ≡ suc n) where
+  pub reads_none : None ≡ step_at store at → products_at left (usable store) at ≡ []
   reads_none e =
-      let n : ℕ = left - 1 in
-      let is : left ≡ suc n = omega arith in
       ap (λ m. products_at m (usable store) at) is ∙ products_step n store at ∙ ap (from_step n (usable store)) (sym e)
 
-  pub reads_first : (r l : ℕ) (right : Right) (b : ℕ) → ProductOf r l right b ≡ step_at store at
-      → products_at left (usable store) at ≡ product_of r l right ∷ products_at (left - 1) (usable store) b
-  reads_first r l right b e =
-      let n : ℕ = left - 1 in
-      let is : left ≡ suc n = omega arith in
+  pub reads_first : (x : Step) → Some x ≡ step_at store at
+      → products_at left (usable store) at ≡ product_of x.action x.left x.right ∷ products_at n (usable store) x.behind
+  reads_first x e =
       ap (λ m. products_at m (usable store) at) is ∙ products_step n store at ∙ ap (from_step n (usable store)) (sym e)
 
 pub no_products : (store : List ℕ) (left at : ℕ) → left ≡ 0 → products_at left (usable store) at ≡ []
@@ -247,57 +241,57 @@ unfolding products_at
 no_products store left at none = ap (λ n. products_at n (usable store) at) none
 
 -- A turn of the loop that chooses: the Product read is the one, or is passed over.
-module _ {store kinds counts lows : List ℕ} {s k from count : ℕ} (asked : Choosing store kinds counts lows s k from count) (at left : ℕ) {rest : ℕ}
-    (passing : Passing store s k rest (products_at count (usable store) from) (products_at left (usable store) at)) (some : 0 < left)
-    {r l b : ℕ} {right : Right} (read : ProductOf r l right b ≡ step_at store at)
-    {w : Weight} (weighed : w ≡ product_weight (tabled kinds counts lows) s (product_of 0 l right)) where
-  first_read : Passing store s k rest (products_at count (usable store) from) (product_of r l right ∷ products_at (left - 1) (usable store) b)
-  first_read = subst (Passing store s k rest (products_at count (usable store) from)) (reads_first store left at some r l right b read) passing
+module _ {store : List ℕ} {table : Table} {s k from count : ℕ} (asked : Choosing store table s k from count) (at left n : ℕ) {rest : ℕ}
+    (passing : Passing store s k rest (products_at count (usable store) from) (products_at left (usable store) at)) (one : left ≡ suc n)
+    {x : Step} (read : Some x ≡ step_at store at)
+    {w : Weight} (weighed : w ≡ product_weight (tabled table) s (product_of 0 x.left x.right)) where
+  first_read : Passing store s k rest (products_at count (usable store) from) (product_of x.action x.left x.right ∷ products_at n (usable store) x.behind)
+  first_read = subst (Passing store s k rest (products_at count (usable store) from)) (reads_first store left n at one x read) passing
 
-  member : Member (product_of r l right) (products_at count (usable store) from)
-  member = passing_member (product_of r l right) first_read
+  member : Member (product_of x.action x.left x.right) (products_at count (usable store) from)
+  member = passing_member (product_of x.action x.left x.right) first_read
 
-  weighs : Weighed_as (length (of_product (trees_at store) (product_of r l right))) w
+  weighs : Weighed_as (length (of_product (trees_at store) (product_of x.action x.left x.right))) w
   weighs =
-      subst (Weighed_as (length (of_product (trees_at store) (product_of r l right)))) (sym (weighed ∙ same_weight (tabled kinds counts lows) s store r l right))
-      (product_weighs asked.sound asked.is asked.filled (product_of r l right) member)
+      subst (Weighed_as (length (of_product (trees_at store) (product_of x.action x.left x.right)))) (sym (weighed ∙ same_weight (tabled table) s store x.action x.left x.right))
+      (product_weighs asked.sound asked.is asked.filled (product_of x.action x.left x.right) member)
 
-  pub turn_divides : chooses w rest ≡ true → Divides (tabled kinds counts lows) s right
+  pub turn_divides : chooses w rest ≡ true → Divides (tabled table) s x.right
   turn_divides one_of_lem =
-      divides asked.sound asked.is asked.filled asked.inside k rest passing.small r l right member (chooses-inside rest weighs passing.small one_of_lem)
+      divides asked.sound asked.is asked.filled asked.inside k rest passing.small x.action x.left x.right member (chooses-inside rest weighs passing.small one_of_lem)
 
-  pub turn_picks : {choice : Choice} → chooses w rest ≡ true → choice ≡ choice_in (tabled kinds counts lows) s r l right rest
-      → Picks store kinds counts lows s k choice
+  pub turn_picks : {choice : Choice} → chooses w rest ≡ true → choice ≡ choice_in (tabled table) s x.action x.left x.right rest
+      → Picks store table s k choice
   turn_picks one_of_lem is =
-      subst (Picks store kinds counts lows s k) (sym is)
-      (choice_picks asked.sound asked.is asked.filled asked.inside k rest passing.small r l right member (chooses-inside rest weighs passing.small one_of_lem)
-      (passing-here (product_of r l right) first_read))
+      subst (Picks store table s k) (sym is)
+      (choice_picks asked.sound asked.is asked.filled asked.inside k rest passing.small x.action x.left x.right member (chooses-inside rest weighs passing.small one_of_lem)
+      (passing-here (product_of x.action x.left x.right) first_read))
 
-  pub turn_low : {n : ℕ} → chooses w rest ≡ false → n ≡ passed_over w → n ≤ rest
+  pub turn_low : {m : ℕ} → chooses w rest ≡ false → m ≡ passed_over w → m ≤ rest
   turn_low past is = omega (arith, passed_is rest weighs past, passed_low rest weighs past)
 
-  pub turn_on : {n : ℕ} → chooses w rest ≡ false → n ≡ passed_over w
-      → Passing store s k (rest - n) (products_at count (usable store) from) (products_at (left - 1) (usable store) b)
-  turn_on {n} past is =
-      subst (λ m. Passing store s k (rest - m) (products_at count (usable store) from) (products_at (left - 1) (usable store) b)) (sym is)
-      (passing_on (product_of r l right) w first_read weighs past)
+  pub turn_on : {m : ℕ} → chooses w rest ≡ false → m ≡ passed_over w
+      → Passing store s k (rest - m) (products_at count (usable store) from) (products_at n (usable store) x.behind)
+  turn_on {m} past is =
+      subst (λ m. Passing store s k (rest - m) (products_at count (usable store) from) (products_at n (usable store) x.behind)) (sym is)
+      (passing_on (product_of x.action x.left x.right) w first_read weighs past)
 
 -- The choice in a Product with one factor, and in one with two.
-pub alone_choice : (under : ℕ → Entry) (s action a k : ℕ) (right : Right) → right ≡ Single → Chosen action Empty a k ≡ choice_in under s action a right k
+pub alone_choice : (under : ℕ → Option Weight) (s action a k : ℕ) (right : Option ℕ) → right ≡ None → Chosen action None a k ≡ choice_in under s action a right k
 unfolding choice_in
 alone_choice under s action a k right none = sym (ap (λ r. choice_in under s action a r k) none)
 
-pub paired_choice : (under : ℕ → Entry) (s action a b k i j : ℕ) (right : Right) (w : Weight) → right ≡ Second b → w ≡ factor_weight under s b
-    → i ≡ left_number w k → j ≡ right_number w k → Chosen action (Left a i) b j ≡ choice_in under s action a right k
+pub paired_choice : (under : ℕ → Option Weight) (s action a b k i j : ℕ) (right : Option ℕ) (w : Weight) → right ≡ Some b → w ≡ factor_weight under s b
+    → i ≡ left_number w k → j ≡ right_number w k → Chosen action (Some (a, i)) b j ≡ choice_in under s action a right k
 unfolding choice_in
 paired_choice under s action a b k i j right w some is-w is-i is-j =
-    ap (λ n. Chosen action (Left a n) b j) (is-i ∙ ap (λ x. left_number x k) is-w)
-    ∙ ap (λ n. Chosen action (Left a (left_number (factor_weight under s b) k)) b n) (is-j ∙ ap (λ x. right_number x k) is-w)
+    ap (λ n. Chosen action (Some (a, n)) b j) (is-i ∙ ap (λ x. left_number x k) is-w)
+    ∙ ap (λ n. Chosen action (Some (a, left_number (factor_weight under s b) k)) b n) (is-j ∙ ap (λ x. right_number x k) is-w)
     ∙ sym (ap (λ r. choice_in under s action a r k) some)
 
 -- What is chosen at a head: at a Sum of a Product, at a leaf its symbol; and one of the two is where there is a tree.
-module _ {store kinds counts lows : List ℕ} {h k : ℕ} where
-  pub choosing_sum : {n b : ℕ} → Walks store kinds counts lows h k → SumOf n b ≡ head_at store h → Choosing store kinds counts lows h k b n
+module _ {store : List ℕ} {table : Table} {h k : ℕ} where
+  pub choosing_sum : {n b : ℕ} → Walks store table h k → Some (SumOf n b) ≡ head_at store h → Choosing store table h k b n
   choosing_sum {n} {b} walks e = record {
     inside = walks.inside;
     is = is;
@@ -313,10 +307,10 @@ module _ {store kinds counts lows : List ℕ} {h k : ℕ} where
       sound j (Walkable.leaf i) = let z : ◌≡◌ {A = ℕ} 0 1 = cc in absurd (omega arith)
       sound j (Walkable.sums i s) = s
 
-  pub leaf_picks : {t : ℕ} → Leaf t ≡ head_at store h → Picks store kinds counts lows h k (Word t)
+  pub leaf_picks : {t : ℕ} → Some (Leaf t) ≡ head_at store h → Picks store table h k (Word t)
   leaf_picks e = Picks.word (node-head store h ∙ ap (node_of (usable store)) (sym e))
 
-  pub neither_walks : Walks store kinds counts lows h k → Neither ≡ head_at store h → ⊥
+  pub neither_walks : Walks store table h k → None ≡ head_at store h → ⊥
   neither_walks walks e = on (node-head store h ∙ ap (node_of (usable store)) (sym e)) walks.walkable
     where
       on : node_at store h ≡ other → Walkable store h → ⊥

@@ -16,13 +16,14 @@ use Rattle.forest.specs.Stores.{products_at, node_at, trees_at}
 use Rattle.trees.specs.Faults.{asked_at, Sound}
 use Rattle.trees.specs.Answers.{answer, nothing, words, no_such_tree, counted, Counts, Tells}
 use Rattle.trees.specs.inner.Weights.{limited, lower, plus, often, times, of_entry, factor_weight, product_weight, sum_from, closed, weigh_node, weights}
-use Rattle.trees.specs.declared.Counted.{Counted}
-use Rattle.trees.specs.declared.Counted.TheVariants.{Trees, Faulty}
+use Rattle.std.specs.Prelude.{Result, Ok, Err}
+use Rattle.trees.specs.declared.Uncounted.{Uncounted}
+use Rattle.trees.specs.declared.Uncounted.TheVariants.{Faulty}
 use Rattle.trees.specs.declared.Weight.TheVariants.{Fault, Number}
 use Rattle.trees.proofs.Counting.{no_sum-counts, weight_counts, counted-sound}
 
 -- Under this handle of this store, count answers so.
-abbrev Answers : List ℕ → ℕ → Counted → Type 0
+abbrev Answers : List ℕ → ℕ → Result ℕ Uncounted → Type 0
 Answers store h c = Counts store h (counted c)
 
 -- Grammar A's "0".
@@ -30,28 +31,28 @@ abbrev of_a : List ℕ
 of_a = 0x8000 ∷ 0x0102 ∷ 0x2202 ∷ []
 
 pub record Readings : Type 0 where
-  pub one_number : Answers of_a 1 (Trees 1)
+  pub one_number : Answers of_a 1 (Ok 1)
   pub its_tree : trees_at of_a 1 ≡ one 2 (leaf 0) ∷ []
   -- A Sum's count is not its nonterminal: two Products for the nonterminal 3.
-  pub two_products : Answers (0x8000 ∷ 0x8001 ∷ 0x0203 ∷ 0x2203 ∷ 0x2405 ∷ []) 2 (Trees 2)
+  pub two_products : Answers (0x8000 ∷ 0x8001 ∷ 0x0203 ∷ 0x2203 ∷ 0x2405 ∷ []) 2 (Ok 2)
   pub their_trees : trees_at (0x8000 ∷ 0x8001 ∷ 0x0203 ∷ 0x2203 ∷ 0x2405 ∷ []) 2 ≡ one 3 (leaf 1) ∷ one 5 (leaf 0) ∷ []
   -- Fillers are skipped between a Sum and its Products,
-  pub filler-between : Answers (0x8000 ∷ 0x0102 ∷ 0xFFFF ∷ 0x2302 ∷ []) 1 (Trees 1)
+  pub filler-between : Answers (0x8000 ∷ 0x0102 ∷ 0xFFFF ∷ 0x2302 ∷ []) 1 (Ok 1)
   -- and not before a handle or a factor.
-  pub filler_at_handle : Answers (0x8000 ∷ 0xFFFF ∷ 0x0102 ∷ 0x2302 ∷ []) 1 (Faulty 1)
-  pub filler_at_factor : Answers (0xFFFF ∷ 0x8000 ∷ 0x0102 ∷ 0x2302 ∷ []) 2 (Faulty 2)
+  pub filler_at_handle : Answers (0x8000 ∷ 0xFFFF ∷ 0x0102 ∷ 0x2302 ∷ []) 1 (Err (Faulty 1))
+  pub filler_at_factor : Answers (0xFFFF ∷ 0x8000 ∷ 0x0102 ∷ 0x2302 ∷ []) 2 (Err (Faulty 2))
   -- A handle inside of a Product.
-  pub inside : Answers (0x8000 ∷ 0x4001 ∷ 0x0105 ∷ 0x2301 ∷ []) 2 (Trees 1)
+  pub inside : Answers (0x8000 ∷ 0x4001 ∷ 0x0105 ∷ 0x2301 ∷ []) 2 (Ok 1)
   -- A Sum of no Products; a factor between the Sum and its Product; a factor at a NullingLeaf; a Product too few.
-  pub no_products : Answers (0x8000 ∷ 0x0002 ∷ []) 1 (Trees 0)
-  pub factor-behind : Answers (0x8000 ∷ 0x0202 ∷ 0x2202 ∷ 0x2102 ∷ []) 1 (Faulty 1)
-  pub factor_nulling : Answers (0x9000 ∷ 0x0102 ∷ 0x2202 ∷ []) 1 (Faulty 1)
-  pub too_few : Answers (0x8000 ∷ 0x0202 ∷ 0x2202 ∷ []) 1 (Faulty 1)
+  pub no_products : Answers (0x8000 ∷ 0x0002 ∷ []) 1 (Ok 0)
+  pub factor-behind : Answers (0x8000 ∷ 0x0202 ∷ 0x2202 ∷ 0x2102 ∷ []) 1 (Err (Faulty 1))
+  pub factor_nulling : Answers (0x9000 ∷ 0x0102 ∷ 0x2202 ∷ []) 1 (Err (Faulty 1))
+  pub too_few : Answers (0x8000 ∷ 0x0202 ∷ 0x2202 ∷ []) 1 (Err (Faulty 1))
   -- Of two faulty Sums the lower.
-  pub lowest : Answers (0x9000 ∷ 0x0102 ∷ 0x2202 ∷ 0x0202 ∷ 0x2302 ∷ 0x2505 ∷ []) 3 (Faulty 1)
+  pub lowest : Answers (0x9000 ∷ 0x0102 ∷ 0x2202 ∷ 0x0202 ∷ 0x2302 ∷ 0x2505 ∷ []) 3 (Err (Faulty 1))
   -- A handle at a leaf, and one past the units.
-  pub at_leaf : Answers of_a 0 (Faulty 0)
-  pub past_units : Answers of_a 3 (Faulty 3)
+  pub at_leaf : Answers of_a 0 (Err (Faulty 0))
+  pub past_units : Answers of_a 3 (Err (Faulty 3))
 
 pub readings : Readings
 unfolding flat_map both_below units_at row_of sum_row long_product alone_row pair_row product_row leaf_row unfit unfit_right unfit_product fillers holds stand_all stand factor_at alone-spelt paired-spelt long_right value_at near_spelt leaf_spelt long_spelt products_at node_at asked_at limited lower plus often times of_entry factor_weight product_weight sum_from closed weigh_node weights

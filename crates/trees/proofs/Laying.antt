@@ -1,4 +1,5 @@
 -- Words laid down one after another, and a tree walked piece by piece.
+use Rattle.trees.specs.declared.table.Table.{Table}
 use mathlib.Core.Path.{◌≡◌, refl, sym, ap, subst, ◌∙◌}
 use mathlib.Core.List.{List, [], ◌∷◌, ◌++◌, append_assoc}
 use Prim.Native.Nat.{ℕ, zero, suc, ◌+◌, ◌≤◌, ◌<◌, min}
@@ -11,8 +12,7 @@ use Rattle.forest.specs.Lists.{At, first}
 use Rattle.forest.specs.Forests.{token, of_node, listed}
 use Rattle.forest.specs.Stores.{node_at, trees_at}
 use Rattle.trees.specs.inner.Walks.{Walks, FrontWalks, FrontWords, front_end, Reached, Picks, Laid, Limited, Walked, FrontWalked}
-use Rattle.trees.specs.declared.Front.{Front}
-use Rattle.trees.specs.declared.Front.TheVariants.{Empty, Left}
+use Rattle.std.specs.Prelude.{Option, Some, None}
 use Rattle.trees.specs.declared.Choice.{Choice}
 use Rattle.trees.specs.declared.Choice.TheVariants.{Word, Chosen}
 use Rattle.trees.proofs.Chosen.{kth}
@@ -60,32 +60,32 @@ laid-long : {place left : List ℕ} {at limit next : ℕ} {words : List ℕ} →
 laid-long {place} {at = at} {words = words} a = ap length a.left_is ∙ length-sets place at words
 
 -- What a choice tells.
-pub worded : {store kinds counts lows : List ℕ} {h k t : ℕ} {choice : Choice} → Picks store kinds counts lows h k choice → choice ≡ Word t
+pub worded : {store : List ℕ} {table : Table} {h k t : ℕ} {choice : Choice} → Picks store table h k choice → choice ≡ Word t
     → node_at store h ≡ token t
-worded {store} {kinds} {counts} {lows} {h} {k} {t} picks is = told (subst (Picks store kinds counts lows h k) is picks)
+worded {store} {table} {h} {k} {t} picks is = told (subst (Picks store table h k) is picks)
   where
-    told : Picks store kinds counts lows h k (Word t) → node_at store h ≡ token t
+    told : Picks store table h k (Word t) → node_at store h ≡ token t
     told (Picks.word i) = i
 
-pub record Onward (store kinds counts lows : List ℕ) (h k action : ℕ) (front : Front) (from number : ℕ) : Type 0 where
+pub record Onward (store : List ℕ) (table : Table) (h k action : ℕ) (front : Option (ℕ × ℕ)) (from number : ℕ) : Type 0 where
   pub front_low : front_end front ≤ h
   pub from_low : from < h
-  pub front_walks : FrontWalks store kinds counts lows front
-  pub walks : Walks store kinds counts lows from number
+  pub front_walks : FrontWalks store table front
+  pub walks : Walks store table from number
   pub reaches : (words : List ℕ) (d : Tree) → FrontWords store front words → At (trees_at store from) number d → Reached store h k (action ∷ words) d
 
-pub onward : {store kinds counts lows : List ℕ} {h k action from number : ℕ} {front : Front} {choice : Choice} → Picks store kinds counts lows h k choice
-    → choice ≡ Chosen action front from number → Onward store kinds counts lows h k action front from number
-onward {store} {kinds} {counts} {lows} {h} {k} {action} {from} {number} {front} picks is = told (subst (Picks store kinds counts lows h k) is picks)
+pub onward : {store : List ℕ} {table : Table} {h k action from number : ℕ} {front : Option (ℕ × ℕ)} {choice : Choice} → Picks store table h k choice
+    → choice ≡ Chosen action front from number → Onward store table h k action front from number
+onward {store} {table} {h} {k} {action} {from} {number} {front} picks is = told (subst (Picks store table h k) is picks)
   where
-    told : Picks store kinds counts lows h k (Chosen action front from number) → Onward store kinds counts lows h k action front from number
+    told : Picks store table h k (Chosen action front from number) → Onward store table h k action front from number
     told (Picks.chosen a b c d e) = record { front_low = a; from_low = b; front_walks = c; walks = d; reaches = e }
 
-pub left_walks : {store kinds counts lows : List ℕ} {h k : ℕ} {front : Front} → FrontWalks store kinds counts lows front → front ≡ Left h k
-    → Walks store kinds counts lows h k
-left_walks {store} {kinds} {counts} {lows} {h} {k} asked is = told (subst (FrontWalks store kinds counts lows) is asked)
+pub left_walks : {store : List ℕ} {table : Table} {h k : ℕ} {front : Option (ℕ × ℕ)} → FrontWalks store table front → front ≡ Some (h, k)
+    → Walks store table h k
+left_walks {store} {table} {h} {k} asked is = told (subst (FrontWalks store table) is asked)
   where
-    told : FrontWalks store kinds counts lows (Left h k) → Walks store kinds counts lows h k
+    told : FrontWalks store table (Some (h, k)) → Walks store table h k
     told (FrontWalks.left walks) = walks
 
 -- A leaf has one tree.
@@ -99,16 +99,16 @@ leaf_at store h k t is less =
     only (suc n) less = absurd (omega arith)
 
 -- So far words of the k-th tree under h are laid down, and what is missing are those of a tree under `from`.
-pub record Walking (store kinds counts lows : List ℕ) (h k : ℕ) (place : List ℕ) (at limit : ℕ) (left : List ℕ) (from number next : ℕ) : Type 0 where
+pub record Walking (store : List ℕ) (table : Table) (h k : ℕ) (place : List ℕ) (at limit : ℕ) (left : List ℕ) (from number next : ℕ) : Type 0 where
   pub low : from ≤ h
-  pub walks : Walks store kinds counts lows from number
+  pub walks : Walks store table from number
   pub words : List ℕ
   pub reached : (d : Tree) → At (trees_at store from) number d → Reached store h k words d
   pub laid : Laid place at limit words next left
   pub long : length left ≡ length place
 
-module _ {store kinds counts lows : List ℕ} {h k : ℕ} {place : List ℕ} {at limit : ℕ} where
-  pub walking_starts : Walks store kinds counts lows h k → Limited place at limit → Walking store kinds counts lows h k place at limit place h k at
+module _ {store : List ℕ} {table : Table} {h k : ℕ} {place : List ℕ} {at limit : ℕ} where
+  pub walking_starts : Walks store table h k → Limited place at limit → Walking store table h k place at limit place h k at
   walking_starts walks limits = record {
     low = omega arith;
     walks = walks;
@@ -119,11 +119,11 @@ module _ {store kinds counts lows : List ℕ} {h k : ℕ} {place : List ℕ} {at
   }
 
   -- The walk goes on with a Product's last factor,
-  pub walking_on : {left end : List ℕ} {from number next last action rest to : ℕ} {front : Front} → length place ≤ limit
-      → Walking store kinds counts lows h k place at limit left from number next
-      → Onward store kinds counts lows from number action front to rest
+  pub walking_on : {left end : List ℕ} {from number next last action rest to : ℕ} {front : Option (ℕ × ℕ)} → length place ≤ limit
+      → Walking store table h k place at limit left from number next
+      → Onward store table from number action front to rest
       → FrontWalked store action front left next limit last end
-      → Walking store kinds counts lows h k place at limit end to rest last
+      → Walking store table h k place at limit end to rest last
   walking_on {left} {end} {from} {number} {next} {last} {action} {rest} {to} {front} reaches so_far goes walked = record {
     low = omega (arith, so_far.low, goes.from_low);
     walks = goes.walks;
@@ -144,7 +144,7 @@ module _ {store kinds counts lows : List ℕ} {h k : ℕ} {place : List ℕ} {at
 
   -- ends with the word of a leaf,
   module _ {left : List ℕ} {from number next : ℕ} (reaches : length place ≤ limit)
-      (so_far : Walking store kinds counts lows h k place at limit left from number next) where
+      (so_far : Walking store table h k place at limit left from number next) where
     ended : {end : List ℕ} {last : ℕ} (d : Tree) → At (trees_at store from) number d → Laid left next limit (preorder d) last end
         → Walked store h k place at limit last end
     ended {end} {last} d chosen laid =
@@ -170,13 +170,13 @@ module _ {store kinds counts lows : List ℕ} {h k : ℕ} {place : List ℕ} {at
         (subst (λ n. Laid left n limit (preorder some.member) limit left) e (laid-full left limit (preorder some.member) here))
 
 -- A Product's action, alone or with the tree in front.
-pub front-alone : {store place end : List ℕ} {action at limit next : ℕ} {front : Front} → at < limit → front ≡ Empty → next ≡ at + 1
+pub front-alone : {store place end : List ℕ} {action at limit next : ℕ} {front : Option (ℕ × ℕ)} → at < limit → front ≡ None → next ≡ at + 1
     → end ≡ set place at action → FrontWalked store action front place at limit next end
 front-alone {store} below is is-next is-end =
     record { words = []; front_words = subst (λ f. FrontWords store f []) (sym is) FrontWords.empty; laid = laid_word below is-next is-end }
 
-pub front-walked : {store place left end : List ℕ} {action at limit next last h k : ℕ} {front : Front} → at < limit → length place ≤ limit
-    → front ≡ Left h k → next ≡ at + 1 → left ≡ set place at action → Walked store h k left next limit last end
+pub front-walked : {store place left end : List ℕ} {action at limit next last h k : ℕ} {front : Option (ℕ × ℕ)} → at < limit → length place ≤ limit
+    → front ≡ Some (h, k) → next ≡ at + 1 → left ≡ set place at action → Walked store h k left next limit last end
     → FrontWalked store action front place at limit last end
 front-walked {store} {action = action} below reaches is is-next is-left walked = record {
   words = preorder walked.tree;

@@ -20,8 +20,7 @@ use Rattle.trees.specs.Faults.{asked_at, Faulty, Below, Sound}
 use Rattle.trees.specs.inner.Weights.{plus, of_entry, factor_weight, product_weight, sum_from, closed, weigh_node, entry_in, weigh, weights, entry_at}
 use Rattle.trees.specs.declared.Weight.{Weight}
 use Rattle.trees.specs.declared.Weight.TheVariants.{Fault, Number}
-use Rattle.trees.specs.declared.Entry.{Entry}
-use Rattle.trees.specs.declared.Entry.TheVariants.{Nothing, Weighed}
+use Rattle.std.specs.Prelude.{Option, Some, None}
 use Rattle.trees.proofs.Belows.{below_through, Down, below_down, FactorIn, under_sum, sum_under}
 use Rattle.trees.proofs.Means.{Means, means_same, Or, plus_means, times_means}
 
@@ -37,12 +36,12 @@ unfolding weights
 weights_at store zero q less = absurd (omega arith)
 weights_at store (suc p) q less = elim (dec_lt q p) [
   | yes before ↦
-      get_or-append (weights store p) (entry_at store p ∷ []) Nothing q (omega (arith, length-weights store p)) ∙ weights_at store p q before
+      get_or-append (weights store p) (entry_at store p ∷ []) None q (omega (arith, length-weights store p)) ∙ weights_at store p q before
   | no not ↦
       (let is : q ≡ length (weights store p) + 0 = omega (arith, length-weights store p) in
       let same : p ≡ q = omega arith in
-      ap (λ i. get_or (weights store p ++ (entry_at store p ∷ [])) i Nothing) is
-      ∙ get_or-append-add (weights store p) (entry_at store p ∷ []) 0 Nothing
+      ap (λ i. get_or (weights store p ++ (entry_at store p ∷ [])) i None) is
+      ∙ get_or-append-add (weights store p) (entry_at store p ∷ []) 0 None
       ∙ ap (entry_at store) same)
 ]
 
@@ -52,11 +51,11 @@ pub record FaultBelow (store : List ℕ) (h v : ℕ) : Type 0 where
   pub faulty : Faulty store v
 
 -- What an entry tells of a position, however many rounds are listed.
-pub data Weighs (store : List ℕ) (rounds q : ℕ) : Entry → Type 0 where
-  nothing : node_at store q ≡ other → Weighs store rounds q Nothing
-  leaf : {t : ℕ} → node_at store q ≡ token t → Weighs store rounds q (Weighed (Number 1))
+pub data Weighs (store : List ℕ) (rounds q : ℕ) : Option Weight → Type 0 where
+  nothing : node_at store q ≡ other → Weighs store rounds q None
+  leaf : {t : ℕ} → node_at store q ≡ token t → Weighs store rounds q (Some (Number 1))
   sums : {ps : List Product} {w : Weight} → node_at store q ≡ sum ps → Means (FaultBelow store q) (length (listed (node_at store) rounds q)) w
-      → Weighs store rounds q (Weighed w)
+      → Weighs store rounds q (Some w)
 
 -- The faults that a factor at q gives a Sum at s: the Sum's own, or those below the factor.
 data FactorFault (store : List ℕ) (s q : ℕ) : ℕ → Type 0 where
@@ -68,11 +67,11 @@ leaf-length : (store : List ℕ) (rounds q t : ℕ) → q < rounds → node_at s
 leaf-length store zero q t less e = absurd (omega arith)
 leaf-length store (suc rounds) q t less e = ap (λ n. length (of_node (listed (node_at store) rounds) n)) e
 
-module _ (store : List ℕ) (rounds s : ℕ) (enough : s ≤ rounds) (under : ℕ → Entry) (told : (q : ℕ) → q < s → Weighs store rounds q (under q)) where
+module _ (store : List ℕ) (rounds s : ℕ) (enough : s ≤ rounds) (under : ℕ → Option Weight) (told : (q : ℕ) → q < s → Weighs store rounds q (under q)) where
   abbrev number : ℕ → ℕ
   number q = length (listed (node_at store) rounds q)
 
-  entry_means : (q : ℕ) (e : Entry) → q < s → Weighs store rounds q e → Means (FactorFault store s q) (number q) (of_entry s e)
+  entry_means : (q : ℕ) (e : Option Weight) → q < s → Weighs store rounds q e → Means (FactorFault store s q) (number q) (of_entry s e)
   unfolding of_entry
   entry_means q e less (Weighs.nothing is) =
       Means.faulty (FactorFault.none is) (λ v f. own v f)

@@ -1,5 +1,5 @@
 -- What count and tree answer: the number of a refusal or 0, and what comes with it.
-use Rattle.std.specs.Prelude.{List, ◌++◌, ℕ, ◌≤◌, ◌<◌, length, drop, leb}
+use Rattle.std.specs.Prelude.{Result, Ok, Err, List, ◌++◌, ℕ, ◌≤◌, ◌<◌, length, drop, leb}
 use Rattle.laws.specs.Fills.{too_short}
 use Rattle.node.specs.Choice.{pick}
 use Rattle.node.specs.Writing.{usable_units}
@@ -8,10 +8,10 @@ use Rattle.forest.specs.Trees.{Tree, preorder}
 use Rattle.forest.specs.Lists.{At}
 use Rattle.forest.specs.Stores.{trees_at}
 use Rattle.trees.specs.Faults.{LowestFault, Sound}
-use Rattle.trees.specs.declared.Counted.{Counted}
-use Rattle.trees.specs.declared.Counted.TheVariants.{Trees, Faulty, TooMany}
-use Rattle.trees.specs.declared.Told.{Told}
-use Rattle.trees.specs.declared.Told.TheVariants.{Words, Faulty as FaultyBelow, NoSuch, Short}
+use Rattle.trees.specs.declared.Uncounted.{Uncounted}
+use Rattle.trees.specs.declared.Uncounted.TheVariants.{Faulty, TooMany}
+use Rattle.trees.specs.declared.Untold.{Untold}
+use Rattle.trees.specs.declared.Untold.TheVariants.{Faulty as FaultyBelow, NoSuch, TooShort}
 
 -- The number of trees exceeds 64 bits; there is no tree with the number asked for.
 abbrev pub too_many_trees : ℕ
@@ -34,10 +34,10 @@ pub data Values : Type 0 where
 pub data Answer : Type 0 where
   answer : ℕ → Values → Answer
 
-abbrev pub counted : Counted → Answer
-counted (Trees n) = answer done (trees n)
-counted (Faulty s) = answer no_node (position s)
-counted TooMany = answer too_many_trees nothing
+abbrev pub counted : Result ℕ Uncounted → Answer
+counted (Ok n) = answer done (trees n)
+counted (Err (Faulty s)) = answer no_node (position s)
+counted (Err TooMany) = answer too_many_trees nothing
 
 -- Count: 12 at the lowest fault below the handle, then 23, then the number of trees under it.
 pub data Counts (store : List ℕ) (h : ℕ) : Answer → Type 0 where
@@ -45,11 +45,11 @@ pub data Counts (store : List ℕ) (h : ℕ) : Answer → Type 0 where
   over : Sound store h → tree_limit ≤ length (trees_at store h) → Counts store h (answer too_many_trees nothing)
   number : Sound store h → length (trees_at store h) < tree_limit → Counts store h (answer done (trees (length (trees_at store h))))
 
-abbrev pub told : Told → Answer
-told (Words n) = answer done (words n)
-told (FaultyBelow s) = answer no_node (position s)
-told NoSuch = answer no_such_tree nothing
-told (Short n) = answer too_short (words n)
+abbrev pub told : Result ℕ Untold → Answer
+told (Ok n) = answer done (words n)
+told (Err (FaultyBelow s)) = answer no_node (position s)
+told (Err NoSuch) = answer no_such_tree nothing
+told (Err (TooShort n)) = answer too_short (words n)
 
 -- A needed number of words above the usable units is told as all ones: no tree of a parse has so many.
 abbrev pub all_ones : ℕ

@@ -4,55 +4,44 @@ ghost use Rattle.node.specs.Reading.{filler, holds};
 ghost use Rattle.trees.specs.inner.Heads.{head_of, head_at, step_of, step_at};
 
 use crate::{Head, Step};
-use node::{Found, Node, read};
+use node::{Node, read};
 
 // The unit that reading skips. No head is one.
 const FILLER: u16 = 0xFFFF;
 
 // Whether a filler is at p.
+#[tactic(auto, unfolding(node::specs::Reading::holds))]
 fn filler_at(store: &[u16], p: usize) -> bool
     ensures { result ≡ holds store.now p filler }
 {
-    if p < store.len() {
-        store[p] == FILLER
-    } else {
-        false
-    }
+    p < store.len() && store[p] == FILLER
 }
 
-fn head_of(node: Node, behind: usize) -> Head
+fn head_of(node: Node, behind: usize) -> Option<Head>
     ensures { result ≡ head_of node behind }
 {
     match node {
-        Node::Sum {
-            count,
-            nonterminal: _,
-        } => Head::SumOf(count, behind),
-        Node::Evaluated { symbol } => Head::Leaf(symbol),
-        Node::NullingLeaf { symbol: _ } => Head::Neither,
-        Node::Product {
-            action: _,
-            left: _,
-            right: _,
-        } => Head::Neither,
+        Node::Sum { count, .. } => Some(Head::SumOf(count, behind)),
+        Node::Evaluated { symbol } => Some(Head::Leaf(symbol)),
+        Node::NullingLeaf { .. } | Node::Product { .. } => None,
     }
 }
 
 // What stands at p itself: nothing is skipped.
-pub fn head(store: &[u16], p: usize) -> Head
+pub fn head(store: &[u16], p: usize) -> Option<Head>
     ensures { result ≡ head_at store.now p }
 {
     if filler_at(store, p) {
-        return Head::Neither;
+        return None;
     }
     match read(store, p) {
-        Found::Whole(node, behind) => head_of(node, behind),
-        Found::End => Head::Neither,
-        Found::NoNode(_) => Head::Neither,
+        Ok(Some((node, behind))) => head_of(node, behind),
+        Ok(None) => None,
+        Err(_) => None,
     }
 }
 
-fn step_of(node: Node, behind: usize) -> Step
+fn step_of(node: Node, behind: usize) -> Option<Step>
     ensures { result ≡ step_of node behind }
 {
     match node {
@@ -60,23 +49,23 @@ fn step_of(node: Node, behind: usize) -> Step
             action,
             left,
             right,
-        } => Step::ProductOf(action, left, right, behind),
-        Node::Sum {
-            count: _,
-            nonterminal: _,
-        } => Step::Ended,
-        Node::NullingLeaf { symbol: _ } => Step::Ended,
-        Node::Evaluated { symbol: _ } => Step::Ended,
+        } => Some(Step {
+            action,
+            left,
+            right,
+            behind,
+        }),
+        _ => None,
     }
 }
 
 // The Product that is read from p on.
-pub fn step(store: &[u16], p: usize) -> Step
+pub fn step(store: &[u16], p: usize) -> Option<Step>
     ensures { result ≡ step_at store.now p }
 {
     match read(store, p) {
-        Found::Whole(node, behind) => step_of(node, behind),
-        Found::End => Step::Ended,
-        Found::NoNode(_) => Step::Ended,
+        Ok(Some((node, behind))) => step_of(node, behind),
+        Ok(None) => None,
+        Err(_) => None,
     }
 }

@@ -1,52 +1,44 @@
 // Sums and products of weights: the lowest fault comes first, and numbers above 64 bits are many.
-ghost use Rattle.std.specs.Prelude.{◌≡◌, ◌+◌, ◌*◌};
+ghost use Rattle.std.specs.Prelude.{◌≡◌, ◌≢◌, ◌+◌, ◌*◌};
+ghost use Rattle.trees.specs.declared.Weight.TheVariants.{Number};
 ghost use Rattle.trees.specs.inner.Weights as W;
+ghost use Rattle.trees.specs.inner.Walks as S;
 
 use crate::Weight;
 
-const MOST: u64 = 0xFFFF_FFFF_FFFF_FFFF;
-
 // The lower of a fault and what else is faulty.
+#[tactic(auto, unfolding(crate::specs::inner::Weights::lower))]
 fn lower(u: u16, b: Weight) -> Weight
     ensures { result ≡ W.lower u b }
 {
     match b {
-        Weight::Fault(v) => {
-            if u < v {
-                Weight::Fault(u)
-            } else {
-                Weight::Fault(v)
-            }
-        }
-        Weight::Number(_) => Weight::Fault(u),
-        Weight::Many => Weight::Fault(u),
+        Weight::Fault(v) => Weight::Fault(u.min(v)),
+        _ => Weight::Fault(u),
     }
 }
 
+#[tactic(auto, unfolding(crate::specs::inner::Weights::limited))]
 fn sum(n: u64, m: u64) -> Weight
     ensures { result ≡ W.limited (n + m) }
 {
-    if m <= MOST - n {
-        Weight::Number(n + m)
-    } else {
-        Weight::Many
+    match n.checked_add(m) {
+        Some(trees) => Weight::Number(trees),
+        None => Weight::Many,
     }
 }
 
+#[tactic(auto, unfolding(crate::specs::inner::Weights::limited))]
 fn product(n: u64, m: u64) -> Weight
     ensures { result ≡ W.limited (n * m) }
 {
-    if n == 0 {
-        return Weight::Number(0);
-    }
-    if m <= MOST / n {
-        Weight::Number(n * m)
-    } else {
-        Weight::Many
+    match n.checked_mul(m) {
+        Some(trees) => Weight::Number(trees),
+        None => Weight::Many,
     }
 }
 
 // Too many of each of so many: none where these are none.
+#[tactic(auto, unfolding(crate::specs::inner::Weights::often))]
 fn often(n: u64) -> Weight
     ensures { result ≡ W.often n }
 {
@@ -57,40 +49,68 @@ fn often(n: u64) -> Weight
     }
 }
 
-// Trees of the one and then of the other.
-pub fn plus(a: Weight, b: Weight) -> Weight
-    ensures { result ≡ W.plus a b }
-{
-    match a {
-        Weight::Fault(u) => lower(u, b),
-        Weight::Number(n) => match b {
-            Weight::Fault(v) => Weight::Fault(v),
-            Weight::Number(m) => sum(n, m),
-            Weight::Many => Weight::Many,
-        },
-        Weight::Many => match b {
-            Weight::Fault(v) => Weight::Fault(v),
-            Weight::Number(_) => Weight::Many,
-            Weight::Many => Weight::Many,
-        },
+impl Weight {
+    // Trees of the one and then of the other.
+    #[tactic(auto, unfolding(crate::specs::inner::Weights::plus))]
+    pub fn plus(self, other: Weight) -> Weight
+        ensures { result ≡ W.plus self other }
+    {
+        match (self, other) {
+            (Weight::Fault(u), _) => lower(u, other),
+            (_, Weight::Fault(_)) => other,
+            (Weight::Number(n), Weight::Number(m)) => sum(n, m),
+            _ => Weight::Many,
+        }
     }
-}
 
-// Each of the one with each of the other.
-pub fn times(a: Weight, b: Weight) -> Weight
-    ensures { result ≡ W.times a b }
-{
-    match a {
-        Weight::Fault(u) => lower(u, b),
-        Weight::Number(n) => match b {
-            Weight::Fault(v) => Weight::Fault(v),
-            Weight::Number(m) => product(n, m),
-            Weight::Many => often(n),
-        },
-        Weight::Many => match b {
-            Weight::Fault(v) => Weight::Fault(v),
-            Weight::Number(m) => often(m),
-            Weight::Many => Weight::Many,
-        },
+    // Each of the one with each of the other.
+    #[tactic(auto, unfolding(crate::specs::inner::Weights::times))]
+    pub fn times(self, other: Weight) -> Weight
+        ensures { result ≡ W.times self other }
+    {
+        match (self, other) {
+            (Weight::Fault(u), _) => lower(u, other),
+            (_, Weight::Fault(_)) => other,
+            (Weight::Number(n), Weight::Number(m)) => product(n, m),
+            (Weight::Number(n), Weight::Many) => often(n),
+            (Weight::Many, Weight::Number(m)) => often(m),
+            (Weight::Many, Weight::Many) => Weight::Many,
+        }
+    }
+
+    // Whether the k-th tree is one of so many.
+    #[tactic(auto, unfolding(crate::specs::inner::Walks::chooses))]
+    pub fn chooses(self, k: u64) -> bool
+        ensures { result ≡ S.chooses self k }
+    {
+        match self {
+            Weight::Fault(_) => false,
+            Weight::Number(n) => k < n,
+            Weight::Many => true,
+        }
+    }
+
+    // How many trees come before the next Product's.
+    #[tactic(auto, unfolding(crate::specs::inner::Walks::passed_over))]
+    pub fn passed_over(self) -> u64
+        ensures { result ≡ S.passed_over self }
+    {
+        match self {
+            Weight::Number(n) => n,
+            _ => 0,
+        }
+    }
+
+    // The number of the left factor's tree, and that of the right's: k divided by the number of the right's trees, and what is left. Where these are
+    // too many, every k is below them.
+    #[tactic(auto, unfolding(crate::specs::inner::Walks::left_number, crate::specs::inner::Walks::right_number))]
+    pub fn numbers(self, k: u64) -> (u64, u64)
+        requires { self ≢ Number 0 }
+        ensures { result ≡ (S.left_number self k, S.right_number self k) }
+    {
+        match self {
+            Weight::Number(c) => (k / c, k % c),
+            _ => (0, k),
+        }
     }
 }

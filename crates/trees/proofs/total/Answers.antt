@@ -1,19 +1,24 @@
 -- `total` meets its contract: the entry at the handle tells the answer.
 use mathlib.Core.Path.{◌≡◌, sym, subst, ◌∙◌}
 use native.Mathlib.Omega.{arith}
+use Rattle.std.specs.Prelude.{Some}
 use Rattle.trees.specs.Answers.{Counts, counted}
 use Rattle.trees.specs.inner.Weights.{entry_at}
-use Rattle.trees.specs.declared.Entry.TheVariants.{Weighed}
 use Rattle.trees.proofs.Counting.{weight_counts, sum_told}
 use Rattle.trees.proofs.total.Goals as goal
 
-pub returns-in-Weighed : goal.returns-in-Weighed
-returns-in-Weighed c = let a = c.args in let here = c.requires in
-    let told : entry_at a.store.now a.handle ≡ Weighed _ =
-    sym (c.fill.ensures.tells a.handle (omega arith)) ∙ sym c.entry.ensures ∙ c.in-Weighed.is in
-    subst (λ r. Counts a.store.now a.handle (counted r)) (sym c.answer.ensures) (weight_counts a.store.now a.handle here.products _ here.is told)
+pub returns-in-Some : goal.returns-in-Some
+returns-in-Some c =
+    let a = c.args in
+    let here = c.requires in
+    let told : entry_at a.store.now a.handle ≡ Some _ =
+    sym (c.fill.ensures.tells a.handle (omega arith)) ∙ sym c.entry.ensures ∙ c.in-Some.is in
+    subst (λ r. Counts a.store.now a.handle (counted r)) (sym c.answer.ensures)
+    (weight_counts a.store.now a.handle here.products _ here.is told)
 
-pub returns-in-Nothing : goal.returns-in-Nothing
-returns-in-Nothing c = let a = c.args in let here = c.requires in
+pub returns-in-None : goal.returns-in-None
+returns-in-None c =
+    let a = c.args in
+    let here = c.requires in
     absurd (sum_told a.store.now a.handle here.products here.is
-    (sym (c.fill.ensures.tells a.handle (omega arith)) ∙ sym c.entry.ensures ∙ c.in-Nothing.is))
+    (sym (c.fill.ensures.tells a.handle (omega arith)) ∙ sym c.entry.ensures ∙ c.in-None.is))

@@ -1,16 +1,14 @@
 -- The table: what each position of a store weighs, from the entries before it.
-use Rattle.std.specs.Prelude.{List, [], ◌∷◌, ◌++◌, ℕ, zero, suc, ◌+◌, ◌*◌, length, get_or, ltb, eqb}
+use Rattle.std.specs.Prelude.{Option, Some, None, Result, Ok, Err, List, [], ◌∷◌, ◌++◌, ℕ, zero, suc, ◌+◌, ◌*◌, length, get_or, ltb, eqb}
 use Rattle.node.specs.Choice.{pick}
 use Rattle.forest.specs.Forests.{Product, alone, paired, Node, token, sum, other}
 use Rattle.forest.specs.Stores.{node_at}
 use Rattle.trees.specs.Faults.{asked_at}
 use Rattle.trees.specs.Answers.{tree_limit}
-use Rattle.trees.specs.declared.Counted.{Counted}
-use Rattle.trees.specs.declared.Counted.TheVariants.{Trees, Faulty, TooMany}
+use Rattle.trees.specs.declared.Uncounted.{Uncounted}
+use Rattle.trees.specs.declared.Uncounted.TheVariants.{Faulty, TooMany}
 use Rattle.trees.specs.declared.Weight.{Weight}
 use Rattle.trees.specs.declared.Weight.TheVariants.{Fault, Number, Many}
-use Rattle.trees.specs.declared.Entry.{Entry}
-use Rattle.trees.specs.declared.Entry.TheVariants.{Nothing, Weighed}
 
 -- A number of trees, or that there are too many.
 unfoldable pub limited : ℕ → Weight
@@ -47,19 +45,19 @@ times Many (Number m) = often m
 times Many Many = Many
 
 -- What a factor weighs to the Sum at s: a fault of the Sum where it lies not before it, or where neither Sum nor Evaluated is.
-unfoldable pub of_entry : ℕ → Entry → Weight
-of_entry s Nothing = Fault s
-of_entry s (Weighed w) = w
+unfoldable pub of_entry : ℕ → Option Weight → Weight
+of_entry s None = Fault s
+of_entry s (Some w) = w
 
-unfoldable pub factor_weight : (ℕ → Entry) → ℕ → ℕ → Weight
+unfoldable pub factor_weight : (ℕ → Option Weight) → ℕ → ℕ → Weight
 factor_weight under s q = pick (ltb q s) (of_entry s (under q)) (Fault s)
 
-unfoldable pub product_weight : (ℕ → Entry) → ℕ → Product → Weight
+unfoldable pub product_weight : (ℕ → Option Weight) → ℕ → Product → Weight
 product_weight under s (alone r a) = factor_weight under s a
 product_weight under s (paired r a b) = times (factor_weight under s a) (factor_weight under s b)
 
 -- What is weighed so far, and the Products behind it.
-unfoldable pub sum_from : (ℕ → Entry) → ℕ → Weight → List Product → Weight
+unfoldable pub sum_from : (ℕ → Option Weight) → ℕ → Weight → List Product → Weight
 sum_from under s w [] = w
 sum_from under s w (p ∷ ps) = sum_from under s (plus w (product_weight under s p)) ps
 
@@ -67,31 +65,31 @@ sum_from under s w (p ∷ ps) = sum_from under s (plus w (product_weight under s
 unfoldable pub closed : ℕ → ℕ → List Product → Weight → Weight
 closed s count ps w = pick (ltb (length ps) count) (plus w (Fault s)) w
 
-abbrev pub sum_weight : (ℕ → Entry) → ℕ → ℕ → List Product → Weight
+abbrev pub sum_weight : (ℕ → Option Weight) → ℕ → ℕ → List Product → Weight
 sum_weight under s count ps = closed s count ps (sum_from under s (Number 0) ps)
 
-unfoldable pub weigh_node : (ℕ → Entry) → ℕ → ℕ → Node → Entry
-weigh_node under s count (token t) = Weighed (Number 1)
-weigh_node under s count (sum ps) = Weighed (sum_weight under s count ps)
-weigh_node under s count other = Nothing
+unfoldable pub weigh_node : (ℕ → Option Weight) → ℕ → ℕ → Node → Option Weight
+weigh_node under s count (token t) = Some (Number 1)
+weigh_node under s count (sum ps) = Some (sum_weight under s count ps)
+weigh_node under s count other = None
 
-abbrev pub entry_in : List Entry → ℕ → Entry
-entry_in table q = get_or table q Nothing
+abbrev pub entry_in : List (Option Weight) → ℕ → Option Weight
+entry_in table q = get_or table q None
 
 -- The entry at p, from those before it.
-abbrev pub weigh : List ℕ → List Entry → ℕ → Entry
+abbrev pub weigh : List ℕ → List (Option Weight) → ℕ → Option Weight
 weigh store table p = weigh_node (entry_in table) p (asked_at store p) (node_at store p)
 
 -- The entries of the first p positions.
-unfoldable pub weights : List ℕ → ℕ → List Entry
+unfoldable pub weights : List ℕ → ℕ → List (Option Weight)
 weights store zero = []
 weights store (suc p) = weights store p ++ (weigh store (weights store p) p ∷ [])
 
-abbrev pub entry_at : List ℕ → ℕ → Entry
+abbrev pub entry_at : List ℕ → ℕ → Option Weight
 entry_at store p = weigh store (weights store p) p
 
 -- What count answers of the weight of a Sum.
-abbrev pub answer_of : Weight → Counted
-answer_of (Fault u) = Faulty u
-answer_of (Number n) = Trees n
-answer_of Many = TooMany
+abbrev pub answer_of : Weight → Result ℕ Uncounted
+answer_of (Fault u) = Err (Faulty u)
+answer_of (Number n) = Ok n
+answer_of Many = Err TooMany

@@ -1,53 +1,56 @@
-use mathlib.Core.Path.{◌≡◌, sym, ◌∙◌}
+use Prim.Native.Nat.{ℕ, suc, ◌+◌, ◌-◌, ◌<◌}
+use mathlib.Core.Path.{◌≡◌, sym, subst, ◌∙◌}
 use native.Mathlib.Omega.{arith}
-use Rattle.trees.proofs.Choices.{passing-starts, passing-some, reads_none, no_products, turn_divides, turn_picks, turn_low, turn_on}
+use Rattle.node.specs.Writing.{usable}
+use Rattle.forest.specs.Stores.{products_at}
+use Rattle.trees.proofs.Choices.{Passing, passing-starts, passing-some, reads_none, no_products, turn_divides, turn_picks, turn_low, turn_on}
 use Rattle.trees.proofs.walking.choose.Goals as goal
 
-pub loop-left-init : goal.loop-left-init
-loop-left-init c = passing-starts c.requires (omega arith)
+-- One Product of those that are left is read.
+one_read : (count turn : ℕ) → turn < count → count - turn ≡ suc (count - (turn + 1))
+one_read count turn less = omega (arith, less)
 
-pub returns-in-Ended : goal.returns-in-Ended
-returns-in-Ended c =
-    absurd (passing-some c.loop-left.invariant (reads_none _ _ _ c.loop-left-test.true (sym c.in-Ended.is ∙ c.step.ensures)))
+pub loop-turn-init : goal.loop-turn-init
+loop-turn-init c =
+    let a = c.args in
+    let all : a.count - 0 ≡ a.count = omega arith in
+    subst (λ n. Passing a.store.now a.s a.k a.k (products_at a.count (usable a.store.now) a.from) (products_at n (usable a.store.now) a.from))
+    (sym all) (passing-starts c.requires (omega arith))
+
+pub returns-in_default : goal.returns-in_default
+returns-in_default c =
+    let one = one_read c.args.count c.loop-turn.turn c.loop-turn-test.true in
+    absurd (passing-some c.loop-turn.invariant (reads_none _ _ _ _ one (sym c.in_default.is ∙ c.step.ensures)))
 
 pub choice_in-requires : goal.choice_in-requires
 choice_in-requires c =
     let asked = c.requires in
-    let looped = c.loop-left in
-    let read = sym c.in-ProductOf.is ∙ c.step.ensures in
-    let weighed = c.product-weight.ensures in
-    let passed = c.loop-left-test in
-    (asked.inside, turn_divides asked _ _ looped.invariant passed.true read weighed (sym c.chooses.ensures ∙ c.if-chooses.true))
+    let one = one_read c.args.count c.loop-turn.turn c.loop-turn-test.true in
+    let read = sym c.in-Some.is ∙ c.step.ensures in
+    (asked.inside, turn_divides asked _ _ _ c.loop-turn.invariant one read c.product-weight.ensures (sym c.chooses.ensures ∙ c.if-chooses.true))
 
 pub returns-then-chooses : goal.returns-then-chooses
 returns-then-chooses c =
-    let asked = c.requires in
-    let looped = c.loop-left in
-    let read = sym c.in-ProductOf.is ∙ c.step.ensures in
-    let weighed = c.product-weight.ensures in
-    let passed = c.loop-left-test in
-    turn_picks asked _ _ looped.invariant passed.true read weighed (sym c.chooses.ensures ∙ c.if-chooses.true) c.choice_in.ensures
+    let one = one_read c.args.count c.loop-turn.turn c.loop-turn-test.true in
+    let read = sym c.in-Some.is ∙ c.step.ensures in
+    let chosen = sym c.chooses.ensures ∙ c.if-chooses.true in
+    turn_picks c.requires _ _ _ c.loop-turn.invariant one read c.product-weight.ensures chosen c.choice_in.ensures
 
 pub overflow_sub-rest : goal.overflow_sub-rest
 overflow_sub-rest c =
-    let asked = c.requires in
-    let looped = c.loop-left in
-    let read = sym c.in-ProductOf.is ∙ c.step.ensures in
-    let weighed = c.product-weight.ensures in
-    let passed = c.loop-left-test in
-    turn_low asked _ _ looped.invariant passed.true read weighed (sym c.chooses.ensures ∙ c.if-chooses.false) c.passed_over-rest.ensures
+    let one = one_read c.args.count c.loop-turn.turn c.loop-turn-test.true in
+    let read = sym c.in-Some.is ∙ c.step.ensures in
+    let past = sym c.chooses.ensures ∙ c.if-chooses.false in
+    turn_low c.requires _ _ _ c.loop-turn.invariant one read c.product-weight.ensures past c.passed_over-rest.ensures
 
-pub loop-left-preserved : goal.loop-left-preserved
-loop-left-preserved c =
-    let asked = c.requires in
-    let looped = c.loop-left in
-    let read = sym c.in-ProductOf.is ∙ c.step.ensures in
-    let weighed = c.product-weight.ensures in
-    let passed = c.loop-left-test in
-    turn_on asked _ _ looped.invariant passed.true read weighed (sym c.chooses.ensures ∙ c.if-chooses.false) c.passed_over-rest.ensures
+pub loop-turn-preserved : goal.loop-turn-preserved
+loop-turn-preserved c =
+    let one = one_read c.args.count c.loop-turn.turn c.loop-turn-test.true in
+    let read = sym c.in-Some.is ∙ c.step.ensures in
+    let past = sym c.chooses.ensures ∙ c.if-chooses.false in
+    turn_on c.requires _ _ _ c.loop-turn.invariant one read c.product-weight.ensures past c.passed_over-rest.ensures
 
 pub returns : goal.returns
 returns c =
-    let looped = c.loop-left in
-    let none : looped.left ≡ 0 = omega (arith, c.loop-left-test.false) in
-    absurd (passing-some looped.invariant (no_products c.args.store.now looped.left looped.at none))
+    let none : c.args.count - c.loop-turn.turn ≡ 0 = omega (arith, c.loop-turn-test.false) in
+    absurd (passing-some c.loop-turn.invariant (no_products c.args.store.now (c.args.count - c.loop-turn.turn) c.loop-turn.at none))

@@ -1,13 +1,16 @@
 -- `walking::chosen` meets its contract: at a Sum a Product is chosen, at a leaf its symbol.
-use mathlib.Core.Path.{sym, ◌∙◌}
+use mathlib.Core.Path.{sym, ap, ◌∙◌}
+use Rattle.std.specs.Prelude.{Some}
 use Rattle.trees.proofs.Choices.{choosing_sum, leaf_picks, neither_walks}
 use Rattle.trees.proofs.walking.chosen.Goals as goal
 
 pub choose-requires : goal.choose-requires
-choose-requires c = choosing_sum c.requires (sym c.in-SumOf.is ∙ c.head.ensures)
+choose-requires c =
+    let found = c.in-Some-SumOf in choosing_sum c.requires (ap Some (sym found.field-0-is) ∙ sym found.is ∙ c.head.ensures)
 
-pub returns-in-Leaf : goal.returns-in-Leaf
-returns-in-Leaf c = leaf_picks (sym c.in-Leaf.is ∙ c.head.ensures)
+pub returns-in-Some-Leaf : goal.returns-in-Some-Leaf
+returns-in-Some-Leaf c =
+    let found = c.in-Some-Leaf in leaf_picks (ap Some (sym found.field-0-is) ∙ sym found.is ∙ c.head.ensures)
 
-pub returns-in-Neither : goal.returns-in-Neither
-returns-in-Neither c = absurd (neither_walks c.requires (sym c.in-Neither.is ∙ c.head.ensures))
+pub returns-in-None : goal.returns-in-None
+returns-in-None c = absurd (neither_walks c.requires (sym c.in-None.is ∙ c.head.ensures))
