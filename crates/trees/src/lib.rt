@@ -55,8 +55,8 @@ pub enum Weight {
     Many,
 }
 
-// What a tree is chosen by at a position: a leaf's symbol; or a Product's action, the handle of its left factor with the number of the tree there where
-// it has two, and the last factor with the number of its tree.
+// What a tree is chosen by at a position: a leaf's symbol; or a Product's action, the handle of its left factor with the number of the tree
+// there, where it has two, and the last factor with the number of its tree.
 #[derive(Clone, Copy, PartialEq, Eq, Debug)]
 pub enum Choice {
     Word(u32),

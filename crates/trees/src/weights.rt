@@ -101,8 +101,8 @@ impl Weight {
         }
     }
 
-    // The number of the left factor's tree, and that of the right's: k divided by the number of the right's trees, and what is left. Where these are
-    // too many, every k is below them.
+    // The number of the left factor's tree, and that of the right's: k divided by the number of the right's trees, and what is left. Where
+    // these are too many, every k is below them.
     #[tactic(auto, unfolding(crate::specs::inner::Walks::left_number, crate::specs::inner::Walks::right_number))]
     pub fn numbers(self, k: u64) -> (u64, u64)
         requires { self ≢ Number 0 }
