@@ -1,12 +1,7 @@
 -- `advance::advance` meets its contract.
 use native.Mathlib.Omega.{arith}
-use Rattle.advance.proofs.Advancing.{reach_asks, clear_asks, reaches, kept-below, refuses, next_asks, advances}
+use Rattle.advance.proofs.Advancing.{reach_asks, clear_asks, reaches, refuses, next_asks, advances}
 use Rattle.advance.proofs.advance.Goals as goal
-
-pub new_items-end-requires : goal.new_items-end-requires
-new_items-end-requires c =
-    let required = c.requires in
-    (required.new, required.spare_items)
 
 pub greatest_origin-m-requires : goal.greatest_origin-m-requires
 greatest_origin-m-requires c =
@@ -19,27 +14,6 @@ last_kept-requires c =
     let required = c.requires in
     let items-made = c.new_items-end in
     reaches _ _ _ _ _ _ required _ _ items-made.ensures.end items-made.ensures.words _ c.greatest_origin-m.ensures
-
-pub overflow_add-last_kept : goal.overflow_add-last_kept
-overflow_add-last_kept c =
-    let required = c.requires in
-    let items-made = c.new_items-end in
-    omega (
-      arith,
-      kept-below _ _ _ _ _ _ required _ _ items-made.ensures.end items-made.ensures.words _
-          c.greatest_origin-m.ensures _
-          c.last_kept.ensures,
-      required.set_fits,
-    )
-
-pub overflow_mul-from : goal.overflow_mul-from
-overflow_mul-from c =
-    let required = c.requires in
-    let items-made = c.new_items-end in
-    omega (
-      arith,
-      (clear_asks _ _ _ _ _ _ required _ _ items-made.ensures.end items-made.ensures.words).0,
-    )
 
 pub overflow_mul-end : goal.overflow_mul-end
 overflow_mul-end c =

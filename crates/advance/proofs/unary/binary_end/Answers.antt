@@ -6,25 +6,8 @@ use Rattle.item.specs.Item.{item_at}
 use Rattle.grammar.specs.inner.Decoded.{rules_of}
 use Rattle.parse.specs.WellFormed.{second_of}
 use Rattle.advance.proofs.Placing.{Narrow}
-use Rattle.advance.proofs.Dropping.{dropping_start, dropping_next, dropping_ends, second-read}
+use Rattle.advance.proofs.Dropping.{dropping_next, dropping_ends, second-read}
 use Rattle.advance.proofs.unary.binary_end.Goals as goal
-
-pub loop-p-init : goal.loop-p-init
-loop-p-init c = dropping_start _ _ _ _ c.requires.0.runs
-
-pub rule-requires : goal.rule-requires
-rule-requires c = omega (arith, c.loop-p.invariant.below, c.requires.0.there)
-
-pub second-requires : goal.second-requires
-second-requires c =
-    let required = c.requires in
-    let looped = c.loop-p in
-    omega (
-      arith,
-      c.rule.ensures,
-      required.0.rules (looped.p - 1) (omega arith) (omega (arith, looped.invariant.below)),
-      required.0.few,
-    )
 
 pub returns-then-second-ne-NONE : goal.returns-then-second-ne-NONE
 returns-then-second-ne-NONE c =
