@@ -53,9 +53,6 @@ module _ (rs : List Rule) (w : List ℕ) (from to : ℕ) where
     pub below : end ≤ to
     pub unary : (p : ℕ) → end ≤ p → p < to → second_of rs (item_at w p) ≡ none
 
-  pub dropping_start : from ≤ to → Dropping to
-  dropping_start l = record { above = l; below = omega arith; unary = λ p a b. absurd (omega arith) }
-
   pub dropping_next : (end : ℕ) → Dropping end → from < end → second_of rs (item_at w (end - 1)) ≡ none → Dropping (end - 1)
   dropping_next end d l e = record {
     above = omega arith;

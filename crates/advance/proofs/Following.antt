@@ -177,9 +177,6 @@ module _ (rules : List ℕ) (count : ℕ) (table : List (List ℕ)) (e : ℕ) (i
     pub end_fits : start + (to - from) ≤ max_items
     end_fits = omega (arith, start-low, h.room, h.prunable.runs)
 
-    pub starts-long : length starts₁ ≡ length starts
-    starts-long = ap length p.starts_are ∙ padded-length (length starts) (take (last_kept e m + 2) starts) (omega (arith, length-take (last_kept e m + 2) starts))
-
     -- So they follow the sets that are kept.
     pub follows : (used : ℕ) {rows₂ : List ℕ} → rows₂ ≡ with_row row_words rows₁ (kept + 1) (predictions rs table (items_from items₁ start (start + (to - from) - start)))
         → Follows used e m v new (predictions rs table new) (record { set = kept + 1; items = start + (to - from); used = used })

@@ -75,9 +75,6 @@ module _ (rules : List ℕ) (count : ℕ) (table : List (List ℕ)) (w rows₀ :
         none = ap (predictions rs table) (items_none w to (to - to) (omega arith))
 
     module _ (p : ℕ) (rows : List ℕ) (s : Predicting p rows) where
-      pub predicting_length : length rows ≡ length rows₀
-      predicting_length = ap length s.are ∙ with_row-length row_words rows₀ k h.row_there (union_from p) s.wide
-
       module _ (l : from < p) (word symbol : ℕ) (e : word ≡ rule_at w (p - 1)) (g : symbol ≡ second_in rules word) where
         -- The second of the item before it has a row.
         pub predicting_symbol : symbol < max_symbols
@@ -108,6 +105,3 @@ module _ (rules : List ℕ) (count : ℕ) (table : List (List ℕ)) (w rows₀ :
             more =
                 ap (λ (x : ℕ). union (union_from p) (get_or table x [])) (sym second)
                 ∙ sym (ap (predictions rs table) (items_down w p to (omega arith) s.below))
-
-      pub predicting_ends : p ≤ from → rows ≡ with_row row_words rows₀ k (union_from from)
-      predicting_ends l = s.are ∙ ap (λ (q : ℕ). with_row row_words rows₀ k (union_from q)) (omega (arith, s.above))

@@ -1,15 +1,13 @@
 -- Step 5: the greatest origin, the sets that are kept, and the new items moved behind them.
 use mathlib.Core.Path.{◌≡◌, refl, sym, ap, ap₂, ◌∙◌}
-use mathlib.Core.List.{List, ◌∷◌, ◌++◌, append_assoc}
+use mathlib.Core.List.{List, ◌∷◌, ◌++◌}
 use Prim.Native.Nat.{ℕ, zero, suc, ◌+◌, ◌-◌, ◌*◌, ◌≤◌, ◌<◌, max}
 use native.Mathlib.Omega.{arith}
-use lib.ListN.{length, get_or, take, replicate, length-append}
-use lib.Seq.{length-take-le, take_at}
+use lib.ListN.{length, get_or, take, replicate}
+use lib.Seq.{length-take-le}
 use borrow.Author.Tests.{lt-ltb, le-ltb}
 use Rattle.bits.specs.Width.{row_words}
-use Rattle.item.specs.Item.{Item, item_words, item_at, stored, flat}
-use Rattle.item.proofs.Words.{flat-length}
-use Rattle.parse.specs.inner.Parts.{Clear}
+use Rattle.item.specs.Item.{Item, item_words, item_at, stored}
 use Rattle.advance.specs.NewItems.{items_from, placed}
 use Rattle.parse.specs.Words.{padded}
 use Rattle.advance.specs.inner.Advances.{Pruned}
@@ -119,22 +117,6 @@ module _ (w : List ℕ) (from to base : ℕ) (low : base ≤ from) (runs : from 
 
         one : suc q ≡ q + 1
         one = omega arith
-
-    pub moving_clear : Clear w (item_words * to) → Clear words (item_words * to)
-    moving_clear c = record { each = λ i l. behind i (omega (arith, s.few)) ∙ c.each i l }
-
-    pub moving_ends : to - from ≤ q → {words' : List ℕ} → words' ≡ padded (length words) (take (item_words * (base + (to - from))) words)
-        → words' ≡ ending w base (items_from w from (to - from))
-    moving_ends l e =
-        e ∙ ap₂ padded moving_length
-        (ap (λ (n : ℕ). take (item_words * (base + n)) words) (sym all)
-        ∙ ap (take (item_words * (base + q))) (s.are ∙ sym (append_assoc (take (item_words * base) w) (flat (items_from w from q)) _))
-        ∙ take_at (take (item_words * base) w ++ flat (items_from w from q)) _ (item_words * (base + q))
-        (omega (arith, length-append (take (item_words * base) w) (flat (items_from w from q)), length-take-le (item_words * base) w (omega arith), flat-length (items_from w from q), long))
-        ∙ ap (λ (n : ℕ). take (item_words * base) w ++ flat (items_from w from n)) all)
-      where
-        all : q ≡ to - from
-        all = omega (arith, s.few)
 
 -- Starts that never fall are no higher than the last.
 pub last-greatest : (starts : List ℕ) (e : ℕ) → ((k : ℕ) → k ≤ e → get_or starts k 0 ≤ get_or starts (k + 1) 0) → (k : ℕ) → k ≤ e + 1 → get_or starts k 0 ≤ get_or starts (e + 1) 0

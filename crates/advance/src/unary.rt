@@ -29,12 +29,7 @@ fn binary_end(rules: &Rules, items: &[u32], from: usize, to: usize) -> usize
 }
 
 // Drops those of sorted items that have no second, and answers the place behind the others.
-pub fn remove_unary_medial_items(
-    rules: &Rules,
-    items: &mut [u32],
-    from: usize,
-    to: usize,
-) -> usize
+pub fn remove_unary_medial_items(rules: &Rules, items: &mut [u32], from: usize, to: usize) -> usize
     requires { Stored rules.now.count items.old from to × NeverFalls (rules_of rules.now)
         (items_from items.old from (to - from)) × Clear items.old (item_words * to) }
     ensures end { result ≡ from + length
