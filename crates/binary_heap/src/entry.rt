@@ -18,6 +18,7 @@ pub struct Entry {
 pub const NO_ENTRY: Entry = Entry { place: 0, right: 0 };
 
 // The entry at `pos`.
+#[tactic(auto, using(crate::proofs::Held::held_words))]
 pub fn read(queue: &[u32], pos: usize) -> Entry
     requires { pos < length (entries_in queue.now) }
     ensures { result ≡ entry_at (entries_in queue.now) pos }
@@ -29,6 +30,7 @@ pub fn read(queue: &[u32], pos: usize) -> Entry
 }
 
 // Stores an entry at `pos`.
+#[tactic(auto, using(crate::proofs::Held::held_words))]
 pub fn write(queue: &mut [u32], pos: usize, entry: Entry)
     requires { pos < length (entries_in queue.old) }
     ensures { entries_in queue.new ≡ set (entries_in queue.old) pos entry }
