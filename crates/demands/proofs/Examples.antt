@@ -21,7 +21,7 @@ use Rattle.grammar.specs.File.{Malformed, header_bytes, rule_bytes, version_of, 
 use Rattle.parse.specs.declared.State.{State}
 use Rattle.parse.specs.Words.{Words, padded, filled}
 use Rattle.node.specs.Choice.{both_below}
-use Rattle.node.specs.Rows.{units_of, row_of, sum_row, long_product, alone_row, pair_row, product_row, leaf_row, unfit, unfit_product, unfit_right}
+use Rattle.node.specs.Rows.{units_at, row_of, sum_row, long_product, alone_row, pair_row, product_row, leaf_row, unfit, unfit_product, unfit_right}
 use Rattle.node.specs.Reading.{filler, long_right}
 use Rattle.node.specs.Writing.{put, place, write_units}
 use Rattle.completion.specs.Pass.{and_then, store, enqueue, written, append, store_full}
@@ -151,12 +151,12 @@ unfolding rows_of
 start_a = reading_start (state 7 7 7) old_a sound_a (omega arith) refl
 
 pub one_a : Reads (state 1 2 3) words_a1 (plain (0 ∷ []))
-unfolding entries_in is_position any_predicted scan scan_all advanced stepped ran and_then store enqueue append written write_units place put units_of row_of sum_row long_product alone_row pair_row product_row leaf_row unfit unfit_product unfit_right both_below long_right count complete_medial complete_medial_items complete_unary complete_unary_predictions complete_binary complete_binary_predictions complete pop_greatest next_summand pop_sum complete_sum complete_all_sums over until union records.flat highest greatest_origin predictions items_from insert sort_into binary push_queue pop_queue pushed popped move goes_up rise sift_up takes_right child goes_down sink sift_down rows_of
+unfolding entries_in is_position any_predicted scan scan_all advanced stepped ran and_then store enqueue append written write_units place put units_at row_of sum_row long_product alone_row pair_row product_row leaf_row unfit unfit_product unfit_right both_below long_right count complete_medial complete_medial_items complete_unary complete_unary_predictions complete_binary complete_binary_predictions complete pop_greatest next_summand pop_sum complete_sum complete_all_sums over until union records.flat highest greatest_origin predictions items_from insert sort_into binary push_queue pop_queue pushed popped move goes_up rise sift_up takes_right child goes_down sink sift_down rows_of
 one_a = reading_on start_a (0 ∷ []) refl
 
 -- A READS "0 1 0".
 pub read_a : Reads (state 3 6 13) words_a3 (plain (0 ∷ 1 ∷ 0 ∷ []))
-unfolding entries_in is_position any_predicted scan scan_all advanced stepped ran and_then store enqueue append written write_units place put units_of row_of sum_row long_product alone_row pair_row product_row leaf_row unfit unfit_product unfit_right both_below long_right count complete_medial complete_medial_items complete_unary complete_unary_predictions complete_binary complete_binary_predictions complete pop_greatest next_summand pop_sum complete_sum complete_all_sums over until union records.flat highest greatest_origin predictions items_from insert sort_into binary push_queue pop_queue pushed popped move goes_up rise sift_up takes_right child goes_down sink sift_down rows_of
+unfolding entries_in is_position any_predicted scan scan_all advanced stepped ran and_then store enqueue append written write_units place put units_at row_of sum_row long_product alone_row pair_row product_row leaf_row unfit unfit_product unfit_right both_below long_right count complete_medial complete_medial_items complete_unary complete_unary_predictions complete_binary complete_binary_predictions complete pop_greatest next_summand pop_sum complete_sum complete_all_sums over until union records.flat highest greatest_origin predictions items_from insert sort_into binary push_queue pop_queue pushed popped move goes_up rise sift_up takes_right child goes_down sink sift_down rows_of
 read_a = reading_on (reading_on {s' = state 2 3 4} {w' = words_a2} one_a (1 ∷ []) refl) (0 ∷ []) refl
 
 -- So it is a sentence, since finished says yes;
@@ -177,11 +177,11 @@ abbrev pub ended : State → Words → ℕ → Ended
 ended s w taken = record { outcome = as_it_was 0 s w; taken = taken }
 
 pub run_a : Runs file_a (state 0 0 0) words_a0 (plain (0 ∷ 1 ∷ 0 ∷ [])) (ended (state 3 6 13) words_a3 3)
-unfolding entries_in is_position any_predicted scan scan_all advanced stepped ran and_then store enqueue append written write_units place put units_of row_of sum_row long_product alone_row pair_row product_row leaf_row unfit unfit_product unfit_right both_below long_right count complete_medial complete_medial_items complete_unary complete_unary_predictions complete_binary complete_binary_predictions complete pop_greatest next_summand pop_sum complete_sum complete_all_sums over until union records.flat highest greatest_origin predictions items_from insert sort_into binary push_queue pop_queue pushed popped move goes_up rise sift_up takes_right child goes_down sink sift_down rows_of
+unfolding entries_in is_position any_predicted scan scan_all advanced stepped ran and_then store enqueue append written write_units place put units_at row_of sum_row long_product alone_row pair_row product_row leaf_row unfit unfit_product unfit_right both_below long_right count complete_medial complete_medial_items complete_unary complete_unary_predictions complete_binary complete_binary_predictions complete pop_greatest next_summand pop_sum complete_sum complete_all_sums over until union records.flat highest greatest_origin predictions items_from insert sort_into binary push_queue pop_queue pushed popped move goes_up rise sift_up takes_right child goes_down sink sift_down rows_of
 run_a = Runs.done start_a.ready
 
 pub run_one_a : Runs file_a (state 0 0 0) words_a0 (plain (0 ∷ [])) (ended (state 1 2 3) words_a1 1)
-unfolding entries_in is_position any_predicted scan scan_all advanced stepped ran and_then store enqueue append written write_units place put units_of row_of sum_row long_product alone_row pair_row product_row leaf_row unfit unfit_product unfit_right both_below long_right count complete_medial complete_medial_items complete_unary complete_unary_predictions complete_binary complete_binary_predictions complete pop_greatest next_summand pop_sum complete_sum complete_all_sums over until union records.flat highest greatest_origin predictions items_from insert sort_into binary push_queue pop_queue pushed popped move goes_up rise sift_up takes_right child goes_down sink sift_down rows_of
+unfolding entries_in is_position any_predicted scan scan_all advanced stepped ran and_then store enqueue append written write_units place put units_at row_of sum_row long_product alone_row pair_row product_row leaf_row unfit unfit_product unfit_right both_below long_right count complete_medial complete_medial_items complete_unary complete_unary_predictions complete_binary complete_binary_predictions complete pop_greatest next_summand pop_sum complete_sum complete_all_sums over until union records.flat highest greatest_origin predictions items_from insert sort_into binary push_queue pop_queue pushed popped move goes_up rise sift_up takes_right child goes_down sink sift_down rows_of
 run_one_a = Runs.done start_a.ready
 
 -- With room for one unit the token's node is written and its sum's is not: 14, and everything is as it was.
@@ -193,12 +193,12 @@ unfolding rows_of
 start_narrow_a = reading_start (state 7 7 7) (with_nodes (9 ∷ []) old_a) sound_a (omega arith) refl
 
 pub full_a : Takes file_a (state 0 0 0) narrow_a (0 ∷ []) (as_it_was store_full (state 0 0 0) narrow_a)
-unfolding entries_in is_position any_predicted scan scan_all advanced stepped ran and_then store enqueue append written write_units place put units_of row_of sum_row long_product alone_row pair_row product_row leaf_row unfit unfit_product unfit_right both_below long_right count complete_medial complete_medial_items complete_unary complete_unary_predictions complete_binary complete_binary_predictions complete pop_greatest next_summand pop_sum complete_sum complete_all_sums over until union records.flat highest greatest_origin predictions items_from insert sort_into binary push_queue pop_queue pushed popped move goes_up rise sift_up takes_right child goes_down sink sift_down rows_of
+unfolding entries_in is_position any_predicted scan scan_all advanced stepped ran and_then store enqueue append written write_units place put units_at row_of sum_row long_product alone_row pair_row product_row leaf_row unfit unfit_product unfit_right both_below long_right count complete_medial complete_medial_items complete_unary complete_unary_predictions complete_binary complete_binary_predictions complete pop_greatest next_summand pop_sum complete_sum complete_all_sums over until union records.flat highest greatest_origin predictions items_from insert sort_into binary push_queue pop_queue pushed popped move goes_up rise sift_up takes_right child goes_down sink sift_down rows_of
 full_a = Takes.done start_narrow_a.ready
 
 -- A KIND THAT IS NOT PREDICTED IS PASSED OVER: of 0 and 1 only 0 may begin, and the position leaves what 0 alone does.
 pub over_a : Takes file_a (state 0 0 0) words_a0 (0 ∷ 1 ∷ []) (as_it_was 0 (state 1 2 3) words_a1)
-unfolding entries_in is_position any_predicted scan scan_all advanced stepped ran and_then store enqueue append written write_units place put units_of row_of sum_row long_product alone_row pair_row product_row leaf_row unfit unfit_product unfit_right both_below long_right count complete_medial complete_medial_items complete_unary complete_unary_predictions complete_binary complete_binary_predictions complete pop_greatest next_summand pop_sum complete_sum complete_all_sums over until union records.flat highest greatest_origin predictions items_from insert sort_into binary push_queue pop_queue pushed popped move goes_up rise sift_up takes_right child goes_down sink sift_down rows_of
+unfolding entries_in is_position any_predicted scan scan_all advanced stepped ran and_then store enqueue append written write_units place put units_at row_of sum_row long_product alone_row pair_row product_row leaf_row unfit unfit_product unfit_right both_below long_right count complete_medial complete_medial_items complete_unary complete_unary_predictions complete_binary complete_binary_predictions complete pop_greatest next_summand pop_sum complete_sum complete_all_sums over until union records.flat highest greatest_origin predictions items_from insert sort_into binary push_queue pop_queue pushed popped move goes_up rise sift_up takes_right child goes_down sink sift_down rows_of
 over_a = Takes.done start_a.ready
 
 -- Grammar B: its file, its rules, and the words of its table.
@@ -270,7 +270,7 @@ start_b = reading_start (state 7 7 7) old_b sound_b (omega arith) refl
 
 -- B READS "0 1 2" IN ONE RUN, and drops a set: three tokens, and the latest set is set 2.
 pub read_b : History file_b (state 2 3 11) words_b3 (plain (0 ∷ 1 ∷ 2 ∷ []))
-unfolding entries_in is_position any_predicted scan scan_all advanced stepped ran and_then store enqueue append written write_units place put units_of row_of sum_row long_product alone_row pair_row product_row leaf_row unfit unfit_product unfit_right both_below long_right count complete_medial complete_medial_items complete_unary complete_unary_predictions complete_binary complete_binary_predictions complete pop_greatest next_summand pop_sum complete_sum complete_all_sums over until union records.flat highest greatest_origin predictions items_from insert sort_into binary push_queue pop_queue pushed popped move goes_up rise sift_up takes_right child goes_down sink sift_down rows_of
+unfolding entries_in is_position any_predicted scan scan_all advanced stepped ran and_then store enqueue append written write_units place put units_at row_of sum_row long_product alone_row pair_row product_row leaf_row unfit unfit_product unfit_right both_below long_right count complete_medial complete_medial_items complete_unary complete_unary_predictions complete_binary complete_binary_predictions complete pop_greatest next_summand pop_sum complete_sum complete_all_sums over until union records.flat highest greatest_origin predictions items_from insert sort_into binary push_queue pop_queue pushed popped move goes_up rise sift_up takes_right child goes_down sink sift_down rows_of
 read_b = History.run {b = plain (0 ∷ 1 ∷ 2 ∷ [])} start_b.history (Runs.done start_b.ready)
 
 -- A START IN THE MIDDLE BEGINS ANEW: over the words that B's parse left, "0 1" is read and a second 0 is answered 6. No sentence begins so.
@@ -295,7 +295,7 @@ words_b2 =
     }
 
 again_b : Reading file_b grammar_b (table_of rows_b) (state 2 2 2) words_b2 (plain (0 ∷ 1 ∷ []))
-unfolding entries_in is_position any_predicted scan scan_all advanced stepped ran and_then store enqueue append written write_units place put units_of row_of sum_row long_product alone_row pair_row product_row leaf_row unfit unfit_product unfit_right both_below long_right count complete_medial complete_medial_items complete_unary complete_unary_predictions complete_binary complete_binary_predictions complete pop_greatest next_summand pop_sum complete_sum complete_all_sums over until union records.flat highest greatest_origin predictions items_from insert sort_into binary push_queue pop_queue pushed popped move goes_up rise sift_up takes_right child goes_down sink sift_down rows_of
+unfolding entries_in is_position any_predicted scan scan_all advanced stepped ran and_then store enqueue append written write_units place put units_at row_of sum_row long_product alone_row pair_row product_row leaf_row unfit unfit_product unfit_right both_below long_right count complete_medial complete_medial_items complete_unary complete_unary_predictions complete_binary complete_binary_predictions complete pop_greatest next_summand pop_sum complete_sum complete_all_sums over until union records.flat highest greatest_origin predictions items_from insert sort_into binary push_queue pop_queue pushed popped move goes_up rise sift_up takes_right child goes_down sink sift_down rows_of
 again_b =
     reading_on (reading_on {s' = state 1 1 1} {w' = words_b1} (reading_start {s' = state 0 0 0} {w' = words_b0} (state 2 3 11) words_b3 sound_b (omega arith) refl) (0 ∷ []) refl) (1 ∷ []) refl
 
@@ -373,9 +373,9 @@ start_k = reading_start (state 7 7 7) old_k sound_k (omega arith) refl
 
 -- K READS 0 OR 1 AT ONE POSITION: the node of each is written, and one sum has both.
 pub both_taken_k : Takes file_k (state 0 0 0) words_k0 (0 ∷ 1 ∷ []) (as_it_was 0 (state 1 1 5) words_k1)
-unfolding entries_in is_position any_predicted scan scan_all advanced stepped ran and_then store enqueue append written write_units place put units_of row_of sum_row long_product alone_row pair_row product_row leaf_row unfit unfit_product unfit_right both_below long_right count complete_medial complete_medial_items complete_unary complete_unary_predictions complete_binary complete_binary_predictions complete pop_greatest next_summand pop_sum complete_sum complete_all_sums over until union records.flat highest greatest_origin predictions items_from insert sort_into binary push_queue pop_queue pushed popped move goes_up rise sift_up takes_right child goes_down sink sift_down rows_of
+unfolding entries_in is_position any_predicted scan scan_all advanced stepped ran and_then store enqueue append written write_units place put units_at row_of sum_row long_product alone_row pair_row product_row leaf_row unfit unfit_product unfit_right both_below long_right count complete_medial complete_medial_items complete_unary complete_unary_predictions complete_binary complete_binary_predictions complete pop_greatest next_summand pop_sum complete_sum complete_all_sums over until union records.flat highest greatest_origin predictions items_from insert sort_into binary push_queue pop_queue pushed popped move goes_up rise sift_up takes_right child goes_down sink sift_down rows_of
 both_taken_k = Takes.done start_k.ready
 
 pub both_k : Reading file_k grammar_k (table_of rows_k) (state 1 1 5) words_k1 ((0 ∷ 1 ∷ []) ∷ [])
-unfolding entries_in is_position any_predicted scan scan_all advanced stepped ran and_then store enqueue append written write_units place put units_of row_of sum_row long_product alone_row pair_row product_row leaf_row unfit unfit_product unfit_right both_below long_right count complete_medial complete_medial_items complete_unary complete_unary_predictions complete_binary complete_binary_predictions complete pop_greatest next_summand pop_sum complete_sum complete_all_sums over until union records.flat highest greatest_origin predictions items_from insert sort_into binary push_queue pop_queue pushed popped move goes_up rise sift_up takes_right child goes_down sink sift_down rows_of
+unfolding entries_in is_position any_predicted scan scan_all advanced stepped ran and_then store enqueue append written write_units place put units_at row_of sum_row long_product alone_row pair_row product_row leaf_row unfit unfit_product unfit_right both_below long_right count complete_medial complete_medial_items complete_unary complete_unary_predictions complete_binary complete_binary_predictions complete pop_greatest next_summand pop_sum complete_sum complete_all_sums over until union records.flat highest greatest_origin predictions items_from insert sort_into binary push_queue pop_queue pushed popped move goes_up rise sift_up takes_right child goes_down sink sift_down rows_of
 both_k = reading_on start_k (0 ∷ 1 ∷ []) refl

@@ -151,7 +151,7 @@ module _ {g : Grammar} {table : List (List ℕ)} {s : State} {v : Words} (accept
     spare_starts = well.spare_starts;
     spare_rows = well.spare_rows;
     spare_queue = well.spare_queue;
-    spare_units = readable.spare.unit;
+    spare_units = readable.spare.each;
     reads = readable.reads;
     handles = λ p there.
         subst (λ (i : Item). Meets (used_of pass) i.handle 0) (passed.onward.same-items p there)
@@ -176,7 +176,7 @@ module _ {g : Grammar} {table : List (List ℕ)} {s : State} {v : Words} (accept
       })
     where
       items : (without_new written-state written).items ≡ v.items
-      items = without_new_lem s v v (omega (arith, well.items_fit)) (record { zero = well.spare_items }) refl refl
+      items = without_new_lem s v v (omega (arith, well.items_fit)) (record { each = well.spare_items }) refl refl
 
       same : without_new written-state written ≡ written
       same = λ k. record { items = items k; starts = v.starts; rows = v.rows; queue = v.queue; store = pass.units }

@@ -215,7 +215,7 @@ module _ (rs : List Rule) (starts rows : List ℕ) where
 module _ {n : ℕ} {rs : List Rule} {s : State} {v : Words} (well : WellFormed n rs s v) where
   -- A pass over a well-formed state begins so,
   pub readable_begins : Readable (beginning s v)
-  readable_begins = record { used_fit = well.units_fit; spare = record { unit = well.spare_units }; reads = well.reads; handles = well.handles }
+  readable_begins = record { used_fit = well.units_fit; spare = record { each = well.spare_units }; reads = well.reads; handles = well.handles }
 
 -- AND ENDS SO.
 pub readable_completed : (g : Grammar) {n : ℕ} {s : State} {v : Words} → WellFormed n g.rules s v → (kinds : List ℕ) → Readable (completed g s v kinds)

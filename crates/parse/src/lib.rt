@@ -23,7 +23,7 @@ pub mod sets;
 pub mod spare;
 
 // A parse by value: the number of the latest set, the number of items in all sets, and the number of used units of the store.
-#[derive(Clone, Copy)]
+#[derive(Clone, Copy, PartialEq, Eq, Debug)]
 pub struct State {
     pub set: usize,
     pub items: usize,
