@@ -1,5 +1,5 @@
 -- Counting the entries of one origin and left side: their places hang together from the root on.
-use mathlib.Core.Path.{◌≡◌, sym, ap, ◌∙◌, subst}
+use mathlib.Core.Path.{◌≡◌, sym, ap, ◌∙◌}
 use mathlib.Core.Bool.{Bool, true, false, ◌&&◌}
 use mathlib.Core.List.{List}
 use Prim.Native.Nat.{ℕ, zero, suc, ◌+◌, ◌-◌, ◌*◌, ◌≤◌, ◌<◌, min}
@@ -19,7 +19,6 @@ use Rattle.completion.specs.Pass.{Pass}
 use Rattle.completion.specs.Sums.{greatest, is_of}
 use Rattle.completion.specs.inner.Pending.{Grounds, Pending, Rooted}
 use Rattle.completion.proofs.Entries.{entries-length, entry_at_lem, each_entry}
-use Rattle.completion.proofs.Overlaid.{on_units}
 use Rattle.completion.proofs.Pending.{Lower, lower-other, lower_down, lower-adjacent, greatest_entry}
 use Rattle.completion.proofs.Summing.{counted_none, counted_next}
 
@@ -144,10 +143,3 @@ greatest_rooted {rs} {starts} {rows} grounds s pending some = record { parents =
         not_of : (i : Item) → is_of rs (greatest s).origin (left_of rs (greatest s)) i ≡ false → i.origin ≡ (greatest s).origin → left_of rs i ≡ left_of rs (greatest s) → ⊥
         not_of i other origin left =
             omega (arith, ap once (sym other ∙ ap (λ (b : Bool). b && eqb (left_of rs i) (left_of rs (greatest s))) (eq-eqb i.origin (greatest s).origin origin) ∙ eq-eqb (left_of rs i) (left_of rs (greatest s)) left))
-
--- Over other units, and for numbers that are those of the greatest entry.
-pub rooted_on : {rs : List Rule} {s : Pass} (u : List ℕ) (k x : ℕ) → k ≡ (greatest s).origin → x ≡ left_of rs (greatest s)
-    → Rooted rs (greatest s).origin (left_of rs (greatest s)) s → Rooted rs k x (on_units u s)
-rooted_on {rs} {s} u k x origin left rooted =
-    subst (λ (n : ℕ). Rooted rs n x (on_units u s)) (sym origin)
-    (subst (λ (n : ℕ). Rooted rs (greatest s).origin n (on_units u s)) (sym left) (record { parents = rooted.parents }))

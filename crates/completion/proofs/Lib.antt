@@ -1,6 +1,5 @@
 -- Laws on completion passes.
 pub mod Pushes
-pub mod Overlaid
 pub mod Soundness
 pub mod Stopping
 pub mod Keeping

@@ -1,6 +1,6 @@
 -- A completion pass on its way: items are stored behind those of the sets, places of items are queued, and nodes are written behind the used
 -- units.
-use Rattle.std.specs.Prelude.{true, false, List, [], ℕ, ◌+◌, ◌/◌, length, eqb, ltb}
+use Rattle.std.specs.Prelude.{true, false, List, ℕ, ◌+◌, ◌/◌, length, eqb, ltb}
 use Rattle.item.specs.Item.{item_words, stored}
 use Rattle.binary_heap.specs.Entry.{Entry, entries_in, entry_key}
 use Rattle.binary_heap.specs.Queue.{push_queue}
@@ -28,10 +28,6 @@ pass_with at items queue units = record { at = at; items = items; queue = queue;
 -- A pass with the entries that words hold, over a store.
 abbrev pub pass_over : Progress → List ℕ → List ℕ → List ℕ → Pass
 pass_over at items words units = pass_with at items (entries_in words) units
-
--- The same over no store: completing a pair writes no node.
-abbrev pub pass_of : Progress → List ℕ → List ℕ → Pass
-pass_of at items words = pass_over at items words []
 
 -- The refusals: no place for an item, no place in the queue, no place for a node.
 abbrev pub items_full : ℕ

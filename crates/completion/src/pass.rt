@@ -1,5 +1,5 @@
 // A completion pass: its pushes and writes, each refused where there is no place.
-ghost use Rattle.std.specs.Prelude.{◌≡◌, ◌<◌, ◌^◌};
+ghost use Rattle.std.specs.Prelude.{◌≡◌, ◌<◌};
 ghost use Rattle.completion.specs.Pass.{store, enqueue, append};
 ghost use Rattle.completion.specs.Lent.{pass_in, after, Kept};
 ghost use Rattle.completion.specs.inner.Ready.{PassFits};
@@ -18,7 +18,7 @@ pub enum Full {
 }
 
 // The rules and sets that it reads, the words that it writes, and how far it has come: the items stored so far, those of the sets included; the
-// entries of the queue; the used units of the store.
+// entries of the queue; the used units of the store. No invariant says what a pass rests on: `store` and `append` ask nothing of it.
 #[derive(Drop)]
 pub struct Pass<'a> {
     pub rules: &'a Rules,
@@ -33,20 +33,14 @@ pub struct Pass<'a> {
 }
 
 impl Pass<'_> {
-    // Stores an item behind the others, with the handle of its first symbol's node.
-    pub fn store(&mut self, origin: usize, rule: usize, handle: u32) -> Result<(), Full>
-        requires { (origin < 2 ^ 32) × (rule < 2 ^ 32) }
+    // Stores an item behind the others.
+    pub fn store(&mut self, item: Item) -> Result<(), Full>
         ensures kept { Kept self.old self.new }
-        ensures pass { after result self.new ≡ store origin rule handle (pass_in self.old) }
+        ensures pass { after result self.new ≡ store item.origin item.rule item.handle (pass_in self.old) }
     {
         if self.stored >= self.items.len() / item::ITEM_WORDS {
             return Err(Full::Items);
         }
-        let item = Item {
-            origin: origin as u32,
-            rule: rule as u32,
-            handle,
-        };
         item::write(self.items, self.stored, item);
         self.stored += 1;
         Ok(())
@@ -60,6 +54,7 @@ impl Pass<'_> {
     {
         let capacity = self.queue.len() / ENTRY_WORDS;
         let queued = self.queued;
+        // A loan beside that of the queue.
         let items = &mut *self.items;
         let entry = Entry {
             place: place as u32,

@@ -1,5 +1,5 @@
 // Completing the rules that begin with a symbol and whose left side is predicted.
-ghost use Rattle.std.specs.Prelude.{◌≡◌, ◌<◌};
+ghost use Rattle.std.specs.Prelude.{◌≡◌, ◌<◌, ◌^◌};
 ghost use Rattle.grammar.specs.Accepted.{max_symbols};
 ghost use Rattle.grammar.specs.inner.Decoded.{first_in, Chained};
 ghost use Rattle.completion.specs.Lent.{its_rules, pass_in, after, Kept};
@@ -9,7 +9,20 @@ ghost use Rattle.completion.specs.Complete.{waits, complete_unary, complete_unar
 use crate::Pair;
 use crate::pass::{Full, Pass};
 use grammar::rules::NONE;
+use item::Item;
 use node::factor::NO_FACTOR;
+
+// The item of rule `r` with a pair behind it: of the pair's set for an origin, and with the link for its handle.
+fn begun(pair: Pair, r: usize) -> Item
+    requires { (pair.set < 2 ^ 32) × (r < 2 ^ 32) }
+    ensures { (result.origin ≡ pair.set) × (result.rule ≡ r) × (result.handle ≡ pair.link) }
+{
+    Item {
+        origin: pair.set as u32,
+        rule: r as u32,
+        handle: pair.link,
+    }
+}
 
 impl Pass<'_> {
     // Whether rule `r`, which begins with the symbol, waits for it: its left side is predicted at the set.
@@ -33,7 +46,8 @@ impl Pass<'_> {
             return Ok(());
         }
         let place = self.stored;
-        self.store(pair.set, r, pair.link)?;
+        self.store(begun(pair, r))?;
+        // In the words of the queue all ones stand for no right factor.
         self.enqueue(place, NO_FACTOR)
     }
 
@@ -65,7 +79,7 @@ impl Pass<'_> {
         if self.rules.second(r) == NONE || !self.waits(pair, r) {
             return Ok(());
         }
-        self.store(pair.set, r, pair.link)
+        self.store(begun(pair, r))
     }
 
     // Stores each rule that waits for the symbol and another symbol behind it.

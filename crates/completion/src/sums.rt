@@ -87,6 +87,7 @@ impl Pass<'_> {
     {
         let product = self.greatest_product();
         let queued = self.queued;
+        // A loan beside that of the queue.
         let items = &mut *self.items;
         match binary_heap::pop(items, self.queue, queued) {
             None => before,
@@ -106,6 +107,7 @@ impl Pass<'_> {
         ensures pass { after result self.new ≡ pop_sum (its_rules self.old) pair.set pair.symbol (after before self.old) }
     {
         let mut now = before;
+        // Which entries are left is asked anew after each: no count.
         while !self.sum_ends(pair) {
             now = self.next_summand(now);
         }
@@ -141,6 +143,7 @@ impl Pass<'_> {
         ensures kept { Kept self.old self.new }
         ensures pass { after result self.new ≡ complete_all_sums (its_rules self.old) self.old.starts.now self.old.rows.now (pass_in self.old) }
     {
+        // A sum queues entries too: no count.
         while self.queued > 0 {
             self.complete_sum()?;
         }

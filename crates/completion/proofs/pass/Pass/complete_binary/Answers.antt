@@ -21,8 +21,8 @@ returns-then-second-eq-NONE-clause-pass c =
           (sym (w.if-not-waits.true) ∙ w.waits.ensures))
     ]
 
-pub store-requires : goal.store-requires
-store-requires c =
+pub begun-requires : goal.begun-requires
+begun-requires c =
     let required = c.requires in
     (omega (arith, required.1.few_sets, required.1.row), omega (arith, rules-length c.args.self.now.rules.now.words c.args.self.now.rules.now.count, required.0.few_rules))
 
@@ -30,7 +30,7 @@ pub returns-clause-pass : goal.returns-clause-pass
 returns-clause-pass c =
     let given = c.args in
     let its = given.self.now in
-    c.store.ensures.pass
+    (rw (c.begun.ensures.0, c.begun.ensures.1, c.begun.ensures.2) at c.store.ensures.pass)
     ∙ sym (binary-waits (its_rules its) its.rows.now given.pair.set given.pair.symbol given.r given.pair.link (pass_in its) refl c.second.result
     (c.second.ensures.0 ∙ rule-second its.rules.now.words its.rules.now.count given.r c.requires.2) c.if-second-eq-NONE.false
     (sym (c.if-not-waits.false) ∙ c.waits.ensures))

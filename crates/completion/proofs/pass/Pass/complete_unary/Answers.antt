@@ -28,8 +28,8 @@ returns-then-second-ne-NONE-clause-pass c =
           (sym (w.if-not-waits.true) ∙ w.waits.ensures))
     ]
 
-pub store-requires : goal.store-requires
-store-requires c =
+pub begun-requires : goal.begun-requires
+begun-requires c =
     let required = c.requires in
     (omega (arith, required.1.few_sets, required.1.row), omega (arith, rules-length c.args.self.now.rules.now.words c.args.self.now.rules.now.count, required.0.few_rules))
 
@@ -37,9 +37,10 @@ pub returns-in_err-store-clause-pass : goal.returns-in_err-store-clause-pass
 returns-in_err-store-clause-pass c =
     let given = c.args in
     let its = given.self.now in
+    let stored = rw (c.begun.ensures.0, c.begun.ensures.1, c.begun.ensures.2) at c.in_err-store.ensures.pass in
     let p = err_from_is_err_and c.from_residual.result c.from_residual.ensures.1 in
     rw (p.1, p.2)
-    (then_stopped _ (store given.pair.set given.r given.pair.link (pass_in its)) (enqueue its.stored all_ones) (is_refusal _) c.in_err-store.ensures.pass
+    (then_stopped _ (store given.pair.set given.r given.pair.link (pass_in its)) (enqueue its.stored all_ones) (is_refusal _) stored
     ∙ sym (unary-waits (its_rules its) its.rows.now given.pair.set given.pair.symbol given.r given.pair.link (pass_in its) refl c.second.result
     (c.second.ensures.0 ∙ rule-second its.rules.now.words its.rules.now.count given.r c.requires.2) c.if-second-ne-NONE.false
     (sym (c.if-not-waits.false) ∙ c.waits.ensures)))
@@ -48,7 +49,7 @@ pub enqueue-requires : goal.enqueue-requires
 enqueue-requires c =
     let given = c.args in
     let its = given.self.now in
-    let stored = c.in_ok-store.ensures.pass in (
+    let stored = rw (c.begun.ensures.0, c.begun.ensures.1, c.begun.ensures.2) at c.in_ok-store.ensures.pass in (
       subst PassFits (sym stored) (store-sound given.pair.set given.r given.pair.link (pass_in its) c.requires.3),
       subst (λ (u : Pass). its.stored < u.at.items) (sym stored)
           (store-place given.pair.set given.r given.pair.link (pass_in its) (sym (ap (λ (u : Pass). u.at.stopped) stored))),
@@ -58,7 +59,8 @@ pub returns-clause-pass : goal.returns-clause-pass
 returns-clause-pass c =
     let given = c.args in
     let its = given.self.now in
-    then_on _ (store given.pair.set given.r given.pair.link (pass_in its)) (enqueue its.stored all_ones) _ refl c.in_ok-store.ensures.pass c.enqueue.ensures.pass
+    let stored = rw (c.begun.ensures.0, c.begun.ensures.1, c.begun.ensures.2) at c.in_ok-store.ensures.pass in
+    then_on _ (store given.pair.set given.r given.pair.link (pass_in its)) (enqueue its.stored all_ones) _ refl stored c.enqueue.ensures.pass
     ∙ sym (unary-waits (its_rules its) its.rows.now given.pair.set given.pair.symbol given.r given.pair.link (pass_in its) refl c.second.result
     (c.second.ensures.0 ∙ rule-second its.rules.now.words its.rules.now.count given.r c.requires.2) c.if-second-ne-NONE.false
     (sym (c.if-not-waits.false) ∙ c.waits.ensures))
