@@ -23,16 +23,6 @@ loop-r-init c =
           _ (pass_in its) c.head-r.ensures,
     )
 
-pub complete_binary-requires : goal.complete_binary-requires
-complete_binary-requires c =
-    let its = c.args.self.now in
-    let pair = c.args.pair in
-    let required = c.requires in
-    let looped = c.loop-r in
-    let kept = looped.invariant.0 in
-    let there = rw kept.3 at c.loop-r-test.true in
-    rw (kept.3, kept.5) (required.0, required.1, there, looped.invariant.2 there)
-
 pub returns-in_err-complete_binary-clause-pass : goal.returns-in_err-complete_binary-clause-pass
 unfolding complete_binary_predictions
 returns-in_err-complete_binary-clause-pass c =
@@ -54,9 +44,6 @@ next-r-requires c =
     let kept = kept_trans its c.loop-r.self c.complete_binary.new.self c.loop-r.invariant.0 c.in_ok-complete_binary.ensures.kept in
     let there = rw c.loop-r.invariant.0.3 at c.loop-r-test.true in
     rw kept.3 (c.requires.2, there, omega (arith, rules-length its.rules.now.words its.rules.now.count, c.requires.0.few_rules))
-
-pub loop-r-smaller : goal.loop-r-smaller
-loop-r-smaller c = omega (arith, c.next-r.ensures.from_on, rw c.loop-r.invariant.0.3 at c.loop-r-test.true)
 
 pub loop-r-preserved : goal.loop-r-preserved
 loop-r-preserved c =

@@ -9,15 +9,9 @@ use Rattle.completion.specs.Lent.{its_rules, pass_in}
 use Rattle.completion.specs.inner.Ready.{PassFits}
 use Rattle.completion.proofs.Keeping.{kept_trans}
 use Rattle.completion.proofs.Pushes.{stays}
-use Rattle.completion.proofs.Searching.{queueing, set_searchable, medial_found, queueing_sound, queueing_step}
+use Rattle.completion.proofs.Searching.{queueing, medial_found, queueing_sound, queueing_step}
 use Rattle.completion.proofs.Stopping.{is_refusal, turns_stopped}
 use Rattle.completion.proofs.pass.Pass.complete_medial_items.Goals as goal
-
-pub medial_item_set_range-place-items-requires : goal.medial_item_set_range-place-items-requires
-medial_item_set_range-place-items-requires c =
-    let its = c.args.self.now in
-    let required = c.requires in
-    (required.count_le_max_rules.0, set_searchable (its_rules its) its.starts.now c.args.pair.set (pass_in its) required.count_le_max_rules.1 required.pass_fits.0 required.pass_fits.1, required.count_le_max_rules.2)
 
 pub loop-place-init : goal.loop-place-init
 loop-place-init c =

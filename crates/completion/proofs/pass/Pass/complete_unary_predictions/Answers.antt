@@ -57,9 +57,6 @@ next-r-requires c =
     let there = rw c.loop-r.invariant.0.3 at c.loop-r-test.true in
     rw kept.3 (c.requires.3, there, omega (arith, rules-length its.rules.now.words its.rules.now.count, c.requires.0.few_rules))
 
-pub loop-r-smaller : goal.loop-r-smaller
-loop-r-smaller c = omega (arith, c.next-r.ensures.from_on, rw c.loop-r.invariant.0.3 at c.loop-r-test.true)
-
 pub loop-r-preserved : goal.loop-r-preserved
 loop-r-preserved c =
     let its = c.args.self.now in

@@ -7,9 +7,6 @@ use Rattle.completion.proofs.Soundness.{sound-places, has-place}
 use Rattle.completion.proofs.Pushes.{queue-refused, queue_took}
 use Rattle.completion.proofs.pass.Pass.enqueue.Goals as goal
 
-pub overflow_cast-entry : goal.overflow_cast-entry
-overflow_cast-entry c = record { fits = omega (arith, c.requires.1, c.requires.0.few_items, c.requires.0.items_fit) }
-
 pub push-requires : goal.push-requires
 push-requires c =
     let s = pass_in c.args.self.now in

@@ -17,21 +17,6 @@ pub loop-pair-init : goal.loop-pair-init
 unfolding pop_sum
 loop-pair-init c = ((refl, refl, refl, refl, refl, refl), refl, read_stopped (stopped_by c.args.before) _ c.requires)
 
-pub sum_ends-requires : goal.sum_ends-requires
-sum_ends-requires c =
-    let kept = c.loop-pair.invariant.0 in
-    rw kept.3 (read_stopped 0 _ c.loop-pair.invariant.2)
-
-pub next_summand-now-requires : goal.next_summand-now-requires
-next_summand-now-requires c =
-    let given = c.args in
-    let its = given.self.now in
-    let looped = c.loop-pair in
-    let u = after looped.now looped.self in
-    let asked = rw looped.invariant.0.3 at c.sum_ends.ensures in
-    let on : sum_ends (its_rules its) given.pair.set given.pair.symbol u ≡ false = sym asked ∙ c.loop-pair-test.true in
-    ((read_stopped 0 u looped.invariant.2).sound, sum_goes (its_rules its) given.pair.set given.pair.symbol u on)
-
 pub loop-pair-smaller : goal.loop-pair-smaller
 loop-pair-smaller c =
     let given = c.args in
