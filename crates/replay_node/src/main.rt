@@ -12,13 +12,15 @@
 // and the halves of the position behind, and those of the place.
 #![tactic(auto)]
 
+ghost use Rattle.std.specs.Prelude.{◌≤◌, IfOk, length};
+
 mod words;
 
-use node::{Found, Node, Right, Walked, Written};
+use node::{NoNode, Node, Unwritten, Walked};
 use programs::reading::read_full;
 use std::io;
 use std::io::Read;
-use words::{LINE, put_word, word};
+use words::{LINE, WORDS, line_of, words_of};
 
 // The largest store, past the units that are usable.
 const UNITS: usize = 40000;
@@ -26,37 +28,15 @@ const UNITS: usize = 40000;
 // The most requests that are answered.
 const REQUESTS: u32 = 4_000_000;
 
-fn tell(
-    rt: &impl Print,
-    a: u32,
-    b: u32,
-    c: u32,
-    d: u32,
-    e: u32,
-    f: u32,
-    g: u32,
-    h: u32,
-) -> io::Result<()> {
-    let mut line = [b' '; LINE];
-    put_word(&mut line, 0, a);
-    put_word(&mut line, 1, b);
-    put_word(&mut line, 2, c);
-    put_word(&mut line, 3, d);
-    put_word(&mut line, 4, e);
-    put_word(&mut line, 5, f);
-    put_word(&mut line, 6, g);
-    put_word(&mut line, 7, h);
-    line[71] = b'\n';
-    write_line(rt, &line)
-}
-
-fn write_line(rt: &impl Print, line: &[u8; LINE]) -> io::Result<()> {
-    rt.write_all(line)
-}
-
-// A line of input, and whether there was a whole one.
-fn read_line<R: Read>(from: &mut R, line: &mut [u8; LINE]) -> bool {
-    read_full(from, line) == LINE
+// What a line asks for.
+#[derive(Clone, Copy, PartialEq, Eq, Debug)]
+enum Request {
+    Resize(usize),
+    Fill { from: usize, to: usize, unit: u16 },
+    Write(usize, Node),
+    Read(usize),
+    Walk(usize),
+    Show(u32),
 }
 
 fn low(x: usize) -> u32 {
@@ -71,199 +51,151 @@ fn position(low: u32, high: u32) -> usize {
     high as usize * 0x1_0000_0000 + low as usize
 }
 
-fn right_of(present: u32, right: u32) -> Right {
-    if present == 0 {
-        Right::Nothing
-    } else {
-        Right::At(right)
-    }
-}
-
-fn node_of(kind: u32, first: u32, second: u32, right: Right) -> Node {
-    if kind == 0 {
-        return Node::Sum {
+// The node of a kind: its words, whether a right factor is present, and it.
+fn node_of(kind: u32, first: u32, second: u32, present: u32, right: u32) -> Node {
+    match kind {
+        0 => Node::Sum {
             count: first,
             nonterminal: second,
-        };
-    }
-    if kind == 1 {
-        return Node::Product {
+        },
+        1 => Node::Product {
             action: first,
             left: second,
-            right,
-        };
-    }
-    if kind == 2 {
-        return Node::NullingLeaf { symbol: first };
-    }
-    Node::Evaluated { symbol: first }
-}
-
-fn tell_written(rt: &impl Print, answer: Written) -> io::Result<()> {
-    match answer {
-        Written::Behind(q) => tell(rt, 0, low(q), high(q), 0, 0, 0, 0, 0),
-        Written::Unfit(p) => tell(rt, 10, low(p), high(p), 0, 0, 0, 0, 0),
-        Written::NoRoom(p) => tell(rt, 11, low(p), high(p), 0, 0, 0, 0, 0),
+            right: if present == 0 { None } else { Some(right) },
+        },
+        2 => Node::NullingLeaf { symbol: first },
+        _ => Node::Evaluated { symbol: first },
     }
 }
 
-fn tell_product(rt: &impl Print, action: u32, left: u32, right: Right, q: usize) -> io::Result<()> {
-    match right {
-        Right::At(factor) => tell(rt, 0, 1, action, left, 1, factor, low(q), high(q)),
-        Right::Nothing => tell(rt, 0, 1, action, left, 0, 0, low(q), high(q)),
-    }
-}
-
-fn tell_node(rt: &impl Print, node: Node, q: usize) -> io::Result<()> {
-    match node {
-        Node::Sum { count, nonterminal } => tell(
-            rt,
-            0,
-            0,
-            count,
-            nonterminal,
-            0,
-            0,
-            low(q),
-            high(q),
+fn request_of(words: [u32; WORDS]) -> Request {
+    let at = position(words[1], words[2]);
+    match words[0] {
+        0 => Request::Resize(words[1] as usize),
+        1 => Request::Fill {
+            from: words[1] as usize,
+            to: words[2] as usize,
+            unit: (words[3] % 65536) as u16,
+        },
+        2 => Request::Write(
+            at,
+            node_of(words[3], words[4], words[5], words[6], words[7]),
         ),
+        3 => Request::Read(at),
+        4 => Request::Walk(at),
+        _ => Request::Show(words[1]),
+    }
+}
+
+fn written(answer: Result<usize, Unwritten>) -> [u32; WORDS] {
+    let (number, place) = match answer {
+        Ok(behind) => (0, behind),
+        Err(Unwritten::Unfit(p)) => (10, p),
+        Err(Unwritten::NoRoom(p)) => (11, p),
+    };
+    [number, low(place), high(place), 0, 0, 0, 0, 0]
+}
+
+fn found(answer: Result<Option<(Node, usize)>, NoNode>) -> [u32; WORDS] {
+    match answer {
+        Ok(Some((node, q))) => of_node(node, q),
+        Ok(None) => [0, 4, 0, 0, 0, 0, 0, 0],
+        Err(NoNode(unit)) => [12, 5, 0, 0, 0, 0, low(unit), high(unit)],
+    }
+}
+
+fn of_node(node: Node, q: usize) -> [u32; WORDS] {
+    match node {
+        Node::Sum { count, nonterminal } => [0, 0, count, nonterminal, 0, 0, low(q), high(q)],
         Node::Product {
             action,
             left,
-            right,
-        } => tell_product(rt, action, left, right, q),
-        Node::NullingLeaf { symbol } => tell(rt, 0, 2, symbol, 0, 0, 0, low(q), high(q)),
-        Node::Evaluated { symbol } => tell(rt, 0, 3, symbol, 0, 0, 0, low(q), high(q)),
+            right: Some(right),
+        } => [0, 1, action, left, 1, right, low(q), high(q)],
+        Node::Product {
+            action,
+            left,
+            right: None,
+        } => [0, 1, action, left, 0, 0, low(q), high(q)],
+        Node::NullingLeaf { symbol } => [0, 2, symbol, 0, 0, 0, low(q), high(q)],
+        Node::Evaluated { symbol } => [0, 3, symbol, 0, 0, 0, low(q), high(q)],
     }
 }
 
-fn tell_found(rt: &impl Print, answer: Found) -> io::Result<()> {
-    match answer {
-        Found::Whole(node, q) => tell_node(rt, node, q),
-        Found::End => tell(rt, 0, 4, 0, 0, 0, 0, 0, 0),
-        Found::NoNode(unit) => tell(rt, 12, 5, 0, 0, 0, 0, low(unit), high(unit)),
-    }
-}
-
-fn tell_walked(rt: &impl Print, answer: Walked) -> io::Result<()> {
-    match answer {
-        Walked::ToEnd(count, q) => tell(rt, 0, low(count), low(q), high(q), 0, 0, 0, 0),
-        Walked::ToFault(count, q, unit) => tell(
-            rt,
-            12,
-            low(count),
-            low(q),
-            high(q),
-            low(unit),
-            high(unit),
-            0,
-            0,
-        ),
-    }
+fn walked(answer: Walked) -> [u32; WORDS] {
+    let (number, unit) = match answer.fault {
+        None => (0, 0),
+        Some(unit) => (12, unit),
+    };
+    let behind = answer.behind;
+    [
+        number,
+        low(answer.count),
+        low(behind),
+        high(behind),
+        low(unit),
+        high(unit),
+        0,
+        0,
+    ]
 }
 
 fn unit(store: &[u16], i: usize) -> u32 {
     if i < store.len() {
-        wide(store[i])
+        store[i] as u32
     } else {
         0xFFFF_FFFF
     }
 }
 
-fn wide(u: u16) -> u32 {
-    u as u32
-}
-
-fn show(rt: &impl Print, store: &[u16], a: u32) -> io::Result<()> {
-    let i = a as usize;
-    tell(
-        rt,
-        unit(store, i),
-        unit(store, i + 1),
-        unit(store, i + 2),
-        unit(store, i + 3),
-        unit(store, i + 4),
-        unit(store, i + 5),
-        unit(store, i + 6),
-        0,
-    )
-}
-
-fn fill(store: &mut [u16], from: usize, to: usize, u: u16) {
-    if store.len() < to {
-        return;
+fn shown(store: &[u16], from: u32) -> [u32; WORDS] {
+    let mut words = [0; WORDS];
+    for k in 0..7 {
+        words[k] = unit(store, from as usize + k);
     }
-    let mut i = from;
-    while i < to {
-        store[i] = u;
-        i += 1;
+    words
+}
+
+fn fill(store: &mut [u16], from: usize, to: usize, unit: u16) {
+    if from <= to && to <= store.len() {
+        store[from..to].fill(unit);
     }
 }
 
-fn ask(rt: &impl Print, store: &mut [u16], line: &[u8; LINE]) -> io::Result<()> {
-    let what = word(line, 0);
-    let first = word(line, 1);
-    let p = position(first, word(line, 2));
-    if what == 1 {
-        fill(
-            store,
-            first as usize,
-            word(line, 2) as usize,
-            (word(line, 3) % 65536) as u16,
-        );
-        Ok(())
-    } else if what == 2 {
-        let right = right_of(word(line, 6), word(line, 7));
-        tell_written(
-            rt,
-            node::write(
-                store,
-                p,
-                node_of(word(line, 3), word(line, 4), word(line, 5), right),
-            ),
-        )
-    } else if what == 3 {
-        tell_found(rt, node::read(store, p))
-    } else if what == 4 {
-        tell_walked(rt, node::walk(store, p))
-    } else {
-        show(rt, store, first)
-    }
+fn tell(rt: &impl Print, words: [u32; WORDS]) -> io::Result<()> {
+    rt.write_all(&line_of(words))
 }
 
-// Answers one request, and how many units the store has from then on.
-fn request(
-    rt: &impl Print,
-    store: &mut [u16],
-    count: usize,
-    line: &[u8; LINE],
-) -> io::Result<usize> {
-    if store.len() < count {
-        return Ok(store.len());
+// Answers one request on the first `count` units, and how many units the store has from then on.
+fn answer(rt: &impl Print, store: &mut [u16], count: usize, request: Request) -> io::Result<usize>
+    requires { count ≤ length store.old }
+    ensures { IfOk result (λ units. units ≤ length store.new) }
+{
+    let units = &mut store[..count];
+    match request {
+        Request::Resize(wanted) => return Ok(wanted.min(store.len())),
+        Request::Fill { from, to, unit } => fill(units, from, to, unit),
+        Request::Write(p, node) => tell(rt, written(node::write(units, p, node)))?,
+        Request::Read(p) => tell(rt, found(node::read(units, p)))?,
+        Request::Walk(p) => tell(rt, walked(node::walk(units, p)))?,
+        Request::Show(from) => tell(rt, shown(units, from))?,
     }
-    if word(line, 0) == 0 {
-        return Ok(word(line, 1) as usize);
-    }
-    ask(rt, &mut store[..count], line)?;
     Ok(count)
 }
 
 fn serve<R: Read>(rt: &impl Print, from: &mut R, store: &mut [u16]) -> io::Result<()> {
-    let mut count: usize = 0;
-    let mut left = REQUESTS;
-    while left > 0 {
-        left -= 1;
-        let mut line = [0u8; LINE];
-        if read_line(from, &mut line) {
-            count = request(rt, store, count, &line)?;
-        } else {
+    let mut count = 0;
+    for _ in 0..REQUESTS {
+        let mut line = [0; LINE];
+        if read_full(from, &mut line) < LINE {
             return Ok(());
         }
+        count = answer(rt, store, count, request_of(words_of(&line)))?;
     }
     Ok(())
 }
 
 fn main(rt: HostRuntime) -> io::Result<()> {
-    let mut store = [0u16; UNITS];
+    let mut store = [0; UNITS];
     serve(&rt, &mut rt.reader(), &mut store)
 }

@@ -1,8 +1,6 @@
--- `serve` is safe and ends: the requests left fall.
+-- `serve` is safe and ends: the units that are asked of are within the store.
+use Rattle.std.proofs.Common.{◌≤◌, length}
 use Rattle.replay_node.proofs.serve.Given as goal
 
-abbrev pub invariant-loop-left : goal.invariant-loop-left
-invariant-loop-left g l = Unit
-
-abbrev pub decreases-loop-left : goal.decreases-loop-left
-decreases-loop-left g l = l.left
+abbrev pub invariant-loop : goal.invariant-loop
+invariant-loop g l = l.count ≤ length l.store
