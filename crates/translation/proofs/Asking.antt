@@ -18,7 +18,8 @@ use Rattle.written.specs.Refusals.{Nonterminal, Fruitful, Reachable}
 use Rattle.written.proofs.Lists.{each_at}
 use Rattle.translation.specs.Conditions.{SaysFruitful, SaysReachable}
 use Rattle.translation.specs.inner.Marks.{most_symbols, marked, MarksAre, AllWithin}
-use Rattle.translation.proofs.Reading.{Narrow, LowRule, rules-low, u16_low}
+use Rattle.translation.specs.inner.Symbols.{Narrow, LowRule}
+use Rattle.translation.proofs.Reading.{rules-low, u16_low}
 
 -- Where not all are marked, one is not.
 record Unmarked (marks : List Bool) (from to : ℕ) : Type 0 where

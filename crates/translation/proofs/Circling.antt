@@ -1,6 +1,7 @@
 -- What a rule leads to, in place; and that what is left when no symbol can be dropped has one that derives itself.
 use mathlib.Core.Path.{◌≡◌, refl, sym, ap, subst, ◌∙◌}
-use mathlib.Core.Bool.{Bool, true, false, not}
+use mathlib.Core.Bool.{Bool, true, false, not, ◌&&◌, ◌||◌}
+use Rattle.std.specs.List.{filter}
 use mathlib.Core.List.{List, [], ◌∷◌, ◌++◌, cons≢nil}
 use mathlib.Core.Logic.{◌⊎◌, inl, inr, ⊎_elim}
 use Prim.Native.Nat.{ℕ, zero, suc, ◌+◌, ◌-◌, ◌*◌, ◌≤◌, ◌<◌}
@@ -25,63 +26,36 @@ use Rattle.written.proofs.Alone.{Among, Leads}
 use Rattle.written.proofs.Knowing.{in_writes, told}
 use Rattle.translation.specs.inner.Marks.{most_symbols, marked, walk}
 use Rattle.translation.specs.inner.Circles.{filled_in, leading, marks_if, leads_to, leads}
-use Rattle.translation.proofs.Reading.{LowRule}
-use Rattle.translation.proofs.Testing.{symbols-next, symbols_none}
+use Rattle.translation.specs.inner.Symbols.{LowRule}
 use Rattle.translation.proofs.Marked.{none_marked}
 
--- Counting, in place: what was counted and what is to come is the whole.
-pub record Counting (empty : ℕ → Bool) (bytes : List ℕ) (at n here left k : ℕ) : Type 0 where
-  pub inside : here + 2 * left ≤ length bytes
-  pub few : k + left ≤ n
-  pub same : k + filled_in empty (symbols_at bytes here left) ≡ filled_in empty (symbols_at bytes at n)
-
-module _ (empty : ℕ → Bool) (bytes : List ℕ) (at n here left k x : ℕ) (is : x ≡ u16_at bytes here) (more : 0 < left) (c : Counting empty bytes at n here left k) where
-  first-counts : k + (once (not (empty x)) + filled_in empty (symbols_at bytes (here + 2) (left - 1))) ≡ filled_in empty (symbols_at bytes at n)
-  unfolding filled_in
-  first-counts =
-      ap (λ (y : ℕ). k + (once (not (empty y)) + filled_in empty (symbols_at bytes (here + 2) (left - 1)))) is
-      ∙ sym (ap (λ (l : List ℕ). k + filled_in empty l) (symbols-next bytes here left more)) ∙ c.same
-
-  pub counts-empty : empty x ≡ true → Counting empty bytes at n (here + 2) (left - 1) k
-  counts-empty e =
-      let none : k + (0 + filled_in empty (symbols_at bytes (here + 2) (left - 1))) ≡ filled_in empty (symbols_at bytes at n) =
-      sym (ap (λ (b : Bool). k + (once (not b) + filled_in empty (symbols_at bytes (here + 2) (left - 1)))) e) ∙ first-counts in
-      record { inside = let i = c.inside in omega arith; few = let f = c.few in omega arith; same = omega (arith, none) }
-
-  pub counts-filled : empty x ≡ false → Counting empty bytes at n (here + 2) (left - 1) (k + 1)
-  counts-filled e =
-      let one : k + (1 + filled_in empty (symbols_at bytes (here + 2) (left - 1))) ≡ filled_in empty (symbols_at bytes at n) =
-      sym (ap (λ (b : Bool). k + (once (not b) + filled_in empty (symbols_at bytes (here + 2) (left - 1)))) e) ∙ first-counts in
-      record { inside = let i = c.inside in omega arith; few = let f = c.few in omega arith; same = omega (arith, one) }
-
-pub counts_begin : (empty : ℕ → Bool) (bytes : List ℕ) (at n : ℕ) → at + 2 * n ≤ length bytes → Counting empty bytes at n at n 0
-counts_begin empty bytes at n h = record { inside = h; few = omega arith; same = omega arith }
-
-pub counts_end : (empty : ℕ → Bool) (bytes : List ℕ) (at n here left k : ℕ) → Counting empty bytes at n here left k → left ≤ 0 → k ≡ filled_in empty (symbols_at bytes at n)
+-- What may not be empty, counted by the library.
+pub filled-count : (empty : ℕ → Bool) (l : List ℕ) → length (filter (λ (x : ℕ). not (empty x)) l) ≡ filled_in empty l
 unfolding filled_in
-counts_end empty bytes at n here left k c h =
-    let none : k + 0 ≡ filled_in empty (symbols_at bytes at n) = sym (ap (λ (l : List ℕ). k + filled_in empty l) (symbols_none bytes here left h)) ∙ c.same in
-    omega (arith, none)
+filled-count empty [] = refl
+filled-count empty (x ∷ l) = either_way (empty x)
+    (λ e. rw e (let h = filled-count empty l in omega arith))
+    (λ e. rw e (let h = filled-count empty l in omega arith))
 
 -- The test of a place.
-pub leading-zero : (k : ℕ) (e : Bool) → k ≡ 0 → true ≡ leading k e
+pub leading-none : (k : ℕ) (e : Bool) → k ≡ 0 → eqb k 0 ≡ leading k e
 unfolding leading
-leading-zero zero e h = refl
-leading-zero (suc k) e h = absurd (omega arith)
+leading-none zero e h = refl
+leading-none (suc k) e h = absurd (omega arith)
 
-pub leading-empty : (k : ℕ) (e : Bool) → (k ≡ 0 → ⊥) → e ≡ true → false ≡ leading k e
+pub leading-one : (k : ℕ) (e : Bool) → k ≡ 1 → not e ≡ leading k e
 unfolding leading
-leading-empty zero e h f = absurd (h refl)
-leading-empty (suc zero) e h f = sym (ap not f)
-leading-empty (suc (suc k)) e h f = refl
+leading-one zero e h = absurd (omega arith)
+leading-one (suc zero) e h = refl
+leading-one (suc (suc k)) e h = absurd (omega arith)
 
-pub leading-filled : (k : ℕ) (e : Bool) → (k ≡ 0 → ⊥) → e ≡ false → eqb k 1 ≡ leading k e
+pub leading-more : (k : ℕ) (e : Bool) → (k ≡ 0 → ⊥) → (k ≡ 1 → ⊥) → eqb k 1 ≡ leading k e
 unfolding leading
-leading-filled zero e h f = absurd (h refl)
-leading-filled (suc zero) e h f = eq-eqb 1 1 refl ∙ sym (ap not f)
-leading-filled (suc (suc k)) e h f = ne_eqb (suc (suc k)) 1 (λ (x : suc (suc k) ≡ 1). omega arith)
+leading-more zero e h f = absurd (h refl)
+leading-more (suc zero) e h f = absurd (f refl)
+leading-more (suc (suc k)) e h f = ne_eqb (suc (suc k)) 1 f
 
--- Marking those that pass, in place.
+-- Marking those that pass.
 marks-pass : (test : ℕ → Bool) (marks : List Bool) (x : ℕ) (l : List ℕ) → test x ≡ true → marks_if test marks (x ∷ l) ≡ marks_if test (set marks x true) l
 unfolding marks_if
 marks-pass test marks x l e = rw (marks_if, e) refl
@@ -94,34 +68,19 @@ marks_none : (test : ℕ → Bool) (marks : List Bool) → marks_if test marks [
 unfolding marks_if
 marks_none test marks = refl
 
-pub record Picking (test : ℕ → Bool) (bytes : List ℕ) (total : List Bool) (here left : ℕ) (marks : List Bool) : Type 0 where
-  pub inside : here + 2 * left ≤ length bytes
-  pub long : length marks ≡ most_symbols
-  pub same : marks_if test marks (symbols_at bytes here left) ≡ total
+pub record Picking (test : ℕ → Bool) (total : List Bool) (rest : List ℕ) (marks : List Bool) : Type 0 where
+  pub same : marks_if test marks rest ≡ total
 
-module _ (test : ℕ → Bool) (bytes : List ℕ) (total : List Bool) (here left : ℕ) (marks : List Bool) (x : ℕ) (is : x ≡ u16_at bytes here) (more : 0 < left)
-    (p : Picking test bytes total here left marks) where
-  first_picks : marks_if test marks (x ∷ symbols_at bytes (here + 2) (left - 1)) ≡ total
-  first_picks =
-      ap (λ (y : ℕ). marks_if test marks (y ∷ symbols_at bytes (here + 2) (left - 1))) is ∙ sym (ap (marks_if test marks) (symbols-next bytes here left more)) ∙ p.same
+pub picks : {test : ℕ → Bool} {total : List Bool} {rest more : List ℕ} {x : ℕ} (marks : List Bool) → Picking test total rest marks → rest ≡ x ∷ more → test x ≡ true
+    → Picking test total more (set marks x true)
+picks {test} {more = more} {x} marks p e h = record { same = sym (marks-pass test marks x more h) ∙ sym (ap (marks_if test marks) e) ∙ p.same }
 
-  pub picks : test x ≡ true → Picking test bytes total (here + 2) (left - 1) (set marks x true)
-  picks e = record {
-    inside = let i = p.inside in omega arith;
-    long = length-set marks x true ∙ p.long;
-    same = sym (marks-pass test marks x (symbols_at bytes (here + 2) (left - 1)) e) ∙ first_picks;
-  }
+pub picks_not : {test : ℕ → Bool} {total : List Bool} {rest more : List ℕ} {x : ℕ} (marks : List Bool) → Picking test total rest marks → rest ≡ x ∷ more → test x ≡ false
+    → Picking test total more marks
+picks_not {test} {more = more} {x} marks p e h = record { same = sym (marks_fail test marks x more h) ∙ sym (ap (marks_if test marks) e) ∙ p.same }
 
-  pub picks_not : test x ≡ false → Picking test bytes total (here + 2) (left - 1) marks
-  picks_not e = record {
-    inside = let i = p.inside in omega arith;
-    long = p.long;
-    same = sym (marks_fail test marks x (symbols_at bytes (here + 2) (left - 1)) e) ∙ first_picks;
-  }
-
-pub picks_end : (test : ℕ → Bool) (bytes : List ℕ) (total : List Bool) (here left : ℕ) (marks : List Bool) → Picking test bytes total here left marks → left ≤ 0 → marks ≡ total
-picks_end test bytes total here left marks p h =
-    sym (marks_none test marks) ∙ sym (ap (marks_if test marks) (symbols_none bytes here left h)) ∙ p.same
+pub picks_end : {test : ℕ → Bool} {total : List Bool} {rest : List ℕ} (marks : List Bool) → Picking test total rest marks → rest ≡ [] → marks ≡ total
+picks_end {test} marks p e = sym (marks_none test marks) ∙ sym (ap (marks_if test marks) e) ∙ p.same
 
 -- Marking keeps the number of marks, and what was marked; it marks what passes, and nothing else.
 marks-long : (test : ℕ → Bool) (l : List ℕ) (marks : List Bool) → length (marks_if test marks l) ≡ length marks
@@ -183,17 +142,10 @@ leads_not empty held marks r e = rw (leads, e) refl
 pub step_rests : (empty held : ℕ → Bool) (marks : List Bool) (r : WrittenRule) {a : ℕ} → a ≡ r.left → held a ≡ false → marks ≡ leads empty held marks r
 step_rests empty held marks r e m = sym (leads_not empty held marks r (ap held (sym e) ∙ m))
 
-pub step_leads : (empty held : ℕ → Bool) (marks out : List Bool) (bytes : List ℕ) (at a n k : ℕ) → a ≡ left_at bytes at → held a ≡ true → n ≡ length_at bytes at
-    → k ≡ filled_in empty (symbols_at bytes (at + rule_head) n) → out ≡ marks_if (λ (x : ℕ). leading k (empty x)) marks (symbols_at bytes (at + rule_head) n)
-    → out ≡ leads empty held marks (rule_at bytes at)
-step_leads empty held marks out bytes at a n k ea m en ek h =
-    h
-    ∙ ap (λ (j : ℕ). marks_if (λ (x : ℕ). leading j (empty x)) marks (symbols_at bytes (at + rule_head) n)) ek
-    ∙ ap (λ (j : ℕ). marks_if (leads_to empty (symbols_at bytes (at + rule_head) j)) marks (symbols_at bytes (at + rule_head) j)) en
-    ∙ sym (leads_on empty held marks (rule_at bytes at) (ap held (sym ea) ∙ m))
-
-pub step_long : (test : ℕ → Bool) (l : List ℕ) (marks out : List Bool) → out ≡ marks_if test marks l → length marks ≡ most_symbols → length out ≡ most_symbols
-step_long test l marks out e h = ap length e ∙ marks-long test l marks ∙ h
+pub step_leads : (empty held : ℕ → Bool) (marks out : List Bool) (r : WrittenRule) {a k : ℕ} → a ≡ r.left → held a ≡ true
+    → k ≡ filled_in empty r.right → out ≡ marks_if (λ (x : ℕ). leading k (empty x)) marks r.right → out ≡ leads empty held marks r
+step_leads empty held marks out r ea m ek h =
+    h ∙ ap (λ (j : ℕ). marks_if (λ (x : ℕ). leading j (empty x)) marks r.right) ek ∙ sym (leads_on empty held marks r (ap held (sym ea) ∙ m))
 
 -- A rule of a held left side leads to `b`.
 pub record LedRule (empty held : ℕ → Bool) (rules : List WrittenRule) (b : ℕ) : Type 0 where

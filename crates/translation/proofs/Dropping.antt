@@ -24,7 +24,7 @@ use Rattle.written.proofs.Ordering.{in_passing, passing_in}
 use Rattle.written.proofs.Leading.{up_in}
 use Rattle.translation.specs.inner.Marks.{most_symbols, marked, walk}
 use Rattle.translation.specs.inner.Circles.{leads, held_in, Dropped, SomeHeld}
-use Rattle.translation.proofs.Reading.{LowRule}
+use Rattle.translation.specs.inner.Symbols.{LowRule}
 use Rattle.translation.proofs.Circling.{led_from, from_led}
 
 -- A dropped symbol makes them fewer.

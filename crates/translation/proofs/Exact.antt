@@ -17,18 +17,19 @@ use Rattle.written.proofs.Lists.{at_in}
 use Rattle.written.proofs.Keeping.{tokens-join, tokens-part}
 use Rattle.written.proofs.Marking.{all-marked}
 use Rattle.written.proofs.Knowing.{Lawful, rule-becomes, token-stays, every_fruitful, all-filled}
-use Rattle.translation.specs.inner.Marks.{most_symbols, marked, MarksAre, each_is, some_is, firing, AllFrom, SomeFrom, From, Grown, OnlyBelow}
+use Rattle.std.specs.List.{list_all, list_any}
+use Rattle.translation.specs.inner.Marks.{most_symbols, marked, MarksAre, asked, firing, AllFrom, SomeFrom, From, Grown, OnlyBelow}
 use Rattle.translation.proofs.Testing.{Some, true_each, true_some}
 use Rattle.translation.proofs.Marked.{none_marked}
 
 -- Of a rule that does not fire, the left side is marked where the right side would mark it.
-rests-all : (marks : List Bool) (r : WrittenRule) → firing true marks r ≡ false → each_is (marked marks) r.right ≡ true → marked marks r.left ≡ true
-unfolding firing
+rests-all : (marks : List Bool) (r : WrittenRule) → firing true marks r ≡ false → list_all (marked marks) r.right ≡ true → marked marks r.left ≡ true
+unfolding firing asked
 rests-all marks r e h = either_way (marked marks r.left) (λ m. m)
     (λ m. absurd (true_false (sym (ap₂ ◌&&◌ (ap not m) h) ∙ e)))
 
-rests-some : (marks : List Bool) (r : WrittenRule) → firing false marks r ≡ false → some_is (marked marks) r.right ≡ true → marked marks r.left ≡ true
-unfolding firing
+rests-some : (marks : List Bool) (r : WrittenRule) → firing false marks r ≡ false → list_any (marked marks) r.right ≡ true → marked marks r.left ≡ true
+unfolding firing asked
 rests-some marks r e h = either_way (marked marks r.left) (λ m. m)
     (λ m. absurd (true_false (sym (ap₂ ◌&&◌ (ap not m) h) ∙ e)))
 
@@ -38,14 +39,14 @@ closed_all : (w : Written) (before marks : List Bool) → Grown true w before ma
 closed_all w before marks g r a ω h e =
     subst (λ (x : ℕ). marked marks x ≡ true) h.left
     (rests-all marks (get_or w.rules r no_written) (g.rest (get_or w.rules r no_written) (at_in w.rules r no_written h.there))
-    (subst (λ (l : List ℕ). each_is (marked marks) l ≡ true) (sym h.right) (true_each (marked marks) e)))
+    (subst (λ (l : List ℕ). list_all (marked marks) l ≡ true) (sym h.right) (true_each (marked marks) e)))
 
 closed_some : (w : Written) (before marks : List Bool) → Grown false w before marks → {r a x : ℕ} {ω : List ℕ} → Writes w r a ω → In x ω
     → marked marks x ≡ true → marked marks a ≡ true
 closed_some w before marks g {r} h i m =
     subst (λ (x : ℕ). marked marks x ≡ true) h.left
     (rests-some marks (get_or w.rules r no_written) (g.rest (get_or w.rules r no_written) (at_in w.rules r no_written h.there))
-    (subst (λ (l : List ℕ). some_is (marked marks) l ≡ true) (sym h.right) (true_some (marked marks) i m)))
+    (subst (λ (l : List ℕ). list_any (marked marks) l ≡ true) (sym h.right) (true_some (marked marks) i m)))
 
 -- What all symbols come of, and what one does.
 from_all : {w : Written} {B : ℕ → Type 0} {a : ℕ} → From true w B a → AllFrom w B (a ∷ [])

@@ -18,7 +18,8 @@ use Rattle.written.specs.Written.{WrittenRule, Written}
 use Rattle.written.specs.Form.{symbols_at, rule_head, left_at, length_at, right_at, rule_at}
 use Rattle.written.proofs.Lists.{each_in, each_map}
 use Rattle.written.proofs.Knowing.{in_writes}
-use Rattle.translation.specs.inner.Marks.{most_symbols, marked, each_is, some_is, firing, Turn, turn, walk, growing, AllFrom, SomeFrom, From, Grown}
+use Rattle.std.specs.List.{list_all, list_any}
+use Rattle.translation.specs.inner.Marks.{most_symbols, marked, asked, firing, Turn, turn, walk, growing, AllFrom, SomeFrom, From, Grown}
 use Rattle.translation.proofs.Testing.{each_true, some_true}
 
 -- A step marks, or does nothing.
@@ -34,9 +35,9 @@ growing-rests all s r e = rw (growing, e) refl
 pub step_rests : (all : Bool) (s : Turn) (r : WrittenRule) {answer : Bool} → answer ≡ firing all s.marks r → answer ≡ false → s ≡ growing all s r
 step_rests all s r e n = sym (growing-rests all s r (sym e ∙ n))
 
-pub step_fires : (all : Bool) (s : Turn) (r : WrittenRule) (a : ℕ) {answer : Bool} → a ≡ r.left → answer ≡ firing all s.marks r → answer ≡ true
+pub step_fires : (all : Bool) (s : Turn) (r : WrittenRule) {a : ℕ} {answer : Bool} → a ≡ r.left → answer ≡ firing all s.marks r → answer ≡ true
     → turn (set s.marks a true) true ≡ growing all s r
-step_fires all s r a ea e y = ap (λ (x : ℕ). turn (set s.marks x true) true) ea ∙ sym (growing_fires all s r (sym e ∙ y))
+step_fires all s r ea e y = ap (λ (x : ℕ). turn (set s.marks x true) true) ea ∙ sym (growing_fires all s r (sym e ∙ y))
 
 -- What each step keeps a walk keeps.
 pub walk-keeps : {S : Type 0} (P : S → Type 0) (step : S → WrittenRule → S) (rules : List WrittenRule) → ((r : WrittenRule) → In r rules → (s : S) → P s → P (step s r))
@@ -45,33 +46,20 @@ unfolding walk
 walk-keeps P step [] keeps s p = p
 walk-keeps P step (r ∷ rules) keeps s p = walk-keeps P step rules (λ q i. keeps q (there i)) (step s r) (keeps r here s p)
 
--- The test of a rule in place.
-pub firing_not : (all : Bool) (marks : List Bool) (r : WrittenRule) (a : ℕ) → a ≡ r.left → marked marks a ≡ true → false ≡ firing all marks r
+-- The test of a rule by its parts.
+pub firing_not : (all : Bool) (marks : List Bool) (r : WrittenRule) {a : ℕ} → a ≡ r.left → marked marks a ≡ true → not (marked marks a) ≡ firing all marks r
 unfolding firing
-firing_not true marks r a e m = sym (ap (λ (b : Bool). not b && each_is (marked marks) r.right) (ap (marked marks) (sym e) ∙ m))
-firing_not false marks r a e m = sym (ap (λ (b : Bool). not b && some_is (marked marks) r.right) (ap (marked marks) (sym e) ∙ m))
+firing_not all marks r e m = ap not m ∙ sym (ap (λ (b : Bool). not b && asked all (marked marks) r.right) (ap (marked marks) (sym e) ∙ m))
 
-pub firing-all : (all : Bool) (marks : List Bool) (bytes : List ℕ) (at a n : ℕ) (r : Bool) → all ≡ true → a ≡ left_at bytes at → n ≡ length_at bytes at
-    → marked marks a ≡ false → r ≡ each_is (marked marks) (symbols_at bytes (at + rule_head) n) → r ≡ firing all marks (rule_at bytes at)
+pub firing-passes : (all : Bool) (marks : List Bool) (r : WrittenRule) {a : ℕ} {answer : Bool} → a ≡ r.left → marked marks a ≡ false → answer ≡ asked all (marked marks) r.right
+    → answer ≡ firing all marks r
 unfolding firing
-firing-all true marks bytes at a n r k ea en m e =
-    e ∙ ap (λ (l : ℕ). each_is (marked marks) (symbols_at bytes (at + rule_head) l)) en
-    ∙ sym (ap (λ (b : Bool). not b && each_is (marked marks) (right_at bytes at)) (ap (marked marks) (sym ea) ∙ m))
-firing-all false marks bytes at a n r k ea en m e = absurd (false_true k)
-
-pub firing-some : (all : Bool) (marks : List Bool) (bytes : List ℕ) (at a n : ℕ) (r : Bool) → all ≡ false → a ≡ left_at bytes at → n ≡ length_at bytes at
-    → marked marks a ≡ false → r ≡ some_is (marked marks) (symbols_at bytes (at + rule_head) n) → r ≡ firing all marks (rule_at bytes at)
-unfolding firing
-firing-some true marks bytes at a n r k ea en m e = absurd (true_false k)
-firing-some false marks bytes at a n r k ea en m e =
-    e ∙ ap (λ (l : ℕ). some_is (marked marks) (symbols_at bytes (at + rule_head) l)) en
-    ∙ sym (ap (λ (b : Bool). not b && some_is (marked marks) (right_at bytes at)) (ap (marked marks) (sym ea) ∙ m))
+firing-passes all marks r e m h = h ∙ sym (ap (λ (b : Bool). not b && asked all (marked marks) r.right) (ap (marked marks) (sym e) ∙ m))
 
 -- Of a rule that fires the left side is not marked.
 firing-left : (all : Bool) (marks : List Bool) (r : WrittenRule) → firing all marks r ≡ true → marked marks r.left ≡ false
 unfolding firing
-firing-left true marks r e = not-true _ (both_true (not (marked marks r.left)) (each_is (marked marks) r.right) e).0
-firing-left false marks r e = not-true _ (both_true (not (marked marks r.left)) (some_is (marked marks) r.right) e).0
+firing-left all marks r e = not-true _ (both_true (not (marked marks r.left)) (asked all (marked marks) r.right) e).0
 
 -- What all symbols of a list come of, they come of together.
 all_from : {w : Written} {B : ℕ → Type 0} {α : List ℕ} → Each (λ (x : ℕ). AllFrom w B (x ∷ [])) α → AllFrom w B α
@@ -91,12 +79,12 @@ from_begins w B false a b = SomeFrom.begun b
 -- The left side of a rule that fires comes of what its right side comes of.
 fired : (all : Bool) (w : Written) (B : ℕ → Type 0) (marks : List Bool) → ((a : ℕ) → marked marks a ≡ true → From all w B a) → (r : WrittenRule) → In r w.rules
     → firing all marks r ≡ true → From all w B r.left
-unfolding From firing
+unfolding From firing asked
 fired true w B marks sound r i e =
-    let right = (both_true (not (marked marks r.left)) (each_is (marked marks) r.right) e).1 in
+    let right = (both_true (not (marked marks r.left)) (list_all (marked marks) r.right) e).1 in
     AllFrom.by_rule (in_writes w i).writes (all_from (each_map sound (each_true (marked marks) r.right right))) AllFrom.nothing
 fired false w B marks sound r i e =
-    let right = some_true (marked marks) r.right (both_true (not (marked marks r.left)) (some_is (marked marks) r.right) e).1 in
+    let right = some_true (marked marks) r.right (both_true (not (marked marks r.left)) (list_any (marked marks) r.right) e).1 in
     SomeFrom.by_rule (in_writes w i).writes right.within (sound right.symbol right.passes)
 
 module _ (all : Bool) (w : Written) (before : List Bool) where

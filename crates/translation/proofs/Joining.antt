@@ -11,14 +11,12 @@ use Rattle.grammar.specs.Rules.{Rule, none}
 use Rattle.grammar.specs.Accepted.{max_rules}
 use Rattle.grammar.specs.inner.Decoded.{all_words, rules_behind}
 use Rattle.written.specs.Written.{WrittenRule}
-use Rattle.written.specs.Form.{rule_at, rules_at, left_at, right_at, behind, longest, written_header, count_in, written_of, RuleStands, RulesStand, Formed}
+use Rattle.written.specs.Form.{longest}
 use Rattle.written.specs.Split.{rule, pair, joined, split}
 use Rattle.written.specs.Translation.{number, places, new_symbols, all_new, splits, listing}
 use Rattle.translation.specs.inner.Lists.{Listed, Lists}
 use Rattle.translation.proofs.Words.{lists_on}
-use Rattle.translation.proofs.Reading.{rule-first, rule-rest}
-use Rattle.translation.proofs.Walking.{rules-next, rules_none}
-use Rattle.translation.proofs.Placing.{new-first}
+use Rattle.translation.proofs.Placing.{new-first, places-count}
 
 -- Listing has come to `words`: whatever lists the rest there lists `total` from the beginning.
 pub record Onward (before : List ℕ) (n : ℕ) (total : List Rule) (words : List ℕ) (m : ℕ) (rest : List Rule) : Type 0 where
@@ -152,69 +150,46 @@ module _ (new : ℕ → ℕ) (empty : ℕ → Bool) (a : ℕ) (held : List ℕ) 
         (subst (Lists words n after m)
         (sym (joined-last new empty a (take k held) head e fresh i last ∙ ap₂ (λ (z : ℕ) (s : Bool). pair a head z e s) (ap new at ∙ sym ey) (ap empty at ∙ sym et))) p)
 
--- The rules of the written rules at `at` are to come.
-module _ (keep empty : ℕ → Bool) (bytes : List ℕ) (before : List ℕ) (from : ℕ) where
-  pub record Parting (words : List ℕ) (at left fresh n : ℕ) : Type 0 where
-    pub stand : RulesStand bytes at left
-    pub low : fresh + all_new keep (rules_at bytes at left) ≤ 512
-    pub rest : Onward before 0 (splits keep empty (written_of bytes).rules from) words n (splits keep empty (rules_at bytes at left) fresh)
+-- Some of the written rules are to come.
+module _ (keep empty : ℕ → Bool) (all : List WrittenRule) (before : List ℕ) (from : ℕ) where
+  pub record Parting (words : List ℕ) (rest : List WrittenRule) (fresh n : ℕ) : Type 0 where
+    pub low : fresh + all_new keep rest ≤ 512
+    pub listed : Onward before 0 (splits keep empty all from) words n (splits keep empty rest fresh)
 
-  pub parting-begins : (left : ℕ) → Formed bytes → left ≡ count_in bytes → from + all_new keep (written_of bytes).rules ≤ 512 → length before ≡ all_words
-      → Parting before written_header left from 0
-  parting-begins left f e low l = record {
-    stand = subst (RulesStand bytes written_header) (sym e) f.rules;
-    low = subst (λ (k : ℕ). from + all_new keep (rules_at bytes written_header k) ≤ 512) (sym e) low;
-    rest = onward_begins before 0 _ _ (ap (λ (k : ℕ). splits keep empty (rules_at bytes written_header k) from) (sym e)) l (omega arith);
-  }
+  pub parting-begins : from + all_new keep all ≤ 512 → length before ≡ all_words → Parting before all from 0
+  parting-begins low l = record { low = low; listed = onward_begins before 0 _ _ refl l (omega arith) }
 
-  module _ (words : List ℕ) (at left fresh n : ℕ) (p : Parting words at left fresh n) where
-    pub parting-rule : 0 < left → RuleStands bytes at
-    parting-rule h = let e : left ≡ suc (left - 1) = omega arith in rule-first p.stand e
-
-    new-here : 0 < left → all_new keep (rules_at bytes at left) ≡ new_symbols (places keep (right_at bytes at)) + all_new keep (rules_at bytes (behind bytes at) (left - 1))
-    new-here h = ap (all_new keep) (rules-next bytes at left h) ∙ new-first keep (rule_at bytes at) (rules_at bytes (behind bytes at) (left - 1))
+  module _ (words : List ℕ) {rest more : List WrittenRule} {r : WrittenRule} {fresh n : ℕ} (p : Parting words rest fresh n) (e : rest ≡ r ∷ more) where
+    new-here : all_new keep rest ≡ new_symbols (places keep r.right) + all_new keep more
+    new-here = ap (all_new keep) e ∙ new-first keep r more
 
     -- The new symbols of the next rule are few.
-    pub parting-low : (k : ℕ) (room : List ℕ) → 0 < left → take k room ≡ places keep (right_at bytes at) → k ≤ longest → length room ≡ longest → fresh + (k - 2) ≤ 512
-    parting-low k room h e f l =
-        let count : length (take k room) ≡ k = length-take-le k room (omega arith) in
-        let same : k ≡ length (places keep (right_at bytes at)) = sym count ∙ ap length e in
-        let m = new-here h in
-        let low = p.low in
-        omega arith
+    pub parting-low : {k : ℕ} (room : List ℕ) → take k room ≡ places keep r.right → k ≤ longest → length room ≡ longest → fresh + (k - 2) ≤ 512
+    parting-low room el f l = let c = places-count room el f l in let m = new-here in let low = p.low in omega arith
 
-    splits-here : 0 < left
-        → splits keep empty (rules_at bytes at left) fresh
-        ≡ split (number keep) empty (number keep (left_at bytes at)) (places keep (right_at bytes at)) fresh
-        ++ splits keep empty (rules_at bytes (behind bytes at) (left - 1)) (fresh + new_symbols (places keep (right_at bytes at)))
+    splits-here : splits keep empty rest fresh
+        ≡ split (number keep) empty (number keep r.left) (places keep r.right) fresh ++ splits keep empty more (fresh + new_symbols (places keep r.right))
     unfolding splits
-    splits-here h = ap (λ (l : List WrittenRule). splits keep empty l fresh) (rules-next bytes at left h)
+    splits-here = ap (λ (l : List WrittenRule). splits keep empty l fresh) e
 
     -- A rule more.
-    pub parting_on : (there a k new : ℕ) (room : List ℕ) {after : List ℕ} {m : ℕ} → 0 < left → there ≡ behind bytes at → a ≡ number keep (left_at bytes at)
-        → take k room ≡ places keep (right_at bytes at) → k ≤ longest → length room ≡ longest → new ≡ k - 2
-        → Lists words n after m (split (number keep) empty a (take k room) fresh) → (length after ≡ all_words) × (m ≤ max_rules)
-        → Parting after there (left - 1) (fresh + new) m
-    parting_on there a k new room {after} {m} h e ea el f lr en q l =
-        let count : length (take k room) ≡ k = length-take-le k room (omega arith) in
-        let more : left ≡ suc (left - 1) = omega arith in
-        let fewer : new_symbols (places keep (right_at bytes at)) ≡ new = ap new_symbols (sym el) ∙ ap (λ (c : ℕ). c - 2) count ∙ sym en in
-        let all = new-here h in
-        let move : all_new keep (rules_at bytes there (left - 1)) ≡ all_new keep (rules_at bytes (behind bytes at) (left - 1)) = ap (λ (p : ℕ). all_new keep (rules_at bytes p (left - 1))) e in
+    pub parting_on : {a k s : ℕ} (room : List ℕ) {after : List ℕ} {m : ℕ} → a ≡ number keep r.left → take k room ≡ places keep r.right → k ≤ longest → length room ≡ longest → s ≡ k - 2
+        → Lists words n after m (split (number keep) empty a (take k room) fresh) → (length after ≡ all_words) × (m ≤ max_rules) → Parting after more (fresh + s) m
+    parting_on {a} {k} {s} room {after} {m} ea el f lr es q l =
+        let fewer : new_symbols (places keep r.right) ≡ s = ap (λ (c : ℕ). c - 2) (places-count room el f lr) ∙ sym es in
+        let here = new-here in
         let low = p.low in
         record {
-          stand = subst (λ (p : ℕ). RulesStand bytes p (left - 1)) (sym e) (rule-rest p.stand more);
-          low = omega (arith, all, move, fewer, low);
-          rest = onward_on _ (split (number keep) empty a (take k room) fresh) (splits keep empty (rules_at bytes there (left - 1)) (fresh + new))
-              (splits-here h
-              ∙ ap₂ (λ (b : ℕ) (r : List ℕ). split (number keep) empty b r fresh ++ splits keep empty (rules_at bytes (behind bytes at) (left - 1)) (fresh + new_symbols (places keep (right_at bytes at)))) (sym ea) (sym el)
-              ∙ ap₂ (λ (b s : ℕ). split (number keep) empty a (take k room) fresh ++ splits keep empty (rules_at bytes b (left - 1)) (fresh + s)) (sym e) fewer)
-              p.rest q l;
+          low = omega arith;
+          listed = onward_on _ (split (number keep) empty a (take k room) fresh) (splits keep empty more (fresh + s))
+              (splits-here
+              ∙ ap₂ (λ (b : ℕ) (l : List ℕ). split (number keep) empty b l fresh ++ splits keep empty more (fresh + new_symbols (places keep r.right))) (sym ea) (sym el)
+              ∙ ap (λ (j : ℕ). split (number keep) empty a (take k room) fresh ++ splits keep empty more (fresh + j)) fewer)
+              p.listed q l;
         }
 
-    -- The end: the words hold the list of all rules.
-    pub parting-ends : left ≤ 0 → Listed words n (listing [] (splits keep empty (written_of bytes).rules from))
-    unfolding splits rules_behind
-    parting-ends h =
-        (p.rest.onward words n (lists-nothing words n _ (ap (λ (l : List WrittenRule). splits keep empty l fresh) (rules_none bytes at left h)))).lists []
-        (Listed.holds (omega arith) refl)
+  -- The end: the words hold the list of all rules.
+  pub parting-ends : (words : List ℕ) {rest : List WrittenRule} {fresh n : ℕ} → Parting words rest fresh n → rest ≡ [] → Listed words n (listing [] (splits keep empty all from))
+  unfolding splits rules_behind
+  parting-ends words {rest} {fresh} {n} p e =
+      (p.listed.onward words n (lists-nothing words n _ (ap (λ (l : List WrittenRule). splits keep empty l fresh) e))).lists [] (Listed.holds (omega arith) refl)

@@ -19,8 +19,7 @@ use Rattle.written.specs.Refusals.{Reachable}
 use Rattle.written.proofs.Lists.{each_in, each_at, in_each}
 use Rattle.written.proofs.Knowing.{in_writes}
 use Rattle.translation.specs.inner.Marks.{most_symbols, marked, MarksAre, Turn, turn, walk, marking, reaching}
-use Rattle.translation.proofs.Reading.{LowRule}
-use Rattle.translation.proofs.Testing.{symbols-next, symbols_none}
+use Rattle.translation.specs.inner.Symbols.{LowRule}
 use Rattle.translation.proofs.Growing.{walk-keeps}
 use Rattle.translation.proofs.Marked.{none_marked}
 
@@ -45,14 +44,12 @@ pub reaching-rests : (s : Turn) (r : WrittenRule) → marked s.marks r.left ≡ 
 unfolding reaching
 reaching-rests s r e = rw (reaching, e) refl
 
--- The same by what was read in place.
+-- The same by what was read.
 pub step_rests : (s : Turn) (r : WrittenRule) {a : ℕ} → a ≡ r.left → marked s.marks a ≡ false → s ≡ reaching s r
 step_rests s r e m = sym (reaching-rests s r (ap (marked s.marks) (sym e) ∙ m))
 
-pub step_marks : (s : Turn) (bytes : List ℕ) (at a n : ℕ) (t : Turn) → a ≡ left_at bytes at → marked s.marks a ≡ true → n ≡ length_at bytes at
-    → t ≡ marking s (symbols_at bytes (at + rule_head) n) → t ≡ reaching s (rule_at bytes at)
-step_marks s bytes at a n t e m en h =
-    h ∙ ap (λ (k : ℕ). marking s (symbols_at bytes (at + rule_head) k)) en ∙ sym (reaching_on s (rule_at bytes at) (ap (marked s.marks) (sym e) ∙ m))
+pub step_marks : (s : Turn) (r : WrittenRule) (t : Turn) {a : ℕ} → a ≡ r.left → marked s.marks a ≡ true → t ≡ marking s r.right → t ≡ reaching s r
+step_marks s r t e m h = h ∙ sym (reaching_on s r (ap (marked s.marks) (sym e) ∙ m))
 
 -- Marking keeps the number of marks.
 marking-keeps : (l : List ℕ) (s : Turn) → length (marking s l).marks ≡ length s.marks
@@ -64,34 +61,19 @@ marking-keeps (x ∷ l) s = either_way (marked s.marks x)
 pub marking-long : (l : List ℕ) (s t : Turn) → t ≡ marking s l → length s.marks ≡ most_symbols → length t.marks ≡ most_symbols
 marking-long l s t e h = ap (λ (u : Turn). length u.marks) e ∙ marking-keeps l s ∙ h
 
--- Symbol by symbol, in place: what the symbols that are left make of the marks so far is what all make of those at the beginning.
-pub record MarkingTo (bytes : List ℕ) (total : Turn) (here left : ℕ) (s : Turn) : Type 0 where
-  pub inside : here + 2 * left ≤ length bytes
-  pub long : length s.marks ≡ most_symbols
-  pub same : marking s (symbols_at bytes here left) ≡ total
+-- Symbol by symbol: what the symbols that are left make of the marks so far is what all make of those at the beginning.
+pub record MarkingTo (total : Turn) (rest : List ℕ) (s : Turn) : Type 0 where
+  pub same : marking s rest ≡ total
 
-module _ (bytes : List ℕ) (total : Turn) (here left : ℕ) (s : Turn) (x : ℕ) (is : x ≡ u16_at bytes here) (more : 0 < left) (m : MarkingTo bytes total here left s) where
-  first-symbol : marking s (x ∷ symbols_at bytes (here + 2) (left - 1)) ≡ total
-  first-symbol =
-      ap (λ (y : ℕ). marking s (y ∷ symbols_at bytes (here + 2) (left - 1))) is ∙ sym (ap (marking s) (symbols-next bytes here left more)) ∙ m.same
+pub marks-there : {total : Turn} {rest more : List ℕ} {x : ℕ} (s : Turn) → MarkingTo total rest s → rest ≡ x ∷ more → marked s.marks x ≡ true → MarkingTo total more s
+marks-there {more = more} {x} s m e h = record { same = sym (marking-there s x more h) ∙ sym (ap (marking s) e) ∙ m.same }
 
-  pub marks-there : marked s.marks x ≡ true → MarkingTo bytes total (here + 2) (left - 1) s
-  marks-there e = record {
-    inside = let i = m.inside in omega arith;
-    long = m.long;
-    same = sym (marking-there s x (symbols_at bytes (here + 2) (left - 1)) e) ∙ first-symbol;
-  }
+pub marks-new : {total : Turn} {rest more : List ℕ} {x : ℕ} (s : Turn) → MarkingTo total rest s → rest ≡ x ∷ more → marked s.marks x ≡ false
+    → MarkingTo total more (turn (set s.marks x true) true)
+marks-new {more = more} {x} s m e h = record { same = sym (marking-new s x more h) ∙ sym (ap (marking s) e) ∙ m.same }
 
-  pub marks-new : marked s.marks x ≡ false → MarkingTo bytes total (here + 2) (left - 1) (turn (set s.marks x true) true)
-  marks-new e = record {
-    inside = let i = m.inside in omega arith;
-    long = length-set s.marks x true ∙ m.long;
-    same = sym (marking-new s x (symbols_at bytes (here + 2) (left - 1)) e) ∙ first-symbol;
-  }
-
-pub marks-end : (bytes : List ℕ) (total : Turn) (here left : ℕ) (s : Turn) → MarkingTo bytes total here left s → left ≤ 0 → s ≡ total
-unfolding marking
-marks-end bytes total here left s m h = sym (ap (marking s) (symbols_none bytes here left h)) ∙ m.same
+pub marks-end : {total : Turn} {rest : List ℕ} (s : Turn) → MarkingTo total rest s → rest ≡ [] → s ≡ total
+marks-end s m e = sym (nothing-marked s) ∙ sym (ap (marking s) e) ∙ m.same
 
 module _ (w : Written) where
   -- Marks that are right so far.

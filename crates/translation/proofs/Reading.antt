@@ -1,7 +1,7 @@
 -- Symbols and rules in place, one after the other.
-use mathlib.Core.Path.{◌≡◌, sym, subst}
+use mathlib.Core.Path.{◌≡◌, refl, sym, ap, subst}
 use mathlib.Core.Bool.{Bool}
-use mathlib.Core.List.{List}
+use mathlib.Core.List.{List, [], ◌∷◌}
 use Prim.Native.Nat.{ℕ, zero, suc, ◌+◌, ◌-◌, ◌*◌, ◌≤◌, ◌<◌}
 use native.Mathlib.Omega.{arith}
 use lib.ListN.{length, get_or}
@@ -12,9 +12,9 @@ use Rattle.grammar.specs.File.{u16_at}
 use Rattle.written.specs.Lists.{Each}
 use Rattle.written.specs.Lists.Each.{end, and}
 use Rattle.written.specs.Written.{WrittenRule}
-use Rattle.written.specs.Form.{rules_at, symbols_at, rule_head, tokens_in, end_in, left_at, length_at, behind, longest, written_header, version_in, start_in, count_in, RuleStands, RulesStand, Formed}
+use Rattle.written.specs.Form.{rule_at, rules_at, symbols_at, rule_head, tokens_in, end_in, left_at, length_at, behind, longest, written_header, version_in, start_in, count_in, RuleStands, RulesStand, Formed}
 use Rattle.written.specs.Form.RulesStand.{no_more, one_more}
-use Rattle.translation.specs.inner.Symbols.{AllBelow}
+use Rattle.translation.specs.inner.Symbols.{AllBelow, Narrow, LowRule}
 
 -- At the same place stands the same.
 at_place : {limit : ℕ} (bytes : List ℕ) (k m : ℕ) → k ≡ m → u16_at bytes k < limit → u16_at bytes m < limit
@@ -69,15 +69,13 @@ rule-rest {bytes} {at} (one_more s r) h = subst (RulesStand bytes (behind bytes 
 pub walk_stops : {bytes : List ℕ} {from count at left : ℕ} → Walked bytes from count at left → 0 < left → (RuleStands bytes at → ⊥) → RulesStand bytes from count → ⊥
 walk_stops {left = left} w h n r = let e : left ≡ suc (left - 1) = omega arith in n (rule-first (w.forth r) e)
 
-pub walk_on_lem : {bytes : List ℕ} {from count at left : ℕ} (there : ℕ) → Walked bytes from count at left → 0 < left → RuleStands bytes at → there ≡ behind bytes at
-    → there ≤ length bytes → Walked bytes from count there (left - 1)
-walk_on_lem {bytes} {from} {count} {at} {left} there w h s e inside =
-    let more : left ≡ suc (left - 1) = omega arith in
-    record {
-      inside = inside;
-      back = λ r. w.back (subst (RulesStand bytes at) (sym more) (one_more s (subst (λ (k : ℕ). RulesStand bytes k (left - 1)) e r)));
-      forth = λ r. subst (λ (k : ℕ). RulesStand bytes k (left - 1)) (sym e) (rule-rest (w.forth r) more);
-    }
+pub walk_on_lem : {bytes : List ℕ} {from count at left next : ℕ} (there : ℕ) → Walked bytes from count at left → left ≡ suc next → RuleStands bytes at → there ≡ behind bytes at
+    → there ≤ length bytes → Walked bytes from count there next
+walk_on_lem {bytes} {from} {count} {at} {left} {next} there w more s e inside = record {
+  inside = inside;
+  back = λ r. w.back (subst (RulesStand bytes at) (sym more) (one_more s (subst (λ (k : ℕ). RulesStand bytes k next) e r)));
+  forth = λ r. subst (λ (k : ℕ). RulesStand bytes k next) (sym e) (rule-rest (w.forth r) more);
+}
 
 ends : {bytes : List ℕ} {at left : ℕ} → RulesStand bytes at left → left ≡ 0 → at ≡ length bytes
 ends (no_more e) z = e
@@ -113,11 +111,7 @@ formed_decided bytes h v low high = decides_map
     (λ rules. record { header = h; version = v; no_token_lem = low; nonterminal = high; rules = rules })
     (λ f. f.rules)
 
--- Bytes.
-pub record Narrow (bytes : List ℕ) : Type 0 where
-  pub fits : (i : ℕ) → get_or bytes i 0 < 256
-
--- So two bytes name a symbol below 65,536: every symbol of the rules is.
+-- Two bytes name a symbol below 65,536: every symbol of the rules is.
 pub u16_low : {bytes : List ℕ} → Narrow bytes → (at : ℕ) → u16_at bytes at < 65536
 u16_low n at = let a = n.fits at in let b = n.fits (at + 1) in omega arith
 
@@ -126,12 +120,41 @@ unfolding symbols_at
 symbols-low n at zero = end
 symbols-low n at (suc k) = and (u16_low n at) (symbols-low n (at + 2) k)
 
-pub record LowRule (r : WrittenRule) : Type 0 where
-  pub left : r.left < 65536
-  pub right : Each (λ (x : ℕ). x < 65536) r.right
-
 pub rules-low : {bytes : List ℕ} → Narrow bytes → (at count : ℕ) → Each LowRule (rules_at bytes at count)
 unfolding rules_at
 rules-low n at zero = end
 rules-low {bytes} n at (suc k) =
     and (record { left = u16_low n at; right = symbols-low n (at + rule_head) (length_at bytes at) }) (rules-low n (behind bytes at) k)
+
+-- The first symbol and those behind it.
+pub symbols-next : (bytes : List ℕ) (here left : ℕ) → 0 < left → symbols_at bytes here left ≡ u16_at bytes here ∷ symbols_at bytes (here + 2) (left - 1)
+unfolding symbols_at
+symbols-next bytes here zero h = absurd (omega arith)
+symbols-next bytes here (suc left) h = let e : left ≡ suc left - 1 = omega arith in ap (λ (k : ℕ). u16_at bytes here ∷ symbols_at bytes (here + 2) k) e
+
+pub symbols_none : (bytes : List ℕ) (here left : ℕ) → left ≤ 0 → symbols_at bytes here left ≡ []
+unfolding symbols_at
+symbols_none bytes here zero h = refl
+symbols_none bytes here (suc left) h = absurd (omega arith)
+
+-- The first rule and those behind it.
+pub rules-next : (bytes : List ℕ) (at left : ℕ) → 0 < left → rules_at bytes at left ≡ rule_at bytes at ∷ rules_at bytes (behind bytes at) (left - 1)
+unfolding rules_at
+rules-next bytes at zero h = absurd (omega arith)
+rules-next bytes at (suc left) h = let e : left ≡ suc left - 1 = omega arith in ap (λ (k : ℕ). rule_at bytes at ∷ rules_at bytes (behind bytes at) k) e
+
+pub rules_none : (bytes : List ℕ) (at left : ℕ) → left ≤ 0 → rules_at bytes at left ≡ []
+unfolding rules_at
+rules_none bytes at zero h = refl
+rules_none bytes at (suc left) h = absurd (omega arith)
+
+-- There are as many symbols as were asked for.
+pub length-symbols : (bytes : List ℕ) (at n : ℕ) → length (symbols_at bytes at n) ≡ n
+unfolding symbols_at
+length-symbols bytes at zero = refl
+length-symbols bytes at (suc n) = ap suc (length-symbols bytes (at + 2) n)
+
+pub length-rules : (bytes : List ℕ) (at n : ℕ) → length (rules_at bytes at n) ≡ n
+unfolding rules_at
+length-rules bytes at zero = refl
+length-rules bytes at (suc n) = ap suc (length-rules bytes (behind bytes at) n)

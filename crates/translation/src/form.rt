@@ -4,11 +4,11 @@ ghost use Rattle.laws.specs.Decides.{Decides};
 ghost use Rattle.written.specs.Form.{written_header, rule_head, tokens_in, end_in, count_in, start_in, left_at, length_at, behind, RuleStands, RulesStand, Formed};
 ghost use Rattle.translation.specs.inner.Symbols.{AllBelow};
 
-use grammar::file::{u16_at, wide};
+use crate::rules::Symbols;
+use grammar::file::u16_at;
 
 // The version.
-pub const VERSION: usize = 2;
-
+pub const VERSION: u8 = 2;
 // The bytes before the rules, and those of a rule before its symbols.
 pub const HEADER: usize = 9;
 
@@ -54,12 +54,7 @@ fn all_below(written: &[u8], at: usize, n: usize, end: usize) -> bool
     requires { at + 2 * n ≤ length_of written.now }
     ensures { Decides result (AllBelow end written.now at n) }
 {
-    for i in 0..n {
-        if end <= u16_at(written, at + 2 * i) {
-            return false;
-        }
-    }
-    true
+    Symbols::new(written, at, n).all(|x| (x as usize) < end)
 }
 
 // Whether a rule stands at `at`.
@@ -71,20 +66,12 @@ fn rule_stands(written: &[u8], at: usize) -> bool
         return false;
     }
     let a = u16_at(written, at);
-    if a < tokens(written) {
-        return false;
-    }
-    if end(written) <= a {
-        return false;
-    }
     let n = u16_at(written, at + 2);
-    if LONGEST < n {
-        return false;
-    }
-    if written.len() - at - HEAD < 2 * n {
-        return false;
-    }
-    all_below(written, at + HEAD, n, end(written))
+    tokens(written) <= a
+        && a < end(written)
+        && n <= LONGEST
+        && 2 * n <= written.len() - at - HEAD
+        && all_below(written, at + HEAD, n, end(written))
 }
 
 // Where the rule behind the one at `at` begins.
@@ -101,13 +88,11 @@ fn rules_stand(written: &[u8]) -> bool
     ensures { Decides result (RulesStand written.now written_header (count_in written.now)) }
 {
     let mut at = HEADER;
-    let mut left = rule_count(written);
-    while 0 < left {
+    for rule in 0..rule_count(written) {
         if !rule_stands(written, at) {
             return false;
         }
         at = next(written, at);
-        left -= 1;
     }
     at == written.len()
 }
@@ -116,18 +101,9 @@ fn rules_stand(written: &[u8]) -> bool
 pub fn formed(written: &[u8]) -> bool
     ensures { Decides result (Formed written.now) }
 {
-    if written.len() < HEADER {
-        return false;
-    }
-    if wide(written[0]) != VERSION {
-        return false;
-    }
-    let s = start(written);
-    if s < tokens(written) {
-        return false;
-    }
-    if end(written) <= s {
-        return false;
-    }
-    rules_stand(written)
+    HEADER <= written.len()
+        && written[0] == VERSION
+        && tokens(written) <= start(written)
+        && start(written) < end(written)
+        && rules_stand(written)
 }

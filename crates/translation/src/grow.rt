@@ -1,85 +1,93 @@
 // Marks that grow by the rules until nothing is marked any more: which symbols may be empty, which derive a token string, which stay.
-ghost use Rattle.std.specs.Prelude.{◌≡◌, true, false, ℕ, ◌+◌, ◌*◌, ◌<◌, length as length_of};
+ghost use Rattle.std.specs.Prelude.{◌≡◌, Bool, true, false, ℕ, ◌<◌, length as length_of};
+ghost use Rattle.written.specs.Lists.{Each};
 ghost use Rattle.written.specs.Written.{MayBeEmpty};
-ghost use Rattle.written.specs.Form.{Formed, RuleStands, rule_at, written_of};
+ghost use Rattle.written.specs.Form.{written_of};
 ghost use Rattle.written.specs.Refusals.{Nonterminal, Fruitful, Stays};
-ghost use Rattle.translation.specs.inner.Marks.{most_symbols, MarksAre, Grown, turn, growing, firing, walk};
+ghost use Rattle.translation.specs.inner.Symbols.{LowRule};
+ghost use Rattle.translation.specs.inner.Marks.{most_symbols, marked, asked, MarksAre, Grown, turn, growing, firing, walk};
 
-use crate::form::{HEAD, HEADER, next, rule_count, tokens};
-use crate::marks::{MOST, Marks, all_marked, below, some_marked};
-use grammar::file::u16_at;
+use crate::marks::{MOST, Marks, below};
+use crate::rules::{Symbols, Written, WrittenRule};
 
-// Whether the rule at `at` marks its left side: that is not marked yet, and all symbols of the right side are, or some.
-fn fires(written: &[u8], marks: &Marks, at: usize, all: bool) -> bool
-    requires { RuleStands written.now at }
-    ensures { result ≡ firing all marks.now (rule_at written.now at) }
+// What is asked of a right side before its left side is marked: that all its symbols are, or some.
+trait Asks {
+    ghost all: { Bool };
+
+    fn passes(right: Symbols<'_>, marks: &Marks) -> bool
+        ensures { result ≡ asked all (marked marks.now) right.entry };
+}
+
+struct EveryOne;
+
+struct AnyOne;
+
+impl Asks for EveryOne {
+    ghost all = { true };
+
+    fn passes(mut right: Symbols<'_>, marks: &Marks) -> bool {
+        right.all(|x| marks[x as usize])
+    }
+}
+
+impl Asks for AnyOne {
+    ghost all = { false };
+
+    fn passes(mut right: Symbols<'_>, marks: &Marks) -> bool {
+        right.any(|x| marks[x as usize])
+    }
+}
+
+// Whether a rule marks its left side: that is not marked yet, and the right side passes.
+fn fires<A: Asks>(rule: &WrittenRule<'_>, marks: &Marks) -> bool
+    ensures { result ≡ firing A.all marks.now rule.now }
 {
-    if marks[u16_at(written, at)] {
-        return false;
-    }
-    let n = u16_at(written, at + 2);
-    if all {
-        return all_marked(written, marks, at + HEAD, n);
-    }
-    some_marked(written, marks, at + HEAD, n)
+    !marks[rule.left() as usize] && A::passes(rule.right(), marks)
 }
 
 // One walk over the rules: the left side of each that fires is marked. Whether one did.
-fn grow_once(written: &[u8], marks: &mut Marks, all: bool) -> bool
-    requires { Formed written.now × (length_of marks.old ≡ most_symbols) }
-    ensures { turn marks.new result ≡ walk (growing all) (turn marks.old false) (written_of written.now).rules }
+fn grow_once<A: Asks>(written: &Written<'_>, marks: &mut Marks) -> bool
+    ensures walked { turn marks.new result ≡ walk (growing A.all) (turn marks.old false) (written_of written.now).rules }
+    ensures low { Each LowRule (written_of written.now).rules }
 {
-    let mut at = HEADER;
-    let mut left = rule_count(written);
     let mut more = false;
-    while 0 < left {
-        let here = at;
-        at = next(written, here);
-        left -= 1;
-        if !fires(written, marks, here, all) {
-            continue;
+    for rule in written.rules() {
+        if fires::<A>(&rule, marks) {
+            marks[rule.left() as usize] = true;
+            more = true;
         }
-        marks[u16_at(written, here)] = true;
-        more = true;
     }
     more
 }
 
 // The marks, grown until no rule fires.
-fn grow(written: &[u8], marks: &mut Marks, all: bool)
-    requires { Formed written.now × (length_of marks.old ≡ most_symbols) }
-    ensures { Grown all (written_of written.now) marks.old marks.new }
+fn grow<A: Asks>(written: &Written<'_>, marks: &mut Marks)
+    ensures { Grown A.all (written_of written.now) marks.old marks.new }
 {
-    loop {
-        if !grow_once(written, marks, all) {
-            break;
-        }
-    }
+    while grow_once::<A>(written, marks) {}
 }
 
 // Marks the symbols that may be empty.
-pub fn empties(written: &[u8], marks: &mut Marks)
-    requires { Formed written.now }
+pub fn empties(written: &Written<'_>, marks: &mut Marks)
     ensures { MarksAre (MayBeEmpty (written_of written.now)) marks.new }
 {
     *marks = [false; MOST];
-    grow(written, marks, true);
+    grow::<EveryOne>(written, marks);
 }
 
 // Those that derive a token string.
-pub fn fruitful(written: &[u8], marks: &mut Marks)
-    requires { Formed written.now }
+pub fn fruitful(written: &Written<'_>, marks: &mut Marks)
     ensures { MarksAre (Fruitful (written_of written.now)) marks.new }
 {
-    below(marks, tokens(written));
-    grow(written, marks, true);
+    below(marks, written.tokens());
+    grow::<EveryOne>(written, marks);
 }
 
 // Those that derive a nonempty one, where every symbol derives one.
-pub fn staying(written: &[u8], marks: &mut Marks)
-    requires { Formed written.now × ((a : ℕ) → Nonterminal (written_of written.now) a → Fruitful (written_of written.now) a) }
+pub fn staying(written: &Written<'_>, marks: &mut Marks)
+    requires { (a : ℕ) → Nonterminal (written_of written.now) a → Fruitful (written_of written.now) a }
     ensures { MarksAre (Stays (written_of written.now)) marks.new }
 {
-    below(marks, tokens(written));
-    grow(written, marks, false);
+    below(marks, written.tokens());
+    grow::<AnyOne>(written, marks);
 }

@@ -1,9 +1,9 @@
 // The translator of written grammars to grammar files, as docs/TRANSLATION.md says it.
 #![tactic(auto)]
 
-ghost use Rattle.std.specs.Prelude.{◌≤◌};
+ghost use Rattle.std.specs.Prelude.{◌≡◌, ◌≤◌};
 ghost use Rattle.written.specs.Written.{MayBeEmpty};
-ghost use Rattle.written.specs.Form.{Formed, end_in, written_of};
+ghost use Rattle.written.specs.Form.{end_in, written_of};
 ghost use Rattle.written.specs.Refusals.{Stays, Sound};
 ghost use Rattle.written.specs.Answers.{Translates};
 ghost use Rattle.translation.specs.inner.Marks.{most_symbols, MarksAre};
@@ -17,25 +17,32 @@ mod list;
 mod marks;
 mod places;
 mod reach;
+mod rules;
 mod sides;
 mod split;
 mod write;
 
 use crate::circular::circular;
 use crate::conditions::{all_fruitful, all_reachable};
-use crate::form::{end, formed, start, tokens};
 use crate::grow::{empties, staying};
 use crate::marks::{MOST, Marks};
 use crate::places::{count_new, number};
+use crate::rules::Written;
 use crate::split::list;
 use crate::write::write;
 use grammar::file::{HEADER, RULE};
 use grammar::limits::{RULES, SYMBOLS, WORDS};
 
-// What the translator answers: the length of the file and whether the empty sentence was there, or a refusal.
-#[derive(Clone, Copy)]
-pub enum Translated {
-    Done(usize, bool),
+// What was translated: how long the file is, and whether the empty sentence was there.
+#[derive(Clone, Copy, PartialEq, Eq, Debug)]
+pub struct Translated {
+    pub length: usize,
+    pub empty: bool,
+}
+
+// Why a written grammar is refused.
+#[derive(Clone, Copy, PartialEq, Eq, Debug)]
+pub enum Refusal {
     Malformed,
     Circular,
     Barren,
@@ -44,63 +51,89 @@ pub enum Translated {
     NoRoom,
 }
 
+impl Refusal {
+    ghost use Rattle.translation.specs.Answers.{number_of};
+
+    // Its number.
+    pub fn number(self) -> u32
+        ensures { result ≡ number_of self }
+    {
+        match self {
+            Refusal::Malformed => 16,
+            Refusal::Circular => 17,
+            Refusal::Barren => 18,
+            Refusal::Unreachable => 19,
+            Refusal::NoSentence => 20,
+            Refusal::NoRoom => 21,
+        }
+    }
+}
+
 // Translates what none of 16 to 20 refuses. Nothing is written before there is room for all.
-fn translate_sound(written: &[u8], keep: &Marks, empty: &Marks, file: &mut [u8]) -> Translated
-    requires { Formed written.now × (end_in written.now ≤ most_symbols) × Sound (written_of written.now)
+fn translate_sound(
+    written: &Written<'_>,
+    keep: &Marks,
+    empty: &Marks,
+    file: &mut [u8],
+) -> Result<Translated, Refusal>
+    requires { (end_in written.now ≤ most_symbols) × Sound (written_of written.now)
         × MarksAre (Stays (written_of written.now)) keep.now × MarksAre (MayBeEmpty (written_of written.now)) empty.now }
     ensures answers { Translates written.now file.old (answer_of result) file.new }
     ensures promised { Keeps (written_of written.now) (answer_of result) file.new }
 {
-    let first = number(keep, end(written));
+    let first = number(keep, written.end());
     let wrapper = first + count_new(written, keep);
     if SYMBOLS < wrapper + 2 {
-        return Translated::NoRoom;
+        return Err(Refusal::NoRoom);
     }
     let mut rules = [0; WORDS];
     let count = list(written, keep, empty, &mut rules, first);
     if RULES <= count {
-        return Translated::NoRoom;
+        return Err(Refusal::NoRoom);
     }
     let length = HEADER + RULE * (count + 1);
     if file.len() < length {
-        return Translated::NoRoom;
+        return Err(Refusal::NoRoom);
     }
-    let s = start(written);
+    let s = written.start();
     write(
         file,
         &rules,
         count,
-        tokens(written),
+        written.tokens(),
         number(keep, s),
         wrapper,
     );
-    Translated::Done(length, empty[s])
+    Ok(Translated {
+        length,
+        empty: empty[s],
+    })
 }
 
 // Translates a written grammar. Marks of 64 KiB each are used again for one question after the other: three of them are all that the stack holds. The file stands in the first bytes of `file`, and those behind it stay as they were. A refusal leaves all of them.
-pub fn translate(written: &[u8], file: &mut [u8]) -> Translated
+pub fn translate(written: &[u8], file: &mut [u8]) -> Result<Translated, Refusal>
     ensures answers { Translates written.now file.old (answer_of result) file.new }
     ensures promised { Keeps (written_of written.now) (answer_of result) file.new }
 {
-    if !formed(written) {
-        return Translated::Malformed;
-    }
+    let Some(written) = Written::read(written) else {
+        return Err(Refusal::Malformed);
+    };
     let mut empty = [false; MOST];
     let mut keep = [false; MOST];
     let mut other = [false; MOST];
-    empties(written, &mut empty);
-    if circular(written, &empty, &mut keep, &mut other) {
-        return Translated::Circular;
+    empties(&written, &mut empty);
+    if circular(&written, &empty, &mut keep, &mut other) {
+        return Err(Refusal::Circular);
     }
-    if !all_fruitful(written, &mut keep) {
-        return Translated::Barren;
+    if !all_fruitful(&written, &mut keep) {
+        return Err(Refusal::Barren);
     }
-    if !all_reachable(written, &mut keep) {
-        return Translated::Unreachable;
+    if !all_reachable(&written, &mut keep) {
+        return Err(Refusal::Unreachable);
     }
-    staying(written, &mut keep);
-    if !keep[start(written)] {
-        return Translated::NoSentence;
+    staying(&written, &mut keep);
+    if !keep[written.start()] {
+        return Err(Refusal::NoSentence);
     }
-    translate_sound(written, &keep, &empty, file)
+    translate_sound(&written, &keep, &empty, file)
 }

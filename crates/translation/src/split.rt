@@ -8,22 +8,12 @@ ghost use Rattle.written.specs.Translation as translation;
 ghost use Rattle.translation.specs.inner.Marks.{marked};
 ghost use Rattle.translation.specs.inner.Lists.{Listed, Lists};
 
-use crate::form::{HEADER, LONGEST, next, rule_count};
+use crate::form::LONGEST;
 use crate::list::{add, pair};
 use crate::marks::Marks;
-use crate::places::{Places, new_symbols, number, places};
-use grammar::file::u16_at;
+use crate::places::{Places, number, places};
+use crate::rules::Written;
 use grammar::rules::{NONE, Rules, wide};
-
-// Whether both hold.
-fn both(a: bool, b: bool) -> bool
-    ensures { result ≡ (a && b) }
-{
-    if a {
-        return b;
-    }
-    false
-}
 
 // Lists the rules of a ::= the first `k` places, two or more: each place but the first and the last gives a new symbol, from `from` on.
 fn join(
@@ -52,7 +42,7 @@ fn join(
         let x_empty = empty[x];
         n = pair(rules, n, fresh, head, number(keep, x), head_empty, x_empty);
         head = fresh;
-        head_empty = both(head_empty, x_empty);
+        head_empty = head_empty && x_empty;
         fresh += 1;
         i += 1;
     }
@@ -94,25 +84,26 @@ fn split(
 }
 
 // The list of rules, where new symbols are numbered from `from` on. How many there are; 2,048 where there are too many.
-pub fn list(written: &[u8], keep: &Marks, empty: &Marks, rules: &mut Rules, from: usize) -> usize
-    requires { form.Formed written.now × (length_of rules.old ≡ all_words)
+pub fn list(
+    written: &Written<'_>,
+    keep: &Marks,
+    empty: &Marks,
+    rules: &mut Rules,
+    from: usize,
+) -> usize
+    requires { (length_of rules.old ≡ all_words)
         × (from + translation.all_new (marked keep.now) (form.written_of written.now).rules ≤ 512) }
     ensures { Listed rules.new result (translation.listing [] (translation.splits (marked keep.now) (marked empty.now)
         (form.written_of written.now).rules from)) × (length_of rules.new ≡ all_words) × (result ≤ max_rules) }
 {
     let mut room = [0; LONGEST];
-    let mut at = HEADER;
-    let mut left = rule_count(written);
     let mut fresh = from;
     let mut n = 0;
-    while 0 < left {
-        let here = at;
-        at = next(written, here);
-        left -= 1;
-        let k = places(written, keep, here, &mut room);
-        let a = number(keep, u16_at(written, here));
+    for rule in written.rules() {
+        let k = places(&rule, keep, &mut room);
+        let a = number(keep, rule.left() as usize);
         n = split(rules, n, keep, empty, a, &room, k, fresh);
-        fresh += new_symbols(k);
+        fresh += k.saturating_sub(2);
     }
     n
 }

@@ -1,5 +1,6 @@
 -- Marks, one for each symbol that two bytes can name; tests of right sides; and walks over the rules.
 use Rattle.std.specs.Prelude.{◌≡◌, Bool, true, false, ◌&&◌, ◌||◌, not, List, [], ◌∷◌, ℕ, ◌≤◌, ◌<◌, length, get_or, set}
+use Rattle.std.specs.List.{list_all, list_any}
 use Rattle.laws.specs.Decides.{Decides}
 use Rattle.written.specs.Lists.{In}
 use Rattle.written.specs.Written.{WrittenRule, Written, Writes}
@@ -17,19 +18,14 @@ pub record MarksAre (P : ℕ → Type 0) (marks : List Bool) : Type 0 where
   pub long : length marks ≡ most_symbols
   pub right : (a : ℕ) → Decides (marked marks a) (P a)
 
--- Whether all of a list pass a test, and whether some do.
-unfoldable pub each_is : (ℕ → Bool) → List ℕ → Bool
-each_is test [] = true
-each_is test (x ∷ l) = test x && each_is test l
+-- Whether all of a list pass a test, or (where not all are asked for) some.
+unfoldable pub asked : (all : Bool) → (ℕ → Bool) → List ℕ → Bool
+asked true test l = list_all test l
+asked false test l = list_any test l
 
-unfoldable pub some_is : (ℕ → Bool) → List ℕ → Bool
-some_is test [] = false
-some_is test (x ∷ l) = test x || some_is test l
-
--- Whether a rule marks its left side: that is not marked yet, and all symbols of the right side are, or (where not all are asked for) some.
+-- Whether a rule marks its left side: that is not marked yet, and the right side passes.
 unfoldable pub firing : Bool → List Bool → WrittenRule → Bool
-firing true marks r = not (marked marks r.left) && each_is (marked marks) r.right
-firing false marks r = not (marked marks r.left) && some_is (marked marks) r.right
+firing all marks r = not (marked marks r.left) && asked all (marked marks) r.right
 
 -- Marks during a walk, and whether it has marked something.
 pub record Turn : Type 0 where

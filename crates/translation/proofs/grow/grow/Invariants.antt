@@ -5,7 +5,7 @@ use Rattle.grammar.proofs.Rounds.{unmarked}
 use Rattle.translation.proofs.grow.grow.Given as goal
 
 abbrev pub invariant-loop : goal.invariant-loop
-invariant-loop l = Growth l.all (written_of l.written) l.initial.marks l.marks
+invariant-loop g l = Growth g.A.Asks.all (written_of l.written) l.initial.marks l.marks
 
 abbrev pub decreases-loop : goal.decreases-loop
-decreases-loop l = unmarked l.marks
+decreases-loop g l = unmarked l.marks

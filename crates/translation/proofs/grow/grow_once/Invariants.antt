@@ -1,14 +1,10 @@
 -- `translation::grow::grow_once` meets its contract. The invariant: the rules that are left make of the marks what all make of those at the beginning.
+use Rattle.std.proofs.Common.{false}
 use Rattle.translation.proofs.Walking.{Come}
-use Rattle.translation.specs.inner.Marks.{most_symbols, turn, walk, growing}
+use Rattle.translation.specs.inner.Marks.{turn, walk, growing}
 use Rattle.written.specs.Form.{written_of}
-use lib.ListN.{length}
-use mathlib.Core.Bool.{false}
-use mathlib.Core.Path.{◌≡◌}
 use Rattle.translation.proofs.grow.grow_once.Given as goal
 
-abbrev pub invariant-loop-left : goal.invariant-loop-left
-invariant-loop-left l = Come (growing l.all) l.written (walk (growing l.all) (turn l.initial.marks false) (written_of l.written).rules) l.at l.left (turn l.marks l.more) × (length l.marks ≡ most_symbols)
-
-abbrev pub decreases-loop-left : goal.decreases-loop-left
-decreases-loop-left l = l.left
+abbrev pub invariant-loop-rule : goal.invariant-loop-rule
+invariant-loop-rule g l =
+    Come (growing g.A.Asks.all) (walk (growing g.A.Asks.all) (turn l.initial.marks false) (written_of l.written).rules) l.rule-iterator (turn l.marks l.more)

@@ -5,6 +5,4 @@ use Rattle.translation.proofs.Marked.{only_to}
 use Rattle.translation.proofs.grow.staying.Goals as goal
 
 pub returns : goal.returns
-returns c =
-    let required = c.requires in
-    staying-exact _ (formed_lawful _ required.0) required.1 _ _ (only_to c.tokens.ensures.0 c.below.ensures) c.grow.ensures
+returns c = staying-exact _ (formed_lawful _ c.tokens.ensures.2) c.requires _ _ (only_to c.tokens.ensures.0 c.below.ensures) c.grow.ensures
