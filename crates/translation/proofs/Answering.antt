@@ -22,8 +22,6 @@ use Rattle.written.proofs.Filing.{bytes-long}
 use Rattle.written.proofs.Knowing.{tokens-low}
 use Rattle.written.proofs.Promising.{known, rules-count, promised}
 use Rattle.translation.specs.inner.Marks.{marked, MarksAre}
-use Rattle.translation.specs.inner.Lists.{Listed}
-use Rattle.translation.specs.inner.Lists.Listed.{holds, full}
 use Rattle.translation.specs.Answers.{Keeps}
 use Rattle.translation.proofs.Words.{behind-count}
 
@@ -83,25 +81,16 @@ module _ (bytes : List ℕ) (f : Formed bytes) (s : Sound (written_of bytes)) (k
       pub tokens-below : (t : ℕ) → t ≡ tokens_in bytes → t ≤ first + new
       tokens-below t et = let h : w.tokens ≤ number (marked keep) (end_in bytes) = tokens-low (known bytes f s tests low) in omega arith
 
-      module _ (words : List ℕ) (n : ℕ) (is-listed : Listed words n (listing [] (splits (marked keep) (marked empty) w.rules first))) where
-        listed : Listed words n list
-        listed = subst (λ (k : ℕ). Listed words n (listing [] (splits (marked keep) (marked empty) w.rules k))) ef is-listed
+      -- Too many rules.
+      pub many_rules : max_rules ≤ length (listing [] (splits (marked keep) (marked empty) w.rules first)) → Translates bytes before (Answer.refused 21) before × Keeps w (Answer.refused 21) before
+      many_rules h = not_room before (λ fits.
+          let e = ap (λ (k : ℕ). length (listing [] (splits (marked keep) (marked empty) w.rules k))) ef in
+          let r = fits.few_rules in let c = counted in omega arith)
 
-        -- Too many rules.
-        pub many_rules : max_rules ≤ n → Translates bytes before (Answer.refused 21) before × Keeps w (Answer.refused 21) before
-        many_rules h = not_room before (λ fits. let r = fits.few_rules in let l = long listed in let c = counted in omega arith)
-          where
-            long : Listed words n list → max_rules ≤ length list
-            long (holds l e) = absurd (omega arith)
-            long (full e l) = l
-
+      module _ (words : List ℕ) (n : ℕ) (is-listed : rules_in words n ≡ listing [] (splits (marked keep) (marked empty) w.rules first)) where
         module _ (room : n < max_rules) where
           rules_are : rules_in words n ≡ list
-          rules_are = those listed
-            where
-              those : Listed words n list → rules_in words n ≡ list
-              those (holds l e) = e
-              those (full e l) = absurd (omega arith)
+          rules_are = is-listed ∙ ap (λ (k : ℕ). listing [] (splits (marked keep) (marked empty) w.rules k)) ef
 
           count_is : rule_count g ≡ n + 1
           count_is = let e : length list ≡ n = sym (ap length rules_are) ∙ behind-count words 0 n in let c = counted in omega arith

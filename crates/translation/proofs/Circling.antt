@@ -1,25 +1,23 @@
 -- What a rule leads to, in place; and that what is left when no symbol can be dropped has one that derives itself.
 use mathlib.Core.Path.{◌≡◌, refl, sym, ap, subst, ◌∙◌}
-use mathlib.Core.Bool.{Bool, true, false, not, ◌&&◌, ◌||◌}
+use mathlib.Core.Bool.{Bool, true, false, not}
 use Rattle.std.specs.List.{filter}
 use mathlib.Core.List.{List, [], ◌∷◌, ◌++◌, cons≢nil}
 use mathlib.Core.Logic.{◌⊎◌, inl, inr, ⊎_elim}
-use Prim.Native.Nat.{ℕ, zero, suc, ◌+◌, ◌-◌, ◌*◌, ◌≤◌, ◌<◌}
+use Prim.Native.Nat.{ℕ, zero, suc, ◌+◌, ◌<◌}
 use native.Mathlib.Omega.{arith}
 use lib.ListN.{length, get_or, set, replicate, length-set, length-replicate}
 use lib.Dec.{eqb}
-use borrow.Author.Tests.{eq-eqb, ne_eqb}
+use borrow.Author.Tests.{ne_eqb}
 use Rattle.laws.specs.Counts.{once}
 use Rattle.laws.specs.Decides.{Decides}
 use Rattle.laws.proofs.Tests.{either_way}
 use Rattle.laws.proofs.Decides.{false_true, true_false}
-use Rattle.grammar.specs.File.{u16_at}
 use Rattle.grammar.proofs.Marks.{mark_kept, mark_new, mark_old}
 use Rattle.written.specs.Lists.{In, Each}
 use Rattle.written.specs.Lists.Each.{and}
 use Rattle.written.specs.Written.{WrittenRule, Written, Becomes, MayBeEmpty, no_written}
 use Rattle.written.specs.Written.Becomes.{nothing}
-use Rattle.written.specs.Form.{symbols_at, rule_head, left_at, length_at, rule_at}
 use Rattle.written.proofs.Lists.{at_in, in_back, none_there, head_or_tail}
 use Rattle.written.proofs.Becoming.{becomes-join, becomes-part}
 use Rattle.written.proofs.Alone.{Among, Leads}

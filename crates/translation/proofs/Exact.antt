@@ -18,9 +18,9 @@ use Rattle.written.proofs.Keeping.{tokens-join, tokens-part}
 use Rattle.written.proofs.Marking.{all-marked}
 use Rattle.written.proofs.Knowing.{Lawful, rule-becomes, token-stays, every_fruitful, all-filled}
 use Rattle.std.specs.List.{list_all, list_any}
-use Rattle.translation.specs.inner.Marks.{most_symbols, marked, MarksAre, asked, firing, AllFrom, SomeFrom, From, Grown, OnlyBelow}
+use Rattle.translation.specs.inner.Marks.{most_symbols, marked, MarksAre, asked, firing, AllFrom, SomeFrom, From, Grown}
 use Rattle.translation.proofs.Testing.{Some, true_each, true_some}
-use Rattle.translation.proofs.Marked.{none_marked}
+use Rattle.translation.proofs.Marked.{OnlyBelow, none_marked}
 
 -- Of a rule that does not fire, the left side is marked where the right side would mark it.
 rests-all : (marks : List Bool) (r : WrittenRule) → firing true marks r ≡ false → list_all (marked marks) r.right ≡ true → marked marks r.left ≡ true

@@ -3,7 +3,7 @@ use mathlib.Core.Path.{◌≡◌, refl, sym, ap, subst, ◌∙◌}
 use mathlib.Core.Bool.{Bool, true, false, ◌&&◌, not}
 use mathlib.Core.List.{List, [], ◌∷◌}
 use mathlib.Core.Logic.{⊎_elim}
-use Prim.Native.Nat.{ℕ, ◌+◌, ◌≤◌, ◌<◌}
+use Prim.Native.Nat.{ℕ, ◌≤◌, ◌<◌}
 use native.Mathlib.Omega.{arith}
 use lib.ListN.{length, set, length-set}
 use borrow.Author.Tests.{not-true}
@@ -15,7 +15,6 @@ use Rattle.written.specs.Lists.{In, Each}
 use Rattle.written.specs.Lists.In.{here, there}
 use Rattle.written.specs.Lists.Each.{end, and}
 use Rattle.written.specs.Written.{WrittenRule, Written}
-use Rattle.written.specs.Form.{symbols_at, rule_head, left_at, length_at, right_at, rule_at}
 use Rattle.written.proofs.Lists.{each_in, each_map}
 use Rattle.written.proofs.Knowing.{in_writes}
 use Rattle.std.specs.List.{list_all, list_any}

@@ -6,37 +6,34 @@ use Prim.Native.Nat.{ℕ, suc, ◌+◌, ◌-◌, ◌≤◌, ◌<◌}
 use native.Mathlib.Numerals.{add-one}
 use native.Mathlib.Omega.{arith}
 use lib.ListN.{length, get_or, take, drop}
-use lib.Seq.{drop-cons, drop-length, get_or-take, length-take-le}
+use lib.Seq.{drop-cons, drop-length}
 use Rattle.grammar.specs.Rules.{Rule, none}
 use Rattle.grammar.specs.Accepted.{max_rules}
-use Rattle.grammar.specs.inner.Decoded.{all_words, rules_behind}
 use Rattle.written.specs.Written.{WrittenRule}
 use Rattle.written.specs.Form.{longest}
 use Rattle.written.specs.Split.{rule, pair, joined, split}
 use Rattle.written.specs.Translation.{number, places, new_symbols, all_new, splits, listing}
-use Rattle.translation.specs.inner.Lists.{Listed, Lists}
-use Rattle.translation.proofs.Words.{lists_on}
+use Rattle.std.specs.Prelude.{Result, Ok, Err}
+use Rattle.translation.specs.declared.list.Full.{Full}
+use Rattle.translation.specs.inner.Lists.{Lists}
+use Rattle.translation.proofs.Words.{lists_on, lists-stops, lists-nothing}
 use Rattle.translation.proofs.Placing.{new-first, places-count}
 
--- Listing has come to `words`: whatever lists the rest there lists `total` from the beginning.
-pub record Onward (before : List ℕ) (n : ℕ) (total : List Rule) (words : List ℕ) (m : ℕ) (rest : List Rule) : Type 0 where
-  pub long : length words ≡ all_words
-  pub few : m ≤ max_rules
-  pub onward : (after : List ℕ) (k : ℕ) → Lists words m after k rest → Lists before n after k total
+-- Listing has come to `now`: whatever lists the rest there lists `total` from the beginning.
+pub record Onward (before total now rest : List Rule) : Type 0 where
+  pub onward : (r : Result (Unit {0}) Full) (after : List Rule) → Lists now r after rest → Lists before r after total
 
-pub onward_begins : (before : List ℕ) (n : ℕ) (total rest : List Rule) → total ≡ rest → length before ≡ all_words → n ≤ max_rules → Onward before n total before n rest
-onward_begins before n total rest e l f = record { long = l; few = f; onward = λ after k p. subst (Lists before n after k) (sym e) p }
+pub onward_begins : (before total rest : List Rule) → total ≡ rest → Onward before total before rest
+onward_begins before total rest e = record { onward = λ r after p. subst (Lists before r after) (sym e) p }
 
--- Some rules further.
-pub onward_on : {before words after : List ℕ} {n m k : ℕ} {total : List Rule} (rest x y : List Rule) → rest ≡ x ++ y → Onward before n total words m rest → Lists words m after k x
-    → (length after ≡ all_words) × (k ≤ max_rules) → Onward before n total after k y
-onward_on {words = words} {m = m} rest x y e o p l =
-    record { long = l.0; few = l.1; onward = λ w j q. o.onward w j (subst (Lists words m w j) (sym e) (lists_on x y p q)) }
+-- Some rules further; and no further, since the list is too long.
+pub onward_on : {T : Type 0} {t : T} {before total now after : List Rule} (rest x y : List Rule) → rest ≡ x ++ y → Onward before total now rest → Lists {T = T} {E = Full} now (Ok t) after x
+    → Onward before total after y
+onward_on {now = now} rest x y e o p = record { onward = λ r w q. o.onward r w (subst (Lists now r w) (sym e) (lists_on x y p q)) }
 
--- Nothing more is listed by doing nothing.
-pub lists-nothing : (words : List ℕ) (n : ℕ) (l : List Rule) → l ≡ [] → Lists words n words n l
-unfolding listing
-lists-nothing words n l e = record { lists = λ list h. subst (λ (k : List Rule). Listed words n (listing list k)) (sym e) h }
+pub onward_stops : {T : Type 0} {f g : Full} {before total now after : List Rule} (rest x y : List Rule) → rest ≡ x ++ y → Onward before total now rest → Lists {T = T} {E = Full} now (Err f) after x
+    → Lists {T = Unit {0}} {E = Full} before (Err g) after total
+onward_stops {g = g} {now = now} {after = after} rest x y e o p = o.onward (Err g) after (subst (Lists now (Err g) after) (sym e) (lists-stops x y p))
 
 -- The rules of no place, and of one.
 pub split_none : (new : ℕ → ℕ) (empty : ℕ → Bool) (a : ℕ) (l : List ℕ) (next : ℕ) → length l ≡ 0 → split new empty a l next ≡ []
@@ -50,15 +47,14 @@ split_one new empty a [] next h = absurd (omega arith)
 split_one new empty a (x ∷ []) next h = refl
 split_one new empty a (x ∷ y ∷ l) next h = absurd (omega arith)
 
-pub lists_none : (new : ℕ → ℕ) (empty : ℕ → Bool) (a : ℕ) (held : List ℕ) (k from : ℕ) (words : List ℕ) (n : ℕ) → k ≡ 0 → Lists words n words n (split new empty a (take k held) from)
-lists_none new empty a held k from words n e = lists-nothing words n _ (split_none new empty a (take k held) from (ap (λ (j : ℕ). length (take j held)) e))
+pub lists_none : {T E : Type 0} {t : T} (new : ℕ → ℕ) (empty : ℕ → Bool) (a : ℕ) (held : List ℕ) (from : ℕ) (before : List Rule) → length held ≡ 0
+    → Lists {T = T} {E = E} before (Ok t) before (split new empty a held from)
+lists_none new empty a held from before e = lists-nothing before _ (split_none new empty a held from e)
 
-pub lists_one : (new : ℕ → ℕ) (empty : ℕ → Bool) (a : ℕ) (held : List ℕ) (k from x y : ℕ) {before after : List ℕ} {n m : ℕ} → k ≡ 1 → k ≤ length held → x ≡ get_or held 0 0 → y ≡ new x
-    → Lists before n after m (rule a y none ∷ []) → Lists before n after m (split new empty a (take k held) from)
-lists_one new empty a held k from x y {before} {after} {n} {m} e h is ey p =
-    let count : length (take k held) ≡ k = length-take-le k held h in
-    let at : get_or (take k held) 0 0 ≡ x = get_or-take k held 0 0 (omega arith) ∙ sym is in
-    subst (Lists before n after m) (sym (split_one new empty a (take k held) from (count ∙ e) ∙ ap (λ (z : ℕ). rule a z none ∷ []) (ap new at ∙ sym ey))) p
+pub lists_one : {T E : Type 0} {r : Result T E} (new : ℕ → ℕ) (empty : ℕ → Bool) (a : ℕ) (held : List ℕ) (from : ℕ) {y : ℕ} {before after : List Rule} → length held ≡ 1 → y ≡ new (get_or held 0 0)
+    → Lists before r after (rule a y none ∷ []) → Lists before r after (split new empty a held from)
+lists_one {r = r} new empty a held from {y} {before} {after} e ey p =
+    subst (Lists before r after) (sym (split_one new empty a held from e ∙ ap (λ (z : ℕ). rule a z none ∷ []) (sym ey))) p
 
 -- Of two places or more: the first is joined with the others, a place at a time, up to the last.
 split-joined : (new : ℕ → ℕ) (empty : ℕ → Bool) (a : ℕ) (l : List ℕ) (next : ℕ) → 1 < length l
@@ -85,111 +81,106 @@ module _ (new : ℕ → ℕ) (empty : ℕ → Bool) (a : ℕ) (l : List ℕ) (he
       let low : i < length l = omega arith in
       ap (λ (k : List ℕ). joined new empty a head e k fresh) (drop-cons l i 0 low ∙ ap (λ (k : List ℕ). get_or l i 0 ∷ k) (ap (λ (k : ℕ). drop k l) h ∙ drop-length l))
 
--- The first `k` of `held` are being joined, and place `i` is next.
-module _ (new : ℕ → ℕ) (empty : ℕ → Bool) (a : ℕ) (held : List ℕ) (k from : ℕ) (before : List ℕ) (count : ℕ) where
-  pub record Joining (words : List ℕ) (head : ℕ) (e : Bool) (fresh n i : ℕ) : Type 0 where
+-- The places held are being joined, and place `i` is next.
+module _ (new : ℕ → ℕ) (empty : ℕ → Bool) (a : ℕ) (held : List ℕ) (from : ℕ) (before : List Rule) where
+  pub record Joining (now : List Rule) (head : ℕ) (e : Bool) (fresh i : ℕ) : Type 0 where
     pub some : 1 ≤ i
-    pub inside : i < k
-    pub within : k ≤ length held
+    pub inside : i < length held
     pub low : head < 65536
     pub next : fresh + 1 ≡ from + i
-    pub rest : Onward before count (split new empty a (take k held) from) words n (joined new empty a head e (drop i (take k held)) fresh)
+    pub rest : Onward before (split new empty a held from) now (joined new empty a head e (drop i held) fresh)
 
-  place_at : (i x : ℕ) → i < k → x ≡ get_or held i 0 → get_or (take k held) i 0 ≡ x
-  place_at i x h e = get_or-take k held i 0 h ∙ sym e
+  pub joining_begins : {head : ℕ} {e : Bool} → 1 < length held → head ≡ new (get_or held 0 0) → head < 65536 → e ≡ empty (get_or held 0 0) → Joining before head e from 1
+  joining_begins two eh low ee = record {
+    some = omega arith;
+    inside = two;
+    low = low;
+    next = omega arith;
+    rest = onward_begins before _ _
+        (split-joined new empty a held from two ∙ ap₂ (λ (y : ℕ) (t : Bool). joined new empty a y t (drop 1 held) from) (sym eh) (sym ee));
+  }
 
-  count_is : k ≤ length held → length (take k held) ≡ k
-  count_is h = length-take-le k held h
+  module _ {now : List Rule} {head : ℕ} {e : Bool} {fresh i : ℕ} (j : Joining now head e fresh i) {y : ℕ} {t : Bool} (ey : y ≡ new (get_or held i 0)) (et : t ≡ empty (get_or held i 0)) where
+    here-joined : i + 1 < length held
+        → joined new empty a head e (drop i held) fresh ≡ pair fresh head y e t ++ joined new empty a fresh (e && t) (drop (i + 1) held) (fresh + 1)
+    here-joined h =
+        joined-next new empty a held head e fresh i (omega arith)
+        ∙ ap₂ (λ (z : ℕ) (s : Bool). pair fresh head z e s ++ joined new empty a fresh (e && s) (drop (suc i) held) (suc fresh)) (sym ey) (sym et)
+        ∙ ap₂ (λ (p q : ℕ). pair fresh head y e t ++ joined new empty a fresh (e && t) (drop p held) q) (sym (add-one i)) (sym (add-one fresh))
 
-  pub joining_begins : (x head : ℕ) (e : Bool) → k ≤ length held → 1 < k → x ≡ get_or held 0 0 → head ≡ new x → head < 65536 → e ≡ empty x → length before ≡ all_words → count ≤ max_rules
-      → Joining before head e from count 1
-  joining_begins x head e h m is eh low ee l f =
-      let two : 1 < length (take k held) = let c = count_is h in omega arith in
-      let at = place_at 0 x (omega arith) is in
-      record {
-        some = omega arith;
-        inside = m;
-        within = h;
-        low = low;
-        next = omega arith;
-        rest = onward_begins before count _ _
-            (split-joined new empty a (take k held) from two
-            ∙ ap₂ (λ (y : ℕ) (t : Bool). joined new empty a y t (drop 1 (take k held)) from) (ap new at ∙ sym eh) (ap empty at ∙ sym ee)) l f;
-      }
-
-  module _ (words : List ℕ) (head : ℕ) (e : Bool) (fresh n i x : ℕ) (is : x ≡ get_or held i 0) (j : Joining words head e fresh n i) (y : ℕ) (t : Bool) (ey : y ≡ new x) (et : t ≡ empty x) where
     -- A place more.
-    joined_on : {after : List ℕ} {m : ℕ} → i + 1 < k → fresh < 65536 → Lists words n after m (pair fresh head y e t) → (length after ≡ all_words) × (m ≤ max_rules)
-        → Joining after fresh (e && t) (fresh + 1) m (i + 1)
-    joined_on h low p l =
-        let at = place_at i x j.inside is in
-        let more : suc i < length (take k held) = let c = count_is j.within in omega arith in
-        record {
-          some = omega arith;
-          inside = h;
-          within = j.within;
-          low = low;
-          next = let q = j.next in omega arith;
-          rest = onward_on _ (pair fresh head y e t) (joined new empty a fresh (e && t) (drop (i + 1) (take k held)) (fresh + 1))
-              (joined-next new empty a (take k held) head e fresh i more
-              ∙ ap₂ (λ (z : ℕ) (s : Bool). pair fresh head z e s ++ joined new empty a fresh (e && s) (drop (suc i) (take k held)) (suc fresh)) (ap new at ∙ sym ey) (ap empty at ∙ sym et)
-              ∙ ap₂ (λ (p q : ℕ). pair fresh head y e t ++ joined new empty a fresh (e && t) (drop p (take k held)) q) (sym (add-one i)) (sym (add-one fresh)))
-              j.rest p l;
-        }
+    pub joining_on : {T : Type 0} {u : T} {after : List Rule} {both : Bool} → i + 1 < length held → fresh < 65536 → both ≡ (e && t)
+        → Lists {T = T} {E = Full} now (Ok u) after (pair fresh head y e t) → Joining after fresh both (fresh + 1) (i + 1)
+    joining_on {after = after} h low eb p = subst (λ (s : Bool). Joining after fresh s (fresh + 1) (i + 1)) (sym eb) (record {
+      some = omega arith;
+      inside = h;
+      low = low;
+      next = let q = j.next in omega arith;
+      rest = onward_on _ (pair fresh head y e t) (joined new empty a fresh (e && t) (drop (i + 1) held) (fresh + 1)) (here-joined h) j.rest p;
+    })
 
-    pub joining_on : {after : List ℕ} {m : ℕ} {both : Bool} → i + 1 < k → fresh < 65536 → both ≡ (e && t) → Lists words n after m (pair fresh head y e t)
-        → (length after ≡ all_words) × (m ≤ max_rules) → Joining after fresh both (fresh + 1) m (i + 1)
-    joining_on {after} {m} h low eb p l = subst (λ (s : Bool). Joining after fresh s (fresh + 1) m (i + 1)) (sym eb) (joined_on h low p l)
+    -- The list is too long.
+    pub joining_stops : {T : Type 0} {f g : Full} {after : List Rule} → i + 1 < length held → Lists {T = T} {E = Full} now (Err f) after (pair fresh head y e t)
+        → Lists {T = Unit {0}} {E = Full} before (Err g) after (split new empty a held from)
+    joining_stops h p = onward_stops _ (pair fresh head y e t) (joined new empty a fresh (e && t) (drop (i + 1) held) (fresh + 1)) (here-joined h) j.rest p
 
     -- The last place.
-    pub joining_ends : {after : List ℕ} {m : ℕ} → k ≤ i + 1 → Lists words n after m (pair a head y e t) → Lists before count after m (split new empty a (take k held) from)
-    joining_ends {after} {m} h p =
-        let at = place_at i x j.inside is in
-        let last : suc i ≡ length (take k held) = let c = count_is j.within in let i = j.inside in omega arith in
-        j.rest.onward after m
-        (subst (Lists words n after m)
-        (sym (joined-last new empty a (take k held) head e fresh i last ∙ ap₂ (λ (z : ℕ) (s : Bool). pair a head z e s) (ap new at ∙ sym ey) (ap empty at ∙ sym et))) p)
+    pub joining_ends : {r : Result (Unit {0}) Full} {after : List Rule} → length held ≤ i + 1 → Lists now r after (pair a head y e t) → Lists before r after (split new empty a held from)
+    joining_ends {r = r} {after} h p =
+        let last : suc i ≡ length held = let k = j.inside in omega arith in
+        j.rest.onward r after (subst (Lists now r after) (sym (joined-last new empty a held head e fresh i last ∙ ap₂ (λ (z : ℕ) (s : Bool). pair a head z e s) (sym ey) (sym et))) p)
 
 -- Some of the written rules are to come.
-module _ (keep empty : ℕ → Bool) (all : List WrittenRule) (before : List ℕ) (from : ℕ) where
-  pub record Parting (words : List ℕ) (rest : List WrittenRule) (fresh n : ℕ) : Type 0 where
+module _ (keep empty : ℕ → Bool) (all : List WrittenRule) (from : ℕ) where
+  pub record Parting (now : List Rule) (rest : List WrittenRule) (fresh : ℕ) : Type 0 where
     pub low : fresh + all_new keep rest ≤ 512
-    pub listed : Onward before 0 (splits keep empty all from) words n (splits keep empty rest fresh)
+    pub listed : Onward [] (splits keep empty all from) now (splits keep empty rest fresh)
 
-  pub parting-begins : from + all_new keep all ≤ 512 → length before ≡ all_words → Parting before all from 0
-  parting-begins low l = record { low = low; listed = onward_begins before 0 _ _ refl l (omega arith) }
+  pub parting-begins : {now : List Rule} {rest : List WrittenRule} → from + all_new keep all ≤ 512 → now ≡ [] → rest ≡ all → Parting now rest from
+  parting-begins {now} {rest} low e h = record {
+    low = subst (λ (l : List WrittenRule). from + all_new keep l ≤ 512) (sym h) low;
+    listed = subst (λ (l : List Rule). Onward [] (splits keep empty all from) l (splits keep empty rest from)) (sym e)
+        (onward_begins [] _ _ (ap (λ (l : List WrittenRule). splits keep empty l from) (sym h)));
+  }
 
-  module _ (words : List ℕ) {rest more : List WrittenRule} {r : WrittenRule} {fresh n : ℕ} (p : Parting words rest fresh n) (e : rest ≡ r ∷ more) where
-    new-here : all_new keep rest ≡ new_symbols (places keep r.right) + all_new keep more
-    new-here = ap (all_new keep) e ∙ new-first keep r more
+  module _ {now : List Rule} {rest more : List WrittenRule} {r : WrittenRule} {fresh : ℕ} (p : Parting now rest fresh) (e : rest ≡ r ∷ more) {k : ℕ} (room : List ℕ)
+      (el : take k room ≡ places keep r.right) (few : k ≤ longest) (long : length room ≡ longest) where
+    new-here : all_new keep rest ≡ k - 2 + all_new keep more
+    new-here = let n = ap (all_new keep) e ∙ new-first keep r more in let c = places-count room el few long in omega arith
 
     -- The new symbols of the next rule are few.
-    pub parting-low : {k : ℕ} (room : List ℕ) → take k room ≡ places keep r.right → k ≤ longest → length room ≡ longest → fresh + (k - 2) ≤ 512
-    parting-low room el f l = let c = places-count room el f l in let m = new-here in let low = p.low in omega arith
+    pub parting-low : fresh + (k - 2) ≤ 512
+    parting-low = let m = new-here in let low = p.low in omega arith
 
-    splits-here : splits keep empty rest fresh
-        ≡ split (number keep) empty (number keep r.left) (places keep r.right) fresh ++ splits keep empty more (fresh + new_symbols (places keep r.right))
+    splits-here : {a : ℕ} → a ≡ number keep r.left
+        → splits keep empty rest fresh ≡ split (number keep) empty a (take k room) fresh ++ splits keep empty more (fresh + (k - 2))
     unfolding splits
-    splits-here = ap (λ (l : List WrittenRule). splits keep empty l fresh) e
+    splits-here {a} ea =
+        let fewer : new_symbols (places keep r.right) ≡ k - 2 = ap (λ (c : ℕ). c - 2) (places-count room el few long) in
+        ap (λ (l : List WrittenRule). splits keep empty l fresh) e
+        ∙ ap₂ (λ (b : ℕ) (l : List ℕ). split (number keep) empty b l fresh ++ splits keep empty more (fresh + new_symbols (places keep r.right))) (sym ea) (sym el)
+        ∙ ap (λ (j : ℕ). split (number keep) empty a (take k room) fresh ++ splits keep empty more (fresh + j)) fewer
 
     -- A rule more.
-    pub parting_on : {a k s : ℕ} (room : List ℕ) {after : List ℕ} {m : ℕ} → a ≡ number keep r.left → take k room ≡ places keep r.right → k ≤ longest → length room ≡ longest → s ≡ k - 2
-        → Lists words n after m (split (number keep) empty a (take k room) fresh) → (length after ≡ all_words) × (m ≤ max_rules) → Parting after more (fresh + s) m
-    parting_on {a} {k} {s} room {after} {m} ea el f lr es q l =
-        let fewer : new_symbols (places keep r.right) ≡ s = ap (λ (c : ℕ). c - 2) (places-count room el f lr) ∙ sym es in
-        let here = new-here in
-        let low = p.low in
-        record {
-          low = omega arith;
-          listed = onward_on _ (split (number keep) empty a (take k room) fresh) (splits keep empty more (fresh + s))
-              (splits-here
-              ∙ ap₂ (λ (b : ℕ) (l : List ℕ). split (number keep) empty b l fresh ++ splits keep empty more (fresh + new_symbols (places keep r.right))) (sym ea) (sym el)
-              ∙ ap (λ (j : ℕ). split (number keep) empty a (take k room) fresh ++ splits keep empty more (fresh + j)) fewer)
-              p.listed q l;
-        }
+    pub parting_on : {T : Type 0} {u : T} {after : List Rule} {a s : ℕ} → a ≡ number keep r.left → s ≡ k - 2
+        → Lists {T = T} {E = Full} now (Ok u) after (split (number keep) empty a (take k room) fresh) → Parting after more (fresh + s)
+    parting_on {after = after} {a} {s} ea es q = subst (λ (j : ℕ). Parting after more (fresh + j)) (sym es) (record {
+      low = let m = new-here in let low = p.low in omega arith;
+      listed = onward_on _ (split (number keep) empty a (take k room) fresh) (splits keep empty more (fresh + (k - 2))) (splits-here ea) p.listed q;
+    })
 
-  -- The end: the words hold the list of all rules.
-  pub parting-ends : (words : List ℕ) {rest : List WrittenRule} {fresh n : ℕ} → Parting words rest fresh n → rest ≡ [] → Listed words n (listing [] (splits keep empty all from))
-  unfolding splits rules_behind
-  parting-ends words {rest} {fresh} {n} p e =
-      (p.listed.onward words n (lists-nothing words n _ (ap (λ (l : List WrittenRule). splits keep empty l fresh) e))).lists [] (Listed.holds (omega arith) refl)
+    -- The list is too long.
+    pub parting_stops : {T : Type 0} {f : Full} {after : List Rule} {a : ℕ} → a ≡ number keep r.left → Lists {T = T} {E = Full} now (Err f) after (split (number keep) empty a (take k room) fresh)
+        → max_rules ≤ length (listing [] (splits keep empty all from))
+    parting_stops {f = f} {after} {a} ea q =
+        let whole : Lists {T = Unit {0}} {E = Full} [] (Err f) after (splits keep empty all from) =
+        onward_stops _ (split (number keep) empty a (take k room) fresh) (splits keep empty more (fresh + (k - 2))) (splits-here ea) p.listed q in
+        whole.full
+
+  -- The end: the list is that of all rules.
+  pub parting-ends : {now : List Rule} {rest : List WrittenRule} {fresh : ℕ} → Parting now rest fresh → rest ≡ [] → now ≡ listing [] (splits keep empty all from)
+  unfolding splits
+  parting-ends {now} {rest} {fresh} p e =
+      let whole : Lists {T = Unit {0}} {E = Full} [] (Ok tt) now (splits keep empty all from) =
+      p.listed.onward (Ok tt) now (lists-nothing now _ (ap (λ (l : List WrittenRule). splits keep empty l fresh) e)) in
+      whole.listed

@@ -1,15 +1,17 @@
--- Marks set one after the other.
-use mathlib.Core.Path.{◌≡◌, refl, sym, subst, ◌∙◌}
-use mathlib.Core.Bool.{Bool, true, false}
-use mathlib.Core.List.{List}
-use mathlib.Core.Logic.{⊎_elim}
-use Prim.Native.Nat.{ℕ, zero, suc, ◌+◌, ◌≤◌, ◌<◌}
-use native.Mathlib.Decide.{ℕ_discrete}
-use native.Mathlib.Omega.{arith}
-use lib.ListN.{length, set, replicate, length-set, length-replicate}
+-- Marks of some symbols.
+use Rattle.std.proofs.Common.{◌≡◌, refl, sym, ap, ◌∙◌, Bool, true, false, not, List, ◌++◌, ℕ, zero, suc, ◌+◌, ◌-◌, ◌≤◌, ◌<◌, length, get_or, take, drop, replicate, arith}
+use Rattle.std.proofs.lemmas.List.{length-replicate, length-take-le, length-drop}
+use Rattle.std.proofs.lemmas.List.{get_or-take, get_or-drop, get_or-replicate}
+use Rattle.std.proofs.Math.ListN.{get_or-append}
+use Rattle.std.proofs.Math.Seq.{get_or-append_right}
+use Rattle.std.specs.List.{IsAnyAnswer}
+use native.Mathlib.Decide.{dec_lt}
+use mathlib.Core.Bool.{beq}
+use lib.ListN.{get_or-eq_default}
+use Rattle.translation.specs.inner.Circles.{SomeHeld}
+use Rattle.laws.specs.Decides.{Decides}
 use Rattle.laws.proofs.Decides.{true_false, false_true}
-use Rattle.grammar.proofs.Marks.{mark_kept, mark_new, mark_old}
-use Rattle.translation.specs.inner.Marks.{most_symbols, marked, OnlyBelow, AllWithin}
+use Rattle.translation.specs.inner.Marks.{most_symbols, marked, OnlyWithin, AllWithin}
 
 -- Nothing is marked at first.
 pub none_marked : (n a : ℕ) → marked (replicate n false) a ≡ false
@@ -17,57 +19,111 @@ none_marked zero a = refl
 none_marked (suc n) zero = refl
 none_marked (suc n) (suc a) = none_marked n a
 
-pub only_none : OnlyBelow 0 (replicate most_symbols false)
-only_none = record {
-  long = length-replicate {A = Bool} most_symbols false;
-  below = λ a h. absurd (omega arith);
-  only = λ a e. absurd (false_true (sym (none_marked most_symbols a) ∙ e));
-}
+-- The symbols below `end` are marked, and no others.
+pub record OnlyBelow (end : ℕ) (marks : List Bool) : Type 0 where
+  pub long : length marks ≡ most_symbols
+  pub below : (a : ℕ) → a < end → marked marks a ≡ true
+  pub only : (a : ℕ) → marked marks a ≡ true → a < end
 
--- One more.
-pub only-more : (marks : List Bool) (a : ℕ) → OnlyBelow a marks → a < most_symbols → OnlyBelow (a + 1) (set marks a true)
-only-more marks a o h = record {
-  long = length-set marks a true ∙ o.long;
-  below = λ b l. elim (ℕ_discrete b a) [
-    | yes e ↦ subst (λ (x : ℕ). marked (set marks a true) x ≡ true) (sym e) (mark_new marks a inside)
-    | no n ↦ mark_kept marks a b (o.below b (lower b l n)) inside
+pub only_to : {n m : ℕ} {marks : List Bool} → n ≡ m → length marks ≡ most_symbols → OnlyWithin 0 n marks → OnlyBelow m marks
+only_to {n} {m} e l o = record { long = l; below = λ a h. o.all a (omega arith) (omega arith); only = λ a h. let k = (o.only a h).1 in omega arith }
+
+-- Marks filled between two places.
+module _ (n from to : ℕ) (le : from ≤ to) (in-there : to ≤ n) (l mid : List Bool) (el : l ≡ replicate n false) (em : mid ≡ replicate (to - from) true) where
+  abbrev filled : List Bool
+  filled = take from l ++ (mid ++ drop (to - from) (drop from l))
+
+  pub only-filled : OnlyWithin from to filled
+  only-filled = record {
+    all = λ a h k.
+        get_or-append_right (take from l) (mid ++ drop (to - from) (drop from l)) a false (omega (arith, front-long))
+        ∙ get_or-append mid (drop (to - from) (drop from l)) false (a - length (take from l)) (omega (arith, front-long, mid-long))
+        ∙ ap (λ (m : List Bool). marked m (a - length (take from l))) em
+        ∙ get_or-replicate (to - from) (a - length (take from l)) true false (omega (arith, front-long));
+    only = λ a m. elim (dec_lt a from) [
+      | yes h ↦ absurd (false_true (sym (before a h) ∙ m))
+      | no g ↦ elim (dec_lt a to) [
+        | yes h ↦ (omega arith, h)
+        | no h ↦ absurd (false_true (sym (behind a g h) ∙ m))
+      ]
+    ];
+  }
+    where
+      front-long : length (take from l) ≡ from
+      front-long = length-take-le from l (omega (arith, ap length el, length-replicate n false))
+
+      mid-long : length mid ≡ to - from
+      mid-long = ap length em ∙ length-replicate (to - from) true
+
+      none : (a : ℕ) → marked l a ≡ false
+      none a = ap (λ (m : List Bool). marked m a) el ∙ none_marked n a
+
+      before : (a : ℕ) → a < from → marked filled a ≡ false
+      before a h = get_or-append (take from l) (mid ++ drop (to - from) (drop from l)) false a (omega (arith, front-long)) ∙ get_or-take from l a false h ∙ none a
+
+      behind : (a : ℕ) → (a < from → ⊥) → (a < to → ⊥) → marked filled a ≡ false
+      behind a g h =
+          get_or-append_right (take from l) (mid ++ drop (to - from) (drop from l)) a false (omega (arith, front-long))
+          ∙ get_or-append_right mid (drop (to - from) (drop from l)) (a - length (take from l)) false (omega (arith, front-long, mid-long))
+          ∙ get_or-drop (to - from) (drop from l) (a - length (take from l) - length mid) false
+          ∙ get_or-drop from l (to - from + (a - length (take from l) - length mid)) false
+          ∙ none (from + (to - from + (a - length (take from l) - length mid)))
+
+-- What a test for one mark says.
+is_true : (b : Bool) → beq b true ≡ true → b ≡ true
+is_true true e = refl
+is_true false e = e
+
+is_false : (b : Bool) → beq b false ≡ true → b ≡ false
+is_false true e = sym e
+is_false false e = refl
+
+not_true_lem : (b : Bool) → beq b true ≡ false → b ≡ false
+not_true_lem true e = e
+not_true_lem false e = refl
+
+not_false_lem : (b : Bool) → beq b false ≡ false → b ≡ true
+not_false_lem true e = refl
+not_false_lem false e = sym e
+
+-- Whether all between two places are marked, by a search for one that is not.
+module _ (marks : List Bool) (from to : ℕ) (inside : to ≤ length marks) where
+  abbrev these : List Bool
+  these = take (to - from) (drop from marks)
+
+  at : (k : ℕ) → k < to - from → get_or these k false ≡ marked marks (from + k)
+  at k h = get_or-take (to - from) (drop from marks) k false h ∙ get_or-drop from marks k false
+
+  long : length these ≡ to - from
+  long = length-take-le (to - from) (drop from marks) (omega (arith, length-drop from marks))
+
+  pub all-decided : (answer : Bool) → IsAnyAnswer (λ y b. beq y false ≡ b) these answer → Decides (not answer) (AllWithin marks from to)
+  all-decided true s = record {
+    if_yes = λ e. absurd (false_true e);
+    if_no = λ e w.
+        let k : ℕ = s.0 in
+        let low : k < to - from = omega (arith, s.1, long) in
+        true_false (sym (w.all (from + k) (omega arith) (omega arith)) ∙ sym (at k low) ∙ is_false _ (s.2 false));
+  }
+  all-decided false s = record {
+    if_yes = λ e. record {
+      all = λ a g k.
+          let place : from + (a - from) ≡ a = omega arith in
+          sym (ap (marked marks) place) ∙ sym (at (a - from) (omega arith)) ∙ not_false_lem _ (s (a - from) false (omega arith) (omega (arith, long)));
+    };
+    if_no = λ e. absurd (true_false e);
+  }
+
+-- Whether one is marked, by a search for it.
+pub some-decided : (marks : List Bool) (answer : Bool) → IsAnyAnswer (λ y b. beq y true ≡ b) marks answer → Decides answer (SomeHeld marks)
+some-decided marks true s = record { if_yes = λ e. record { symbol = s.0; holds = is_true _ (s.2 false) }; if_no = λ e. absurd (true_false e) }
+some-decided marks false s = record {
+  if_yes = λ e. absurd (false_true e);
+  if_no = λ e h. elim (dec_lt h.symbol (length marks)) [
+    | yes l ↦ true_false (sym h.holds ∙ not_true_lem _ (s h.symbol false (omega arith) l))
+    | no n ↦ true_false (sym h.holds ∙ get_or-eq_default marks false (past n))
   ];
-  only = λ b m. ⊎_elim (λ (e : b ≡ a). omega arith) (λ k. up b (o.only b k)) (mark_old marks a b m);
 }
   where
-    inside : a < length marks
-    inside = omega (arith, o.long)
-
-    lower : (b : ℕ) → b < a + 1 → (b ≡ a → ⊥) → b < a
-    lower b l n = omega arith
-
-    up : (b : ℕ) → b < a → b < a + 1
-    up b l = omega arith
-
--- All from `from` up to `a`, one after the other.
-pub within_more : (marks : List Bool) (from a : ℕ) → AllWithin marks from a → marked marks a ≡ true → AllWithin marks from (a + 1)
-within_more marks from a w m = record {
-  all = λ b l h. elim (ℕ_discrete b a) [
-    | yes e ↦ subst (λ (x : ℕ). marked marks x ≡ true) (sym e) m
-    | no n ↦ w.all b l (lower b h n)
-  ];
-}
-  where
-    lower : (b : ℕ) → b < a + 1 → (b ≡ a → ⊥) → b < a
-    lower b l n = omega arith
-
-pub within_not : (marks : List Bool) (from a to : ℕ) → from ≤ a → a < to → marked marks a ≡ false → AllWithin marks from to → ⊥
-within_not marks from a to l h m w = true_false (sym (w.all a l h) ∙ m)
-
-pub within_none : (marks : List Bool) (from : ℕ) → AllWithin marks from from
-within_none marks from = record { all = λ b l h. absurd (omega arith) }
-
-pub within-last : (marks : List Bool) (from a to : ℕ) → AllWithin marks from a → to ≤ a → AllWithin marks from to
-within-last marks from a to w h = record { all = λ b l k. w.all b l (omega arith) }
-
-pub only-last : (marks : List Bool) (a end : ℕ) → OnlyBelow a marks → a ≤ end → end ≤ a → OnlyBelow end marks
-only-last marks a end o l h = let e : a ≡ end = omega arith in subst (λ (x : ℕ). OnlyBelow x marks) e o
-
--- The same limit by another name.
-pub only_to : {n m : ℕ} {marks : List Bool} → n ≡ m → OnlyBelow n marks → OnlyBelow m marks
-only_to {marks = marks} e o = subst (λ (x : ℕ). OnlyBelow x marks) e o
+    past : {a : ℕ} → (a < length marks → ⊥) → length marks ≤ a
+    past n = omega arith

@@ -1,18 +1,17 @@
 -- Numbers and places, one symbol after the other; and how many new symbols the rules need.
-use mathlib.Core.Path.{◌≡◌, refl, sym, ap, subst, ◌∙◌}
+use mathlib.Core.Path.{◌≡◌, refl, sym, ap, ◌∙◌}
 use mathlib.Core.Bool.{Bool, true, false}
 use mathlib.Core.List.{List, [], ◌∷◌, ◌++◌, append_assoc, append-nil}
 use Prim.Native.Nat.{ℕ, zero, suc, ◌+◌, ◌-◌, ◌*◌, ◌≤◌, ◌<◌}
 use native.Mathlib.Numerals.{add-one}
 use native.Mathlib.Omega.{arith}
-use lib.ListN.{length, take, set, get_or, length-set}
+use lib.ListN.{length, take, set, get_or}
 use Rattle.std.specs.List.{filter}
 use Rattle.std.proofs.Common.{length-append}
 use Rattle.std.proofs.lemmas.List.Elements.{filter-append}
 use Rattle.laws.proofs.Tests.{either_way}
 use Rattle.translation.specs.inner.Marks.{marked}
 use lib.Seq.{take-suc, take-suc-set, length-take-le}
-use Rattle.grammar.specs.File.{u16_at}
 use Rattle.written.specs.Written.{WrittenRule}
 use Rattle.written.specs.Form.{longest}
 use Rattle.written.specs.Split.{given}
@@ -26,8 +25,8 @@ kept-count keep zero h = refl
 kept-count keep (suc x) h =
     let before = kept-count keep x (omega arith) in
     let here = ap (λ (l : List Bool). length (filter (λ (b : Bool). b) l)) (take-suc keep x false (omega arith))
-        ∙ ap length (filter-append (λ (b : Bool). b) (take x keep) (get_or keep x false ∷ []))
-        ∙ length-append (filter (λ (b : Bool). b) (take x keep)) (filter (λ (b : Bool). b) (get_or keep x false ∷ [])) in
+    ∙ ap length (filter-append (λ (b : Bool). b) (take x keep) (get_or keep x false ∷ []))
+    ∙ length-append (filter (λ (b : Bool). b) (take x keep)) (filter (λ (b : Bool). b) (get_or keep x false ∷ [])) in
     either_way (marked keep x)
     (λ e. let n = number-kept (marked keep) x e in let k = ap (λ (b : Bool). length (filter (λ (c : Bool). c) (b ∷ []))) e in omega arith)
     (λ e. let n = number_gone (marked keep) x e in let k = ap (λ (b : Bool). length (filter (λ (c : Bool). c) (b ∷ []))) e in omega arith)

@@ -1,11 +1,12 @@
 -- Bytes put one behind the other: what is left to put gives what is wanted.
 use mathlib.Core.Path.{◌≡◌, refl, sym, ap, ap₂, subst, ◌∙◌}
 use mathlib.Core.List.{List, [], ◌∷◌, ◌++◌, append_assoc}
-use Prim.Native.Nat.{ℕ, suc, ◌+◌, ◌*◌, ◌/◌, ◌%◌, ◌≤◌}
-use native.Mathlib.Numerals.{add-one}
+use Prim.Native.Nat.{ℕ, zero, suc, ◌+◌, ◌*◌, ◌/◌, ◌%◌, ◌≤◌, ◌<◌}
 use native.Mathlib.Omega.{arith}
-use lib.ListN.{length, set, length-append}
-use lib.Seq.{sets, length-sets}
+use lib.ListN.{length, set, get_or, take, drop, length-append}
+use Rattle.std.specs.Int.{w16, to_be_bytes}
+use Rattle.std.proofs.lemmas.Nat.{be_bytes_2}
+use lib.Seq.{sets, sets-eq, length-sets, drop-nil}
 use Rattle.laws.specs.Records.{flat}
 use Rattle.laws.proofs.Records.{flat-length}
 use Rattle.grammar.specs.Rules.{Rule}
@@ -64,9 +65,34 @@ putting_ends {now = now} {here = here} rest e p =
     record { stored = sym (ap (sets now here) e) ∙ p.same; behind = let r = p.end in omega arith }
 
 -- A number in two bytes.
-pub u16_stored : (l : List ℕ) (at n : ℕ) → set (set l at (n / 256)) (at + 1) (n % 256) ≡ sets l at (u16_bytes n)
+u16-be : (n : ℕ) → n < 65536 → to_be_bytes w16 n ≡ u16_bytes n
 unfolding u16_bytes
-u16_stored l at n = ap (λ (k : ℕ). set (set l at (n / 256)) k (n % 256)) (add-one at)
+u16-be n h = be_bytes_2 (n / 256 ∷ n % 256 ∷ []) n refl low (omega arith)
+  where
+    low : (i : ℕ) → get_or (n / 256 ∷ n % 256 ∷ []) i 0 < 256
+    low zero = omega arith
+    low (suc zero) = omega arith
+    low (suc (suc i)) = omega arith
+
+drop-drop : (k at : ℕ) (l : List ℕ) → drop k (drop at l) ≡ drop (at + k) l
+drop-drop k zero l = let e : k ≡ 0 + k = omega arith in ap (λ (j : ℕ). drop j l) e
+drop-drop k (suc at) [] = drop-nil k ∙ sym (drop-nil (suc at + k))
+drop-drop k (suc at) (x ∷ l) = let e : suc (at + k) ≡ suc at + k = omega arith in drop-drop k at l ∙ ap (λ (j : ℕ). drop j (x ∷ l)) e
+
+u16-two : (n : ℕ) → length (u16_bytes n) ≡ 2
+unfolding u16_bytes
+u16-two n = refl
+
+pub u16_stored : (l : List ℕ) (at n : ℕ) {mid : List ℕ} → at + 2 ≤ length l → n < 65536 → mid ≡ to_be_bytes w16 n → {k : ℕ} → k ≡ 2 → take at l ++ (mid ++ drop k (drop at l)) ≡ sets l at (u16_bytes n)
+u16_stored l at n {mid} h low e {k} ek =
+    ap₂ (λ (m : List ℕ) (j : ℕ). take at l ++ (m ++ drop j (drop at l))) (e ∙ u16-be n low) ek
+    ∙ ap (λ (b : List ℕ). take at l ++ (u16_bytes n ++ b)) (drop-drop 2 at l)
+    ∙ ap (λ (j : ℕ). take at l ++ (u16_bytes n ++ drop j l)) two
+    ∙ sym (append_assoc (take at l) (u16_bytes n) (drop (at + length (u16_bytes n)) l))
+    ∙ sym (sets-eq (u16_bytes n) l at (let w = two in omega arith))
+  where
+    two : at + 2 ≡ at + length (u16_bytes n)
+    two = ap (λ (k : ℕ). at + k) (sym (u16-two n))
 
 -- Two of them, one behind the other, and bytes behind these.
 two_stored : (l : List ℕ) (at n : ℕ) (b : List ℕ) (to : ℕ) → to ≡ at + 2 → sets (sets l at (u16_bytes n)) to b ≡ sets l at (u16_bytes n ++ b)
@@ -89,11 +115,11 @@ unfolding bytes_of_rule u16_bytes
 puts_rule l after at a b c e = record { stored = e; behind = refl }
 
 -- The header.
-pub header-stored : (l zero one two three four five : List ℕ) (long n t r : ℕ) → zero ≡ set l 0 1 → one ≡ sets zero 1 (u16_bytes (long / 65536)) → two ≡ sets one 3 (u16_bytes (long % 65536))
+pub header-stored : (l none one two three four five : List ℕ) (long n t r : ℕ) → none ≡ set l 0 1 → one ≡ sets none 1 (u16_bytes (long / 65536)) → two ≡ sets one 3 (u16_bytes (long % 65536))
     → three ≡ sets two 5 (u16_bytes n) → four ≡ sets three 7 (u16_bytes t) → five ≡ sets four 9 (u16_bytes r)
     → five ≡ sets l 0 (1 ∷ (u32_bytes long ++ (u16_bytes n ++ (u16_bytes t ++ u16_bytes r))))
 unfolding u32_bytes
-header-stored l zero one two three four five long n t r o p q s u v =
+header-stored l none one two three four five long n t r o p q s u v =
     v
     ∙ ap (λ (x : List ℕ). sets x 9 (u16_bytes r)) u
     ∙ two_stored three 7 t (u16_bytes r) 9 refl

@@ -3,18 +3,16 @@ use mathlib.Core.Path.{◌≡◌, refl, sym, ap, subst, ◌∙◌}
 use mathlib.Core.Bool.{Bool, true, false}
 use mathlib.Core.List.{List, [], ◌∷◌}
 use mathlib.Core.Logic.{⊎_elim}
-use Prim.Native.Nat.{ℕ, ◌+◌, ◌-◌, ◌*◌, ◌≤◌, ◌<◌}
+use Prim.Native.Nat.{ℕ, ◌≤◌, ◌<◌}
 use native.Mathlib.Omega.{arith}
 use lib.ListN.{length, set, replicate, length-set, length-replicate}
 use Rattle.laws.proofs.Tests.{either_way}
 use Rattle.laws.proofs.Decides.{false_true, true_false}
-use Rattle.grammar.specs.File.{u16_at}
 use Rattle.grammar.proofs.Marks.{mark_kept, mark_new, mark_old}
 use Rattle.grammar.proofs.Rounds.{unmarked, unmarked_less}
 use Rattle.written.specs.Lists.{In, Each}
 use Rattle.written.specs.Lists.Each.{end, and}
 use Rattle.written.specs.Written.{WrittenRule, Written, no_written}
-use Rattle.written.specs.Form.{symbols_at, rule_head, left_at, length_at, rule_at}
 use Rattle.written.specs.Refusals.{Reachable}
 use Rattle.written.proofs.Lists.{each_in, each_at, in_each}
 use Rattle.written.proofs.Knowing.{in_writes}

@@ -4,14 +4,13 @@ use mathlib.Core.Bool.{Bool}
 use mathlib.Core.List.{List, [], ◌∷◌}
 use Prim.Native.Nat.{ℕ, zero, suc, ◌+◌, ◌-◌, ◌*◌, ◌≤◌, ◌<◌}
 use native.Mathlib.Omega.{arith}
-use lib.ListN.{length, get_or}
+use lib.ListN.{length}
 use Rattle.laws.specs.Decides.{Decides}
 use Rattle.laws.proofs.Decides.{says-eqb, decides_map}
 use lib.Dec.{eqb}
 use Rattle.grammar.specs.File.{u16_at}
 use Rattle.written.specs.Lists.{Each}
 use Rattle.written.specs.Lists.Each.{end, and}
-use Rattle.written.specs.Written.{WrittenRule}
 use Rattle.written.specs.Form.{rule_at, rules_at, symbols_at, rule_head, tokens_in, end_in, left_at, length_at, behind, longest, written_header, version_in, start_in, count_in, RuleStands, RulesStand, Formed}
 use Rattle.written.specs.Form.RulesStand.{no_more, one_more}
 use Rattle.translation.specs.inner.Symbols.{AllBelow, Narrow, LowRule}

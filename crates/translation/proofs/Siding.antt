@@ -2,7 +2,6 @@
 use mathlib.Core.Path.{◌≡◌, refl, sym, ap, ap₂, subst, ◌∙◌}
 use mathlib.Core.Bool.{Bool, true, false, ◌&&◌, ◌||◌, not}
 use mathlib.Core.List.{List, [], ◌∷◌, ◌++◌, append_assoc}
-use mathlib.Core.Logic.{⊎_elim}
 use Prim.Native.Nat.{ℕ, suc, ◌+◌, ◌-◌, ◌≤◌, ◌<◌}
 use native.Mathlib.Decide.{dec_lt, ℕ_discrete}
 use native.Mathlib.Numerals.{add-one}
@@ -14,12 +13,11 @@ use borrow.Author.Tests.{eq-eqb, ne_eqb}
 use Rattle.laws.specs.Records.{flat}
 use Rattle.laws.proofs.Tests.{either_way}
 use Rattle.laws.proofs.Records.{flat_append}
-use Rattle.laws.proofs.Decides.{true_false, false_true}
+use Rattle.laws.proofs.Decides.{true_false}
 use Rattle.grammar.specs.Rules.{Rule, none}
 use Rattle.grammar.specs.Accepted.{max_symbols}
 use Rattle.grammar.specs.File.{rule_bytes}
 use Rattle.grammar.specs.inner.Decoded.{rules_behind, rules_in}
-use Rattle.grammar.proofs.Marks.{mark_kept, mark_new, mark_old}
 use Rattle.written.specs.Lists.{In}
 use Rattle.written.specs.Split.{rule, given}
 use Rattle.written.specs.Order.{has, named, passing, ordered}
@@ -29,9 +27,9 @@ use Rattle.written.proofs.Filing.{rule-long}
 use Rattle.written.proofs.Listing.{or_first, or_second, rules_parts}
 use Rattle.written.proofs.Ordering.{in_passing, passing_in}
 use Rattle.written.proofs.Leading.{has_there, there_has, up_in, in_up}
-use Rattle.translation.specs.inner.Marks.{marked}
+use Rattle.translation.specs.inner.Marks.{marked, OnlyWithin}
 use Rattle.translation.specs.inner.Lists.{rule_in}
-use Rattle.translation.specs.inner.Sides.{OnlyWithin, NamedBy, KeptNamed, left_within, level_of}
+use Rattle.translation.specs.inner.Sides.{NamedBy, KeptNamed, left_within, level_of}
 use Rattle.translation.specs.inner.Puts.{Puts}
 use Rattle.translation.proofs.Marked.{none_marked}
 use Rattle.translation.proofs.Words.{behind-next}
@@ -41,46 +39,11 @@ use Rattle.translation.proofs.Putting.{Putting, putting_begins, putting_same, pu
 past_marks : (marks : List Bool) (a : ℕ) → length marks ≡ max_symbols → max_symbols ≤ a → marked marks a ≡ false
 past_marks marks a l h = let past : length marks ≤ a = omega arith in get_or-eq_default marks false past
 
-pub not_marked : (marks : List Bool) (a : ℕ) → length marks ≡ max_symbols → max_symbols ≤ a → false ≡ marked marks a
-not_marked marks a l h = sym (past_marks marks a l h)
+pub not_marked : (marks : List Bool) (a : ℕ) → length marks ≡ max_symbols → (a < max_symbols → ⊥) → false ≡ marked marks a
+not_marked marks a l h = sym (past_marks marks a l (omega arith))
 
 pub mark_past : (marks : List Bool) (a : ℕ) → length marks ≡ max_symbols → max_symbols ≤ a → marks ≡ set marks a true
 mark_past marks a l h = let past : length marks ≤ a = omega arith in sym (set_out marks a true past)
-
--- The symbols from `from` up to `a` are marked.
-pub record Siding (from to : ℕ) (marks : List Bool) (a : ℕ) : Type 0 where
-  pub begun : from ≤ a
-  pub long : length marks ≡ max_symbols
-  pub all : (b : ℕ) → from ≤ b → b < a → marked marks b ≡ true
-  pub only : (b : ℕ) → marked marks b ≡ true → (from ≤ b) × (b < to)
-
-pub siding_begins : (from to : ℕ) → Siding from to (replicate max_symbols false) from
-siding_begins from to = record {
-  begun = omega arith;
-  long = length-replicate {A = Bool} max_symbols false;
-  all = λ b l h. absurd (omega arith);
-  only = λ b e. absurd (false_true (sym (none_marked max_symbols b) ∙ e));
-}
-
-pub siding_on : (from to : ℕ) (marks : List Bool) (a : ℕ) → Siding from to marks a → a < to → to ≤ max_symbols → Siding from to (set marks a true) (a + 1)
-siding_on from to marks a s h few = record {
-  begun = let b = s.begun in omega arith;
-  long = length-set marks a true ∙ s.long;
-  all = λ b l k. elim (ℕ_discrete b a) [
-    | yes e ↦ subst (λ (x : ℕ). marked (set marks a true) x ≡ true) (sym e) (mark_new marks a inside)
-    | no n ↦ mark_kept marks a b (s.all b l (lower b k n)) inside
-  ];
-  only = λ b m. ⊎_elim (λ (e : b ≡ a). (let g = s.begun in omega arith, omega arith)) (λ k. s.only b k) (mark_old marks a b m);
-}
-  where
-    inside : a < length marks
-    inside = omega (arith, s.long)
-
-    lower : (b : ℕ) → b < a + 1 → (b ≡ a → ⊥) → b < a
-    lower b l n = omega arith
-
-pub siding_ends : (from to : ℕ) (marks : List Bool) (a : ℕ) → Siding from to marks a → to ≤ a → OnlyWithin from to marks
-siding_ends from to marks a s h = record { long = s.long; all = λ b l k. s.all b l (omega arith); only = s.only }
 
 -- Of what is left the named are kept, up to `a`.
 pub record Keeping (before named left : List Bool) (a : ℕ) : Type 0 where
@@ -221,7 +184,7 @@ module _ (words : List ℕ) (count : ℕ) (left marks : List Bool) (r : ℕ) (n 
             ∙ here-named l h b k
       ]
 
-pub naming_ends : (words : List ℕ) (count : ℕ) (left marks : List Bool) (r : ℕ) → Naming words count left marks r → count ≤ r → NamedBy words count left marks
+pub naming_ends : (words : List ℕ) (count : ℕ) (left marks : List Bool) (r : ℕ) → Naming words count left marks r → count ≤ r → NamedBy (rules_in words count) left marks
 unfolding named rules_behind
 naming_ends words count left marks r n h = record {
   long = n.long;
@@ -398,7 +361,7 @@ module _ (words : List ℕ) (count from to : ℕ) (before : List ℕ) (at : ℕ)
     pub only : (b : ℕ) → marked left b ≡ true → (from ≤ b) × (b < to)
     pub putting : Putting before at total now here (flat bytes_of_rule (blocks list (ordered rounds list (left_within left from to))))
 
-  module _ (now : List ℕ) (left : List Bool) (here rounds : ℕ) (s : Levels now left here rounds) (more : 0 < rounds) (low : to ≤ max_symbols) (marks : List Bool) (n : NamedBy words count left marks) where
+  module _ (now : List ℕ) (left : List Bool) (here rounds : ℕ) (s : Levels now left here rounds) (more : 0 < rounds) (low : to ≤ max_symbols) (marks : List Bool) (n : NamedBy (rules_in words count) left marks) where
     -- The left sides that are left are those that the marks say.
     left_is : (x : ℕ) → has (left_within left from to) x ≡ marked left x
     left_is x = either_way (marked left x)
@@ -439,14 +402,14 @@ module _ (words : List ℕ) (count from to : ℕ) (before : List ℕ) (at : ℕ)
     levels_room = putting_room _ (flat bytes_of_rule (blocks list (level_of left marks from to))) behind parts s.putting
 
     -- A level more.
-    pub levels_on : {after : List ℕ} {there : ℕ} {rest : List Bool} → Puts now here (flat bytes_of_rule (blocks list (level_of left marks from to))) after there
-        → KeptNamed left marks rest → Levels after rest there (rounds - 1)
-    levels_on {rest = rest} p k = record {
+    pub levels_on : {after : List ℕ} {there next : ℕ} {rest : List Bool} → rounds - 1 ≡ next → Puts now here (flat bytes_of_rule (blocks list (level_of left marks from to))) after there
+        → KeptNamed left marks rest → Levels after rest there next
+    levels_on {after} {there} {next} {rest} en p k = subst (Levels after rest there) en (record {
       long = k.long;
       only = λ b e. s.only b (first_true (marked left b) (marked marks b) (sym (k.right b) ∙ e));
       putting = putting_same _ _ (ap (λ (l : List ℕ). flat bytes_of_rule (blocks list (ordered (rounds - 1) list l))) same)
           (putting_on _ (flat bytes_of_rule (blocks list (level_of left marks from to))) behind parts s.putting p);
-    }
+    })
       where
         first_true : (a b : Bool) → (a && b) ≡ true → a ≡ true
         first_true true b e = refl
@@ -457,10 +420,10 @@ module _ (words : List ℕ) (count from to : ℕ) (before : List ℕ) (at : ℕ)
             sym (passing-both (marked left) (marked marks) (up_from from (to - from)))
             ∙ sym (passing_alike (marked rest) (λ (x : ℕ). marked left x && marked marks x) (up_from from (to - from)) (λ x i. k.right x))
 
-  pub levels_begin : (left : List Bool) (rounds : ℕ) → from ≤ to → OnlyWithin from to left → total ≡ flat bytes_of_rule (blocks list (ordered rounds list (up_from from (to - from))))
+  pub levels_begin : (left : List Bool) (rounds : ℕ) → from ≤ to → length left ≡ max_symbols → OnlyWithin from to left → total ≡ flat bytes_of_rule (blocks list (ordered rounds list (up_from from (to - from))))
       → at + length total ≤ length before → Levels before left at rounds
-  levels_begin left rounds h o e r = record {
-    long = o.long;
+  levels_begin left rounds h long o e r = record {
+    long = long;
     only = o.only;
     putting = putting_begins before at total _ (e ∙ ap (λ (l : List ℕ). flat bytes_of_rule (blocks list (ordered rounds list l)))
         (sym (passing-all (marked left) (up_from from (to - from)) (λ x i. let w = in_up from (to - from) i in o.all x w.0 (below x w.1))))) r;

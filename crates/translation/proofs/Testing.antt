@@ -1,5 +1,5 @@
 -- Tests of right sides: what they tell.
-use Rattle.std.proofs.Common.{◌≡◌, refl, sym, ap₂, ◌∙◌, Bool, true, false, ◌&&◌, List, [], ◌∷◌, ℕ, ◌<◌, ltb}
+use Rattle.std.proofs.Common.{◌≡◌, refl, sym, ap₂, ◌∙◌, Bool, true, ◌&&◌, List, [], ◌∷◌, ℕ, ◌<◌, ltb}
 use Rattle.std.specs.List.{list_all, list_any}
 use mathlib.Core.Logic.{⊎_elim}
 use Rattle.laws.proofs.Tests.{both_true}
@@ -43,6 +43,6 @@ module _ (test : ℕ → Bool) where
 -- Whether all symbols are below a limit.
 pub below-decided : {answer : Bool} (limit : ℕ) (bytes : List ℕ) (at n : ℕ) → answer ≡ list_all (λ (x : ℕ). ltb x limit) (symbols_at bytes at n) → Decides answer (AllBelow limit bytes at n)
 below-decided limit bytes at n e = record {
-  if_yes = λ y. record { below = each_map (λ {x} (t : ltb x limit ≡ true). ltb-true x limit t) (each_true _ _ (sym e ∙ y)) };
-  if_no = λ n a. false_true (sym n ∙ e ∙ true_each _ (each_map (λ {x} (h : x < limit). lt-ltb x limit h) a.below));
+  if_yes = λ y. record { below = each_map (λ x (t : ltb x limit ≡ true). ltb-true x limit t) (each_true _ _ (sym e ∙ y)) };
+  if_no = λ n a. false_true (sym n ∙ e ∙ true_each _ (each_map (λ x (h : x < limit). lt-ltb x limit h) a.below));
 }

@@ -7,7 +7,7 @@ ghost use Rattle.written.specs.Refusals.{Nonterminal, Fruitful, Stays};
 ghost use Rattle.translation.specs.inner.Symbols.{LowRule};
 ghost use Rattle.translation.specs.inner.Marks.{most_symbols, marked, asked, MarksAre, Grown, turn, growing, firing, walk};
 
-use crate::marks::{MOST, Marks, below};
+use crate::marks::{MOST, Marks, mark_within};
 use crate::rules::{Symbols, Written, WrittenRule};
 
 // What is asked of a right side before its left side is marked: that all its symbols are, or some.
@@ -79,7 +79,7 @@ pub fn empties(written: &Written<'_>, marks: &mut Marks)
 pub fn fruitful(written: &Written<'_>, marks: &mut Marks)
     ensures { MarksAre (Fruitful (written_of written.now)) marks.new }
 {
-    below(marks, written.tokens());
+    mark_within(marks, 0, written.tokens());
     grow::<EveryOne>(written, marks);
 }
 
@@ -88,6 +88,6 @@ pub fn staying(written: &Written<'_>, marks: &mut Marks)
     requires { (a : ℕ) → Nonterminal (written_of written.now) a → Fruitful (written_of written.now) a }
     ensures { MarksAre (Stays (written_of written.now)) marks.new }
 {
-    below(marks, written.tokens());
+    mark_within(marks, 0, written.tokens());
     grow::<AnyOne>(written, marks);
 }

@@ -25,13 +25,14 @@ mod write;
 use crate::circular::circular;
 use crate::conditions::{all_fruitful, all_reachable};
 use crate::grow::{empties, staying};
-use crate::marks::{MOST, Marks};
+use crate::list::Full;
+use crate::marks::MOST;
 use crate::places::{count_new, number};
 use crate::rules::Written;
-use crate::split::list;
+use crate::split::{Tests, list};
 use crate::write::write;
 use grammar::file::{HEADER, RULE};
-use grammar::limits::{RULES, SYMBOLS, WORDS};
+use grammar::limits::SYMBOLS;
 
 // What was translated: how long the file is, and whether the empty sentence was there.
 #[derive(Clone, Copy, PartialEq, Eq, Debug)]
@@ -69,44 +70,48 @@ impl Refusal {
     }
 }
 
+impl From<Full> for Refusal {
+    ghost use Rattle.translation.specs.declared.Refusal.TheVariants.{NoRoom};
+
+    ghost from_gives = { λ full refusal. refusal ≡ NoRoom };
+
+    fn from(_: Full) -> Refusal {
+        Refusal::NoRoom
+    }
+}
+
 // Translates what none of 16 to 20 refuses. Nothing is written before there is room for all.
 fn translate_sound(
     written: &Written<'_>,
-    keep: &Marks,
-    empty: &Marks,
+    tests: &Tests<'_>,
     file: &mut [u8],
 ) -> Result<Translated, Refusal>
     requires { (end_in written.now ≤ most_symbols) × Sound (written_of written.now)
-        × MarksAre (Stays (written_of written.now)) keep.now × MarksAre (MayBeEmpty (written_of written.now)) empty.now }
+        × MarksAre (Stays (written_of written.now)) tests.now.keep.now × MarksAre (MayBeEmpty (written_of written.now)) tests.now.empty.now }
     ensures answers { Translates written.now file.old (answer_of result) file.new }
     ensures promised { Keeps (written_of written.now) (answer_of result) file.new }
 {
-    let first = number(keep, written.end());
-    let wrapper = first + count_new(written, keep);
+    let first = number(tests.keep, written.end());
+    let wrapper = first + count_new(written, tests.keep);
     if SYMBOLS < wrapper + 2 {
         return Err(Refusal::NoRoom);
     }
-    let mut rules = [0; WORDS];
-    let count = list(written, keep, empty, &mut rules, first);
-    if RULES <= count {
-        return Err(Refusal::NoRoom);
-    }
-    let length = HEADER + RULE * (count + 1);
+    let list = list(written, tests, first)?;
+    let length = HEADER + RULE * (list.rules.count + 1);
     if file.len() < length {
         return Err(Refusal::NoRoom);
     }
     let s = written.start();
     write(
         file,
-        &rules,
-        count,
+        &list.rules,
         written.tokens(),
-        number(keep, s),
+        number(tests.keep, s),
         wrapper,
     );
     Ok(Translated {
         length,
-        empty: empty[s],
+        empty: tests.empty[s],
     })
 }
 
@@ -135,5 +140,9 @@ pub fn translate(written: &[u8], file: &mut [u8]) -> Result<Translated, Refusal>
     if !keep[written.start()] {
         return Err(Refusal::NoSentence);
     }
-    translate_sound(&written, &keep, &empty, file)
+    let tests = Tests {
+        keep: &keep,
+        empty: &empty,
+    };
+    translate_sound(&written, &tests, file)
 }

@@ -1,7 +1,7 @@
 // Marks, one for each symbol that two bytes can name.
-ghost use Rattle.std.specs.Prelude.{◌≡◌, ◌≤◌, ◌<◌, length as length_of};
+ghost use Rattle.std.specs.Prelude.{◌≤◌, length as length_of};
 ghost use Rattle.laws.specs.Decides.{Decides};
-ghost use Rattle.translation.specs.inner.Marks.{most_symbols, OnlyBelow, AllWithin};
+ghost use Rattle.translation.specs.inner.Marks.{most_symbols, OnlyWithin, AllWithin};
 
 // As many symbols as two bytes can name.
 pub const MOST: usize = 65536;
@@ -9,13 +9,13 @@ pub const MOST: usize = 65536;
 // A mark for each.
 pub type Marks = [bool; MOST];
 
-// Marks all symbols below `end`, and no others.
-pub fn below(marks: &mut Marks, end: usize)
-    requires { end ≤ most_symbols }
-    ensures { OnlyBelow end marks.new }
+// Marks the symbols from `from` up to `to`, and no others.
+pub fn mark_within(marks: &mut [bool], from: usize, to: usize)
+    requires { (from ≤ to) × (to ≤ length_of marks.old) }
+    ensures { OnlyWithin from to marks.new }
 {
-    *marks = [false; MOST];
-    marks[..end].fill(true);
+    marks.fill(false);
+    marks[from..to].fill(true);
 }
 
 // Whether all symbols from `from` up to `to` are marked.

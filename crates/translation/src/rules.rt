@@ -83,11 +83,7 @@ impl<'a> WrittenRule<'a> {
     pub fn right(&self) -> Symbols<'a>
         ensures { (result ≡ self.now.right) × (length_of self.now.right ≤ longest) }
     {
-        Symbols::new(
-            self.bytes,
-            self.at + HEAD,
-            u16_at(self.bytes, self.at + 2),
-        )
+        Symbols::new(self.bytes, self.at + HEAD, u16_at(self.bytes, self.at + 2))
     }
 }
 

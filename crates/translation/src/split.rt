@@ -1,109 +1,96 @@
 // The rules that the written rules are split into, listed.
-ghost use Rattle.std.specs.Prelude.{◌≡◌, ◌&&◌, [], ◌+◌, ◌≤◌, ◌<◌, length as length_of, take};
+ghost use Rattle.std.specs.Prelude.{◌≡◌, [], ◌+◌, ◌≤◌, ◌<◌, IfOk, IfErr, length as length_of};
 ghost use Rattle.grammar.specs.Accepted.{max_rules};
-ghost use Rattle.grammar.specs.inner.Decoded.{all_words};
+ghost use Rattle.grammar.specs.inner.Decoded.{rules_of as listed};
 ghost use Rattle.written.specs.Form as form;
 ghost use Rattle.written.specs.Split as spec;
 ghost use Rattle.written.specs.Translation as translation;
 ghost use Rattle.translation.specs.inner.Marks.{marked};
-ghost use Rattle.translation.specs.inner.Lists.{Listed, Lists};
+ghost use Rattle.translation.specs.inner.Lists.{Lists};
 
 use crate::form::LONGEST;
-use crate::list::{add, pair};
+use crate::list::{Full, RuleList};
 use crate::marks::Marks;
-use crate::places::{Places, number, places};
+use crate::places::{number, places};
 use crate::rules::Written;
-use grammar::rules::{NONE, Rules, wide};
+use grammar::rules::NONE;
 
-// Lists the rules of a ::= the first `k` places, two or more: each place but the first and the last gives a new symbol, from `from` on.
+// Which symbols stay, and which may be empty.
+#[derive(Clone, Copy)]
+pub struct Tests<'a> {
+    pub keep: &'a Marks,
+    pub empty: &'a Marks,
+}
+
+// Lists the rules of a ::= two places or more: each place but the first and the last gives a new symbol, from `from` on.
 fn join(
-    rules: &mut Rules,
-    count: usize,
-    keep: &Marks,
-    empty: &Marks,
+    list: &mut RuleList,
+    tests: &Tests<'_>,
     a: usize,
-    held: &Places,
-    k: usize,
+    held: &[u16],
     from: usize,
-) -> usize
-    requires { (length_of rules.old ≡ all_words) × (count ≤ max_rules) × (a < 65536) × (2 ≤ k) × (k ≤ form.longest) × (from + k < 65536) × (length_of held.now ≡ form.longest) }
-    ensures listed { Lists rules.old count rules.new result
-        (spec.split (translation.number (marked keep.now)) (marked empty.now) a (take k held.now) from) }
-    ensures long { (length_of rules.new ≡ all_words) × (result ≤ max_rules) }
+) -> Result<(), Full>
+    requires { (a < 65536) × (2 ≤ length_of held.now) × (from + length_of held.now < 65536) }
+    ensures { Lists (listed list.old.rules) result (listed list.new.rules)
+        (spec.split (translation.number (marked tests.now.keep.now)) (marked tests.now.empty.now) a held.now from) }
 {
-    let first = wide(held[0]);
-    let mut head = number(keep, first);
-    let mut head_empty = empty[first];
+    let first = held[0] as usize;
+    let mut head = number(tests.keep, first);
+    let mut head_empty = tests.empty[first];
     let mut fresh = from;
-    let mut n = count;
-    let mut i = 1;
-    while i + 1 < k {
-        let x = wide(held[i]);
-        let x_empty = empty[x];
-        n = pair(rules, n, fresh, head, number(keep, x), head_empty, x_empty);
+    for i in 1..held.len() - 1 {
+        let x = held[i] as usize;
+        let x_empty = tests.empty[x];
+        list.pair(fresh, head, number(tests.keep, x), head_empty, x_empty)?;
         head = fresh;
         head_empty = head_empty && x_empty;
         fresh += 1;
-        i += 1;
     }
-    let last = wide(held[i]);
-    pair(
-        rules,
-        n,
+    let last = held[held.len() - 1] as usize;
+    list.pair(
         a,
         head,
-        number(keep, last),
+        number(tests.keep, last),
         head_empty,
-        empty[last],
+        tests.empty[last],
     )
 }
 
-// Lists the rules of a ::= the first `k` places.
+// Lists the rules of a ::= its places.
 fn split(
-    rules: &mut Rules,
-    count: usize,
-    keep: &Marks,
-    empty: &Marks,
+    list: &mut RuleList,
+    tests: &Tests<'_>,
     a: usize,
-    held: &Places,
-    k: usize,
+    held: &[u16],
     from: usize,
-) -> usize
-    requires { (length_of rules.old ≡ all_words) × (count ≤ max_rules) × (a < 65536) × (k ≤ form.longest) × (from + k < 65536) × (length_of held.now ≡ form.longest) }
-    ensures listed { Lists rules.old count rules.new result
-        (spec.split (translation.number (marked keep.now)) (marked empty.now) a (take k held.now) from) }
-    ensures long { (length_of rules.new ≡ all_words) × (result ≤ max_rules) }
+) -> Result<(), Full>
+    requires { (a < 65536) × (from + length_of held.now < 65536) }
+    ensures { Lists (listed list.old.rules) result (listed list.new.rules)
+        (spec.split (translation.number (marked tests.now.keep.now)) (marked tests.now.empty.now) a held.now from) }
 {
-    if k == 0 {
-        return count;
+    match held.len() {
+        0 => Ok(()),
+        1 => list.add(a, number(tests.keep, held[0] as usize), NONE),
+        _ => join(list, tests, a, held, from),
     }
-    if k == 1 {
-        return add(rules, count, a, number(keep, wide(held[0])), NONE);
-    }
-    join(rules, count, keep, empty, a, held, k, from)
 }
 
-// The list of rules, where new symbols are numbered from `from` on. How many there are; 2,048 where there are too many.
-pub fn list(
-    written: &Written<'_>,
-    keep: &Marks,
-    empty: &Marks,
-    rules: &mut Rules,
-    from: usize,
-) -> usize
-    requires { (length_of rules.old ≡ all_words)
-        × (from + translation.all_new (marked keep.now) (form.written_of written.now).rules ≤ 512) }
-    ensures { Listed rules.new result (translation.listing [] (translation.splits (marked keep.now) (marked empty.now)
-        (form.written_of written.now).rules from)) × (length_of rules.new ≡ all_words) × (result ≤ max_rules) }
+// The list of rules, where new symbols are numbered from `from` on.
+pub fn list(written: &Written<'_>, tests: &Tests<'_>, from: usize) -> Result<RuleList, Full>
+    requires { from + translation.all_new (marked tests.now.keep.now) (form.written_of written.now).rules ≤ 512 }
+    ensures listed { IfOk result (λ list. listed list.rules ≡ translation.listing [] (translation.splits (marked tests.now.keep.now) (marked tests.now.empty.now)
+        (form.written_of written.now).rules from)) }
+    ensures full { IfErr result (λ _. max_rules ≤ length_of (translation.listing [] (translation.splits (marked tests.now.keep.now) (marked tests.now.empty.now)
+        (form.written_of written.now).rules from))) }
 {
+    let mut list = RuleList::new();
     let mut room = [0; LONGEST];
     let mut fresh = from;
-    let mut n = 0;
     for rule in written.rules() {
-        let k = places(&rule, keep, &mut room);
-        let a = number(keep, rule.left() as usize);
-        n = split(rules, n, keep, empty, a, &room, k, fresh);
+        let k = places(&rule, tests.keep, &mut room);
+        let a = number(tests.keep, rule.left() as usize);
+        split(&mut list, tests, a, &room[..k], fresh)?;
         fresh += k.saturating_sub(2);
     }
-    n
+    Ok(list)
 }

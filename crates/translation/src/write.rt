@@ -4,7 +4,7 @@ ghost use Rattle.std.proofs.lemmas.List.Edits.{sets};
 ghost use Rattle.laws.specs.Records.{flat};
 ghost use Rattle.grammar.specs.Accepted.{max_symbols, max_rules};
 ghost use Rattle.grammar.specs.File.{header_bytes, rule_bytes};
-ghost use Rattle.grammar.specs.inner.Decoded.{rules_in};
+ghost use Rattle.grammar.specs.inner.Decoded.{rules_of as listed};
 ghost use Rattle.written.specs.Split as spec;
 ghost use Rattle.written.specs.Order.{ordered};
 ghost use Rattle.written.specs.Translation.{rules_of, blocks, up_from};
@@ -12,17 +12,18 @@ ghost use Rattle.written.specs.Bytes.{u16_bytes, u32_bytes, bytes_of_rule, bytes
 ghost use Rattle.translation.specs.inner.Sides.{level_of};
 ghost use Rattle.translation.specs.inner.Puts.{Puts};
 
-use crate::sides::{Sides, is_marked, keep_named, named_by, within};
+use crate::marks::mark_within;
+use crate::sides::{Sides, is_marked, keep_named, named_by};
 use grammar::file::{HEADER, RULE, VERSION};
-use grammar::rules::{Rules, first, left as left_side, second};
+use grammar::limits::SYMBOLS;
+use grammar::rules::Rules;
 
 // A number in two bytes, the high one first.
 fn put_u16(file: &mut [u8], at: usize, n: usize)
     requires { (at + 2 ≤ length_of file.old) × (n < 65536) }
     ensures { file.new ≡ sets file.old at (u16_bytes n) }
 {
-    file[at] = (n / 256) as u8;
-    file[at + 1] = (n % 256) as u8;
+    file[at..at + 2].copy_from_slice(&(n as u16).to_be_bytes());
 }
 
 // A rule in six.
@@ -36,17 +37,16 @@ fn put_rule(file: &mut [u8], at: usize, a: usize, b: usize, c: usize)
 }
 
 // The rules of one left side, in the order of the list. The place behind them.
-fn put_rules_of(file: &mut [u8], at: usize, rules: &Rules, count: usize, a: usize) -> usize
-    requires { (count ≤ max_rules) × (at + length_of (flat bytes_of_rule (rules_of (rules_in rules.now count) a)) ≤ length_of file.old) }
-    ensures { Puts file.old at (flat bytes_of_rule (rules_of (rules_in rules.now count) a)) file.new result }
+fn put_rules_of(file: &mut [u8], at: usize, rules: &Rules, a: usize) -> usize
+    requires { (rules.now.count ≤ max_rules) × (at + length_of (flat bytes_of_rule (rules_of (listed rules.now) a)) ≤ length_of file.old) }
+    ensures { Puts file.old at (flat bytes_of_rule (rules_of (listed rules.now) a)) file.new result }
 {
     let mut here = at;
-    for r in 0..count {
-        if left_side(rules, r) != a {
-            continue;
+    for r in 0..rules.count {
+        if rules.left(r) == a {
+            put_rule(file, here, a, rules.first(r), rules.second(r));
+            here += RULE;
         }
-        put_rule(file, here, a, first(rules, r), second(rules, r));
-        here += RULE;
     }
     here
 }
@@ -56,45 +56,39 @@ fn put_level(
     file: &mut [u8],
     at: usize,
     rules: &Rules,
-    count: usize,
     left: &Sides,
     named: &Sides,
     from: usize,
     to: usize,
 ) -> usize
-    requires { (count ≤ max_rules) × (length_of left.now ≡ max_symbols) × (length_of named.now ≡ max_symbols)
-        × (at + length_of (flat bytes_of_rule (blocks (rules_in rules.now count) (level_of left.now named.now from to))) ≤ length_of file.old) }
+    requires { (rules.now.count ≤ max_rules)
+        × (at + length_of (flat bytes_of_rule (blocks (listed rules.now) (level_of left.now named.now from to))) ≤ length_of file.old) }
     ensures { Puts file.old at
-        (flat bytes_of_rule (blocks (rules_in rules.now count) (level_of left.now named.now from to))) file.new result }
+        (flat bytes_of_rule (blocks (listed rules.now) (level_of left.now named.now from to))) file.new result }
 {
     let mut here = at;
     for a in from..to {
-        if !is_marked(left, a) {
-            continue;
+        if is_marked(left, a) && !is_marked(named, a) {
+            here = put_rules_of(file, here, rules, a);
         }
-        if is_marked(named, a) {
-            continue;
-        }
-        here = put_rules_of(file, here, rules, count, a);
     }
     here
 }
 
 // The rules of the left sides from `from` up to `to`, level after level.
-fn put_levels(file: &mut [u8], at: usize, rules: &Rules, count: usize, from: usize, to: usize)
-    requires { (count ≤ max_rules) × (from ≤ to) × (to ≤ max_symbols)
-        × (at + length_of (flat bytes_of_rule (blocks (rules_in rules.now count) (ordered (to - from) (rules_in rules.now count) (up_from from (to - from))))) ≤ length_of file.old) }
+fn put_levels(file: &mut [u8], at: usize, rules: &Rules, from: usize, to: usize)
+    requires { (rules.now.count ≤ max_rules) × (from ≤ to) × (to ≤ max_symbols)
+        × (at + length_of (flat bytes_of_rule (blocks (listed rules.now) (ordered (to - from) (listed rules.now) (up_from from (to - from))))) ≤ length_of file.old) }
     ensures { file.new ≡ sets file.old at
-        (flat bytes_of_rule (blocks (rules_in rules.now count) (ordered (to - from) (rules_in rules.now count) (up_from from (to - from))))) }
+        (flat bytes_of_rule (blocks (listed rules.now) (ordered (to - from) (listed rules.now) (up_from from (to - from))))) }
 {
-    let mut left = within(from, to);
+    let mut left = [false; SYMBOLS];
+    mark_within(&mut left, from, to);
     let mut here = at;
-    let mut rounds = to - from;
-    while 0 < rounds {
-        let named = named_by(rules, count, &left);
-        here = put_level(file, here, rules, count, &left, &named, from, to);
+    for round in from..to {
+        let named = named_by(rules, &left);
+        here = put_level(file, here, rules, &left, &named, from, to);
         keep_named(&mut left, &named);
-        rounds -= 1;
     }
 }
 
@@ -122,25 +116,18 @@ fn put_header(file: &mut [u8], symbols: usize, tokens: usize, count: usize)
 }
 
 // The whole file: rule 0 is W ::= S end, and behind it stand the `count` rules of the list.
-pub fn write(
-    file: &mut [u8],
-    rules: &Rules,
-    count: usize,
-    tokens: usize,
-    start: usize,
-    wrapper: usize,
-)
-    requires { (count < max_rules) × (tokens ≤ wrapper) × (wrapper + 2 ≤ max_symbols) × (start < 65536)
-        × (header_bytes + rule_bytes * (count + 1) ≤ length_of file.old)
-        × (length_of (blocks (rules_in rules.now count) (ordered (wrapper - tokens) (rules_in rules.now count) (up_from tokens (wrapper - tokens)))) ≡ count) }
+pub fn write(file: &mut [u8], rules: &Rules, tokens: usize, start: usize, wrapper: usize)
+    requires { (rules.now.count < max_rules) × (tokens ≤ wrapper) × (wrapper + 2 ≤ max_symbols) × (start < 65536)
+        × (header_bytes + rule_bytes * (rules.now.count + 1) ≤ length_of file.old)
+        × (length_of (blocks (listed rules.now) (ordered (wrapper - tokens) (listed rules.now) (up_from tokens (wrapper - tokens)))) ≡ rules.now.count) }
     ensures { file.new ≡ sets file.old 0 (bytes_of (record {
       symbols = wrapper + 2;
       tokens = tokens;
       rules = spec.rule wrapper start (wrapper + 1)
-          ∷ blocks (rules_in rules.now count) (ordered (wrapper - tokens) (rules_in rules.now count) (up_from tokens (wrapper - tokens)));
+          ∷ blocks (listed rules.now) (ordered (wrapper - tokens) (listed rules.now) (up_from tokens (wrapper - tokens)));
     })) }
 {
-    put_header(file, wrapper + 2, tokens, count + 1);
+    put_header(file, wrapper + 2, tokens, rules.count + 1);
     put_rule(file, HEADER, wrapper, start, wrapper + 1);
-    put_levels(file, HEADER + RULE, rules, count, tokens, wrapper);
+    put_levels(file, HEADER + RULE, rules, tokens, wrapper);
 }

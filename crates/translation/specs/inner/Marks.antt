@@ -1,5 +1,5 @@
 -- Marks, one for each symbol that two bytes can name; tests of right sides; and walks over the rules.
-use Rattle.std.specs.Prelude.{◌≡◌, Bool, true, false, ◌&&◌, ◌||◌, not, List, [], ◌∷◌, ℕ, ◌≤◌, ◌<◌, length, get_or, set}
+use Rattle.std.specs.Prelude.{◌≡◌, Bool, true, false, ◌&&◌, not, List, [], ◌∷◌, ℕ, ◌≤◌, ◌<◌, length, get_or, set}
 use Rattle.std.specs.List.{list_all, list_any}
 use Rattle.laws.specs.Decides.{Decides}
 use Rattle.written.specs.Lists.{In}
@@ -67,11 +67,10 @@ pub record Grown (all : Bool) (w : Written) (before marks : List Bool) : Type 0 
   pub sound : (a : ℕ) → marked marks a ≡ true → From all w (λ (x : ℕ). marked before x ≡ true) a
   pub rest : (r : WrittenRule) → In r w.rules → firing all marks r ≡ false
 
--- The symbols below `end` are marked, and no others.
-pub record OnlyBelow (end : ℕ) (marks : List Bool) : Type 0 where
-  pub long : length marks ≡ most_symbols
-  pub below : (a : ℕ) → a < end → marked marks a ≡ true
-  pub only : (a : ℕ) → marked marks a ≡ true → a < end
+-- The symbols from `from` up to `to` are marked, and no others.
+pub record OnlyWithin (from to : ℕ) (marks : List Bool) : Type 0 where
+  pub all : (a : ℕ) → from ≤ a → a < to → marked marks a ≡ true
+  pub only : (a : ℕ) → marked marks a ≡ true → (from ≤ a) × (a < to)
 
 -- All from `from` up to `to` are marked.
 pub record AllWithin (marks : List Bool) (from to : ℕ) : Type 0 where

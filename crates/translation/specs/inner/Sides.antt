@@ -1,21 +1,15 @@
 -- Left sides of the file, a mark for each symbol: which are left to be written, and which of them a rule names.
-use Rattle.std.specs.Prelude.{◌≡◌, Bool, true, ◌&&◌, not, List, ℕ, ◌-◌, ◌≤◌, ◌<◌, length}
+use Rattle.std.specs.Prelude.{◌≡◌, Bool, ◌&&◌, not, List, ℕ, ◌-◌, ◌<◌, length}
 use Rattle.grammar.specs.Accepted.{max_symbols}
-use Rattle.grammar.specs.inner.Decoded.{rules_in}
+use Rattle.grammar.specs.Rules.{Rule}
 use Rattle.written.specs.Order as order
 use Rattle.written.specs.Translation.{up_from}
 use Rattle.translation.specs.inner.Marks.{marked}
 
--- The symbols from `from` up to `to` are marked, and no others.
-pub record OnlyWithin (from to : ℕ) (marks : List Bool) : Type 0 where
-  pub long : length marks ≡ max_symbols
-  pub all : (a : ℕ) → from ≤ a → a < to → marked marks a ≡ true
-  pub only : (a : ℕ) → marked marks a ≡ true → (from ≤ a) × (a < to)
-
 -- Whatever list of left sides the marks `left` say, `named` says which symbols a rule of one of them names.
-pub record NamedBy (words : List ℕ) (count : ℕ) (left named : List Bool) : Type 0 where
+pub record NamedBy (rules : List Rule) (left named : List Bool) : Type 0 where
   pub long : length named ≡ max_symbols
-  pub right : (l : List ℕ) → ((x : ℕ) → order.has l x ≡ marked left x) → (b : ℕ) → b < max_symbols → marked named b ≡ order.named (rules_in words count) l b
+  pub right : (l : List ℕ) → ((x : ℕ) → order.has l x ≡ marked left x) → (b : ℕ) → b < max_symbols → marked named b ≡ order.named rules l b
 
 -- Of the marked symbols those are kept that are named.
 pub record KeptNamed (before named after : List Bool) : Type 0 where

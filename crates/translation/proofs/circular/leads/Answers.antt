@@ -1,5 +1,4 @@
 -- `translation::circular::leads` meets its contract.
-use Rattle.std.proofs.Common.{refl}
 use Rattle.translation.proofs.Circling.{leading-none, leading-one, leading-more}
 use Rattle.translation.proofs.circular.leads.Goals as goal
 

@@ -1,4 +1,3 @@
-use Rattle.std.proofs.Common.{◌∙◌, ap}
 use Rattle.translation.proofs.Growing.{step_rests, step_fires}
 use Rattle.translation.proofs.Walking.{come_on, come_ends}
 use Rattle.translation.proofs.grow.grow_once.Goals as goal

@@ -1,4 +1,7 @@
+-- `translation::marks::all_within` meets its contract.
+use Rattle.std.proofs.Common.{arith}
+use Rattle.translation.proofs.Marked.{all-decided}
 use Rattle.translation.proofs.marks.all_within.Goals as goal
 
 pub returns : goal.returns
-returns c = ?
+returns c = all-decided c.args.marks.now c.args.from c.args.to (omega arith) c.contains.result c.contains.ensures.cases

@@ -1,10 +1,6 @@
 -- `translation::sides::named_by` meets its contract. The invariant: the rules so far have marked what they name, and the others name the rest.
-use Prim.Native.Nat.{◌-◌}
 use Rattle.translation.proofs.Siding.{Naming}
 use Rattle.translation.proofs.sides.named_by.Given as goal
 
 abbrev pub invariant-loop-r : goal.invariant-loop-r
-invariant-loop-r l = Naming l.rules l.count l.left l.named l.r
-
-abbrev pub decreases-loop-r : goal.decreases-loop-r
-decreases-loop-r l = l.count - l.r
+invariant-loop-r l = Naming l.rules.words l.rules.count l.left l.named l.r

@@ -1,54 +1,44 @@
-use native.Mathlib.Omega.{arith}
-use mathlib.Core.Path.{refl}
-use Rattle.translation.proofs.Joining.{joining_begins, joining_on, joining_ends}
+use Rattle.std.proofs.Common.{◌≡◌, Bool, ℕ, ◌-◌, ◌&&◌, length, get_or, arith, refl, sym, ap, ◌∙◌}
+use Rattle.std.proofs.lemmas.Result.{err_from_is_err_and}
+use Rattle.translation.proofs.Joining.{joining_begins, joining_on, joining_stops, joining_ends}
+use Rattle.written.specs.Translation.{number}
+use Rattle.translation.specs.inner.Marks.{marked}
 use Rattle.translation.proofs.split.join.Goals as goal
+use Rattle.translation.proofs.split.join.Goals.{then-head_empty, else-head_empty}
 
 pub loop-i-init : goal.loop-i-init
-loop-i-init c =
-    joining_begins _ _ _ _ _ _ _ _ c.wide-first.result _ _ (omega (arith, c.requires.4, c.requires.6)) (omega (arith, c.requires.3)) c.wide-first.ensures.0 c.number-head.ensures.0
-    (omega (arith, c.number-head.ensures.1, c.wide-first.ensures.1)) refl c.requires.0 c.requires.1
-
-pub overflow_add-i : goal.overflow_add-i
-overflow_add-i c = omega (arith, c.loop-i.invariant.inside, c.requires.4)
-
-pub offset_bounds-held-i : goal.offset_bounds-held-i
-offset_bounds-held-i c = omega (arith, c.loop-i.invariant.inside, c.requires.4)
-
-pub bounds-held-i : goal.bounds-held-i
-bounds-held-i c = omega (arith, c.loop-i.invariant.inside, c.requires.4)
-
-pub pair-n-requires : goal.pair-n-requires
-pair-n-requires c =
-    let joined = c.loop-i.invariant in
-    (joined.rest.long, joined.rest.few, omega (arith, joined.next, joined.inside, c.requires.5), joined.low, omega (arith, c.number.ensures.1, c.wide-x.ensures.1))
-
-pub overflow_add-fresh : goal.overflow_add-fresh
-overflow_add-fresh c = omega (arith, c.loop-i.invariant.next, c.loop-i.invariant.inside, c.requires.5)
-
-pub overflow_add-i-in-loop-i : goal.overflow_add-i-in-loop-i
-overflow_add-i-in-loop-i c = omega (arith, c.loop-i.invariant.inside, c.requires.4)
-
-pub loop-i-preserved : goal.loop-i-preserved
-loop-i-preserved c =
-    let looped = c.loop-i in
-    joining_on _ _ _ _ _ _ _ _ _ looped.head looped.head_empty looped.fresh looped.n looped.i c.wide-x.result c.wide-x.ensures.0 looped.invariant _ _ c.number.ensures.0 refl
-    c.loop-i-test.true (omega (arith, looped.invariant.next, looped.invariant.inside, c.requires.5)) c.both-head_empty.ensures c.pair-n.ensures.listed c.pair-n.ensures.long
-
-pub offset_bounds-held-i-2 : goal.offset_bounds-held-i-2
-offset_bounds-held-i-2 c = omega (arith, c.loop-i.invariant.inside, c.requires.4)
-
-pub bounds-held-i-2 : goal.bounds-held-i-2
-bounds-held-i-2 c = omega (arith, c.loop-i.invariant.inside, c.requires.4)
+loop-i-init c = joining_begins _ _ _ _ _ _ (omega arith) c.number-head.ensures.0 (omega (arith, c.number-head.ensures.1, c.type_inv.held 0)) refl
 
 pub pair-requires : goal.pair-requires
 pair-requires c =
-    let joined = c.loop-i.invariant in
-    (joined.rest.long, joined.rest.few, c.requires.2, joined.low, omega (arith, c.number-2.ensures.1, c.wide-last.ensures.1))
+    let j = c.loop-i.invariant in
+    (omega (arith, j.next, j.inside), j.low, omega (arith, c.number.ensures.1, c.type_inv.held c.loop-i.i))
+
+pub returns-in_err-pair : goal.returns-in_err-pair
+returns-in_err-pair c =
+    let p = err_from_is_err_and c.from_residual.result c.from_residual.ensures.1 in
+    rw (p.1) (joining_stops _ _ _ _ _ _ c.loop-i.invariant c.number.ensures.0 refl (omega arith) c.in_err-pair.ensures)
+
+pub overflow_add-fresh : goal.overflow_add-fresh
+overflow_add-fresh c = omega (arith, c.loop-i.invariant.next, c.loop-i.invariant.inside)
+
+pub loop-i-preserved : goal.loop-i-preserved
+loop-i-preserved c =
+    let j = c.loop-i.invariant in
+    joining_on _ _ _ _ _ _ j c.number.ensures.0 refl (omega arith) (omega (arith, j.next, j.inside))
+    (elim c.if-head_empty.branch [
+      | then-head_empty w ↦ w.head_empty-is ∙ sym (ap (λ (b : Bool). b && marked c.args.tests.now.empty.now (get_or c.args.held.now c.loop-i.i 0)) w.if-head_empty.true)
+      | else-head_empty w ↦ w.head_empty-is ∙ w.if-head_empty.false ∙ sym (ap (λ (b : Bool). b && marked c.args.tests.now.empty.now (get_or c.args.held.now c.loop-i.i 0)) w.if-head_empty.false)
+    ])
+    c.in_ok-pair.ensures
+
+pub pair-requires-2 : goal.pair-requires-2
+pair-requires-2 c = (c.requires.0, c.loop-i.invariant.low, omega (arith, c.number-2.ensures.1, c.type_inv.held (length c.args.held.now - 1)))
 
 pub returns : goal.returns
 returns c =
-    let looped = c.loop-i in record {
-      listed = joining_ends _ _ _ _ _ _ _ _ _ looped.head looped.head_empty looped.fresh looped.n looped.i c.wide-last.result c.wide-last.ensures.0 looped.invariant _ _ c.number-2.ensures.0 refl
-          c.loop-i-test.false c.pair.ensures.listed;
-      long = c.pair.ensures.long;
-    }
+    let tests = c.args.tests.now in
+    let last : length c.args.held.now - 1 ≡ c.loop-i.i = omega (arith, c.loop-i.invariant.inside) in
+    joining_ends _ _ _ _ _ _ c.loop-i.invariant
+    (c.number-2.ensures.0 ∙ ap (λ (k : ℕ). number (marked tests.keep.now) (get_or c.args.held.now k 0)) last)
+    (ap (λ (k : ℕ). marked tests.empty.now (get_or c.args.held.now k 0)) last) (omega (arith, c.loop-i.invariant.inside)) c.pair-2.ensures

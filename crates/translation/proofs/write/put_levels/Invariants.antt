@@ -8,9 +8,6 @@ use Rattle.written.specs.Bytes.{bytes_of_rule}
 use Rattle.translation.proofs.Siding.{Levels}
 use Rattle.translation.proofs.write.put_levels.Given as goal
 
-abbrev pub invariant-loop-rounds : goal.invariant-loop-rounds
-invariant-loop-rounds l =
-    Levels l.rules l.count l.from l.to l.initial.file l.at (flat bytes_of_rule (blocks (rules_in l.rules l.count) (ordered (l.to - l.from) (rules_in l.rules l.count) (up_from l.from (l.to - l.from))))) l.file l.left l.here l.rounds
-
-abbrev pub decreases-loop-rounds : goal.decreases-loop-rounds
-decreases-loop-rounds l = l.rounds
+abbrev pub invariant-loop-round : goal.invariant-loop-round
+invariant-loop-round l =
+    Levels l.rules.words l.rules.count l.from l.to l.initial.file l.at (flat bytes_of_rule (blocks (rules_in l.rules.words l.rules.count) (ordered (l.to - l.from) (rules_in l.rules.words l.rules.count) (up_from l.from (l.to - l.from))))) l.file l.left l.here (l.to - l.round)

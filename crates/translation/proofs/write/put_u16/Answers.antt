@@ -1,11 +1,7 @@
 -- `translation::write::put_u16` meets its contract.
-use native.Mathlib.Omega.{arith}
-use lib.ListN.{length-set}
+use Rattle.std.proofs.Common.{arith, ◌∙◌}
 use Rattle.translation.proofs.Putting.{u16_stored}
 use Rattle.translation.proofs.write.put_u16.Goals as goal
 
-pub bounds-file-at-2 : goal.bounds-file-at-2
-bounds-file-at-2 c = simp length-set (omega (arith, c.requires.0))
-
 pub returns : goal.returns
-returns c = u16_stored _ _ _
+returns c = u16_stored _ _ _ c.requires.0 c.requires.1 (c.copy_from_slice.ensures.after ∙ c.to_be_bytes.ensures) (omega arith)

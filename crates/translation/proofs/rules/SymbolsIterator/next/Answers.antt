@@ -1,5 +1,5 @@
 -- `translation::rules::SymbolsIterator::next` meets its contract.
-use Rattle.std.proofs.Common.{◌≡◌, ◌∷◌, ℕ, ◌+◌, ◌-◌, length, sym, ap, ◌∙◌, arith, rules}
+use Rattle.std.proofs.Common.{◌∷◌, ℕ, ◌+◌, ◌-◌, length, sym, ap, ◌∙◌, arith, rules}
 use Rattle.written.specs.Form.{symbols_at}
 use Rattle.translation.proofs.Reading.{symbols-next, symbols_none}
 use Rattle.translation.proofs.rules.SymbolsIterator.next.Goals as goal

@@ -1,5 +1,5 @@
 -- `translation::rules::WrittenRule::right` meets its contract.
-use Rattle.std.proofs.Common.{◌≡◌, ℕ, ◌+◌, ◌≤◌, length, sym, ap, ◌∙◌, subst, arith}
+use Rattle.std.proofs.Common.{◌+◌, ◌≤◌, length, ap, ◌∙◌, subst, arith}
 use Rattle.written.specs.Form.{symbols_at, rule_head, length_at, longest}
 use Rattle.written.specs.Written.{WrittenRule}
 use Rattle.translation.proofs.Reading.{length-symbols}

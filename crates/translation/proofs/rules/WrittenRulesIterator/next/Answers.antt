@@ -1,5 +1,5 @@
 -- `translation::rules::WrittenRulesIterator::next` meets its contract.
-use Rattle.std.proofs.Common.{◌≡◌, ◌∷◌, ℕ, ◌+◌, ◌-◌, length, sym, ap, ◌∙◌, arith, rules}
+use Rattle.std.proofs.Common.{◌∷◌, ℕ, ◌-◌, length, sym, ap, ◌∙◌, arith, rules}
 use Rattle.written.specs.Form.{rule_at, rules_at}
 use Rattle.translation.proofs.Reading.{rules-next, rules_none}
 use Rattle.translation.proofs.rules.WrittenRulesIterator.next.Goals as goal

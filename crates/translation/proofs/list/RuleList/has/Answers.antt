@@ -1,8 +1,5 @@
-use Rattle.translation.proofs.Words.{seek_begins, seek_on, seek_found, seek_ends}
-use Rattle.translation.proofs.list.has_rule.Goals as goal
-
-pub loop-r-init : goal.loop-r-init
-loop-r-init c = seek_begins _ _ _
+use Rattle.translation.proofs.Words.{seek_on, seek_found, seek_ends}
+use Rattle.translation.proofs.list.RuleList.has.Goals as goal
 
 pub returns-then-is_rule : goal.returns-then-is_rule
 returns-then-is_rule c = seek_found _ _ _ c.loop-r.r c.loop-r.invariant c.loop-r-test.true c.is_rule.ensures c.if-is_rule.true
