@@ -1,30 +1,9 @@
--- The cases of count and tree in the host's words.
+-- Two answers of count and of tree agree in the host's words.
 use mathlib.Core.Path.{◌≡◌, sym, ap, ◌∙◌}
 use mathlib.Core.List.{List}
 use Prim.Native.Nat.{ℕ}
-use Rattle.trees.specs.declared.Counted.{Counted}
-use Rattle.trees.specs.declared.Told.{Told}
-use Rattle.trees.specs.Answers.{counted, told}
 use Rattle.trees.proofs.Agree.{counts_agree, tells_agree}
 use Rattle.host.specs.Trees.{number_in, values_in, trees_or, place_or, count_in, CountsIn, TellsIn}
-
--- What is told of count's answer is told of its case.
-pub case_counted : {r c : Counted} → r ≡ c → (trees place : ℕ)
-    → (number_in (counted c) ≡ number_in (counted r))
-    × ((trees_or trees (values_in (counted c)) ≡ trees_or trees (values_in (counted r))) × (place_or place (values_in (counted c)) ≡ place_or place (values_in (counted r))))
-case_counted is trees place = (
-  sym (ap (λ x. number_in (counted x)) is),
-  (sym (ap (λ x. trees_or trees (values_in (counted x))) is), sym (ap (λ x. place_or place (values_in (counted x))) is)),
-)
-
--- The same of tree's.
-pub case_told : {r c : Told} → r ≡ c → (place : ℕ)
-    → (number_in (told c) ≡ number_in (told r))
-    × ((count_in (values_in (told c)) ≡ count_in (values_in (told r))) × (place_or place (values_in (told c)) ≡ place_or place (values_in (told r))))
-case_told is place = (
-  sym (ap (λ x. number_in (told x)) is),
-  (sym (ap (λ x. count_in (values_in (told x))) is), sym (ap (λ x. place_or place (values_in (told x))) is)),
-)
 
 -- Two results that meet a statement agree, in the host's words too.
 pub counts_in_agree : {store : List ℕ} {h t p n x y m u v : ℕ} → CountsIn store h t p n x y → CountsIn store h t p m u v → (n ≡ m) × (x ≡ u) × (y ≡ v)

@@ -2,7 +2,6 @@
 pub mod Telling
 pub mod Wide
 pub mod Placed
-pub mod Numbers
 pub mod PlainEngine
 pub mod Settled
 pub mod FromWords

@@ -1,14 +1,10 @@
 -- A node as five numbers: its kind, and its values.
-use Rattle.std.specs.Prelude.{List, [], ◌∷◌, ℕ, get_or, eqb}
+use Rattle.std.specs.Prelude.{Option, Some, None, List, [], ◌∷◌, ℕ, get_or, eqb}
 use Rattle.node.specs.Choice.{pick}
-use Rattle.node.specs.declared.Right.{Right}
-use Rattle.node.specs.declared.Right.TheVariants.{At, Nothing}
 use Rattle.node.specs.declared.Node.{Node}
 use Rattle.node.specs.declared.Node.TheVariants.{Sum, Product, NullingLeaf, Evaluated}
 use Rattle.node.specs.Answers.{Answer, Values, answer, refused, value_unfit, nothing, position, node, end, nodes}
 use Rattle.node.specs.Writing.{StoreOutcome, write_at}
-use Rattle.host.specs.declared.nodes.Told.{Told}
-use Rattle.host.specs.declared.nodes.Told.TheVariants as told
 
 -- The kinds, and the kind that stands for the end.
 abbrev pub sum : ℕ
@@ -29,28 +25,28 @@ the_end = 4
 -- A Sum's count and nonterminal; a Product's action, left factor, whether there is a right factor, and that; a leaf's symbol.
 unfoldable pub numbers_of : Node → List ℕ
 numbers_of (Sum count nonterminal) = sum ∷ count ∷ nonterminal ∷ 0 ∷ 0 ∷ []
-numbers_of (Product action left (At right)) = product ∷ action ∷ left ∷ 1 ∷ right ∷ []
-numbers_of (Product action left Nothing) = product ∷ action ∷ left ∷ 0 ∷ 0 ∷ []
+numbers_of (Product action left (Some right)) = product ∷ action ∷ left ∷ 1 ∷ right ∷ []
+numbers_of (Product action left None) = product ∷ action ∷ left ∷ 0 ∷ 0 ∷ []
 numbers_of (NullingLeaf symbol) = nulling_leaf ∷ symbol ∷ 0 ∷ 0 ∷ 0 ∷ []
 numbers_of (Evaluated symbol) = evaluated ∷ symbol ∷ 0 ∷ 0 ∷ 0 ∷ []
 
 -- A right factor is there where the fourth number is not 0.
-unfoldable pub factor_by : ℕ → ℕ → Right
-factor_by present right = pick (eqb present 0) Nothing (At right)
+unfoldable pub factor_by : ℕ → ℕ → Option ℕ
+factor_by present right = pick (eqb present 0) None (Some right)
 
 -- The node that five numbers tell; numbers that its kind has no use for say nothing.
-unfoldable pub told_by : List ℕ → Told
+unfoldable pub told_by : List ℕ → Option Node
 told_by numbers =
-    pick (eqb (get_or numbers 0 0) sum) (told.Node (Sum (get_or numbers 1 0) (get_or numbers 2 0)))
+    pick (eqb (get_or numbers 0 0) sum) (Some (Sum (get_or numbers 1 0) (get_or numbers 2 0)))
     (pick (eqb (get_or numbers 0 0) product)
-    (told.Node (Product (get_or numbers 1 0) (get_or numbers 2 0) (factor_by (get_or numbers 3 0) (get_or numbers 4 0))))
-    (pick (eqb (get_or numbers 0 0) nulling_leaf) (told.Node (NullingLeaf (get_or numbers 1 0)))
-    (pick (eqb (get_or numbers 0 0) evaluated) (told.Node (Evaluated (get_or numbers 1 0))) told.Nothing)))
+    (Some (Product (get_or numbers 1 0) (get_or numbers 2 0) (factor_by (get_or numbers 3 0) (get_or numbers 4 0))))
+    (pick (eqb (get_or numbers 0 0) nulling_leaf) (Some (NullingLeaf (get_or numbers 1 0)))
+    (pick (eqb (get_or numbers 0 0) evaluated) (Some (Evaluated (get_or numbers 1 0))) None)))
 
 -- Writing what five numbers tell. What is no node is unfit: 10, with the position asked for.
-unfoldable pub write_told : List ℕ → ℕ → Told → StoreOutcome
-write_told store p (told.Node n) = write_at store p n
-write_told store p told.Nothing = record { answer = refused value_unfit p nothing; store = store }
+unfoldable pub write_told : List ℕ → ℕ → Option Node → StoreOutcome
+write_told store p (Some n) = write_at store p n
+write_told store p None = record { answer = refused value_unfit p nothing; store = store }
 
 abbrev pub write_in : List ℕ → ℕ → List ℕ → StoreOutcome
 write_in store p numbers = write_told store p (told_by numbers)

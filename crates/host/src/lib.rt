@@ -27,12 +27,12 @@ pub mod plain_engine;
 mod records;
 mod translating;
 
-use crate::nodes::{Told, node_of, numbers_of};
+use crate::nodes::{node_of, numbers_of};
 use crate::parse_words::{first_word, narrow, tell, tell_count, tell_whether};
 use crate::records::{SET_WORDS, fill, prepare};
 use crate::translating::tell_translated;
 use grammar::Checked;
-use node::{Found, Walked, Written};
+use node::{NoNode, Unwritten};
 use parse::State;
 use reports::Record;
 
@@ -392,6 +392,7 @@ pub fn brinesaddle_latest_records(
 }
 
 // Writes a node at p. The node is five numbers: its kind, and its values.
+#[tactic(auto, unfolding(crate::specs::Nodes::write_told, crate::specs::Nodes::number_in, crate::specs::Nodes::place_or, crate::specs::Nodes::position_or))]
 pub fn brinesaddle_node_write(
     store: &mut [u16],
     p: usize,
@@ -406,20 +407,20 @@ pub fn brinesaddle_node_write(
         (write_in store.old p node.now).answer }
     ensures store { store.new ≡ (write_in store.old p node.now).store }
 {
-    let Told::Node(n) = node_of(node) else {
+    let Some(n) = node_of(node) else {
         *place = p;
         return 10;
     };
     match node::write(store, p, n) {
-        Written::Behind(q) => {
+        Ok(q) => {
             *behind = q;
             0
         }
-        Written::Unfit(asked) => {
+        Err(Unwritten::Unfit(asked)) => {
             *place = asked;
             10
         }
-        Written::NoRoom(asked) => {
+        Err(Unwritten::NoRoom(asked)) => {
             *place = asked;
             11
         }
@@ -427,6 +428,7 @@ pub fn brinesaddle_node_write(
 }
 
 // Reads the first node from p on, as five numbers. At the end the kind is END.
+#[tactic(auto, unfolding(crate::specs::Nodes::number_in, crate::specs::Nodes::place_or, crate::specs::Nodes::position_or, crate::specs::Nodes::numbers_or))]
 pub fn brinesaddle_node_read(
     store: &[u16],
     p: usize,
@@ -440,16 +442,16 @@ pub fn brinesaddle_node_read(
     ensures place { place.new ≡ place_or place.old (read_at store.now p) }
 {
     match node::read(store, p) {
-        Found::Whole(n, q) => {
+        Ok(Some((n, q))) => {
             *node = numbers_of(n);
             *behind = q;
             0
         }
-        Found::End => {
+        Ok(None) => {
             *node = [4, 0, 0, 0, 0];
             0
         }
-        Found::NoNode(unit) => {
+        Err(NoNode(unit)) => {
             *place = unit;
             12
         }
@@ -457,6 +459,7 @@ pub fn brinesaddle_node_read(
 }
 
 // Reads on from p to the end or the first 12: how many nodes there were, and the position behind the last.
+#[tactic(auto, unfolding(crate::specs::Nodes::number_in, crate::specs::Nodes::place_or, crate::specs::Nodes::position_or, crate::specs::Nodes::count_or))]
 pub fn brinesaddle_node_walk(
     store: &[u16],
     p: usize,
@@ -469,15 +472,12 @@ pub fn brinesaddle_node_walk(
     ensures behind { behind.new ≡ position_or behind.old (values_of (walk_at store.now p)) }
     ensures place { place.new ≡ place_or place.old (walk_at store.now p) }
 {
-    match node::walk(store, p) {
-        Walked::ToEnd(nodes, q) => {
-            *count = nodes;
-            *behind = q;
-            0
-        }
-        Walked::ToFault(nodes, q, unit) => {
-            *count = nodes;
-            *behind = q;
+    let walked = node::walk(store, p);
+    *count = walked.count;
+    *behind = walked.behind;
+    match walked.fault {
+        None => 0,
+        Some(unit) => {
             *place = unit;
             12
         }

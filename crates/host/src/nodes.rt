@@ -1,11 +1,10 @@
 // A node as five numbers.
 ghost use Rattle.std.specs.Prelude.{◌≡◌};
 ghost use Rattle.host.specs.Nodes.{told_by, factor_by, numbers_of};
-ghost use Rattle.node.specs.declared.Node.TheVariants.{Product};
 
-use node::{Node, Right};
+use node::Node;
 
-// The kinds of a node, and the kind that stands for the end.
+// The kinds of a node are numbers in the C interface. The end is 4.
 const SUM: u32 = 0;
 
 const PRODUCT: u32 = 1;
@@ -14,54 +13,39 @@ const NULLING_LEAF: u32 = 2;
 
 const EVALUATED: u32 = 3;
 
-// What five numbers tell: a node, or nothing where the first is no kind of a node.
-#[derive(Clone, Copy)]
-pub enum Told {
-    Node(Node),
-    Nothing,
-}
-
-// The node that five numbers tell.
-pub fn node_of(numbers: &[u32; 5]) -> Told
+// The node that five numbers tell; none where the first is no kind of a node.
+#[tactic(auto, unfolding(crate::specs::Nodes::told_by))]
+pub fn node_of(numbers: &[u32; 5]) -> Option<Node>
     ensures { result ≡ told_by numbers.now }
 {
-    let kind = numbers[0];
     let first = numbers[1];
     let second = numbers[2];
-    if kind == SUM {
-        return Told::Node(Node::Sum {
+    match numbers[0] {
+        SUM => Some(Node::Sum {
             count: first,
             nonterminal: second,
-        });
-    }
-    if kind == PRODUCT {
-        let right = factor(numbers[3], numbers[4]);
-        return Told::Node(Node::Product {
+        }),
+        PRODUCT => Some(Node::Product {
             action: first,
             left: second,
-            right,
-        });
+            right: factor(numbers[3], numbers[4]),
+        }),
+        NULLING_LEAF => Some(Node::NullingLeaf { symbol: first }),
+        EVALUATED => Some(Node::Evaluated { symbol: first }),
+        _ => None,
     }
-    if kind == NULLING_LEAF {
-        return Told::Node(Node::NullingLeaf { symbol: first });
-    }
-    if kind == EVALUATED {
-        return Told::Node(Node::Evaluated { symbol: first });
-    }
-    Told::Nothing
 }
 
 // A right factor, where it is present.
-fn factor(present: u32, right: u32) -> Right
+#[tactic(auto, unfolding(crate::specs::Nodes::factor_by))]
+fn factor(present: u32, right: u32) -> Option<u32>
     ensures { result ≡ factor_by present right }
 {
-    if present == 0 {
-        return Right::Nothing;
-    }
-    Right::At(right)
+    if present == 0 { None } else { Some(right) }
 }
 
 // The five numbers of a node.
+#[tactic(auto, unfolding(crate::specs::Nodes::numbers_of))]
 pub fn numbers_of(node: Node) -> [u32; 5]
     ensures { result ≡ numbers_of node }
 {
@@ -71,17 +55,11 @@ pub fn numbers_of(node: Node) -> [u32; 5]
             action,
             left,
             right,
-        } => product_numbers(action, left, right),
+        } => match right {
+            Some(factor) => [PRODUCT, action, left, 1, factor],
+            None => [PRODUCT, action, left, 0, 0],
+        },
         Node::NullingLeaf { symbol } => [NULLING_LEAF, symbol, 0, 0, 0],
         Node::Evaluated { symbol } => [EVALUATED, symbol, 0, 0, 0],
-    }
-}
-
-fn product_numbers(action: u32, left: u32, right: Right) -> [u32; 5]
-    ensures { result ≡ numbers_of (Product action left right) }
-{
-    match right {
-        Right::At(factor) => [PRODUCT, action, left, 1, factor],
-        Right::Nothing => [PRODUCT, action, left, 0, 0],
     }
 }
