@@ -8,8 +8,8 @@ use crate::limits::{HEADS, NEXTS};
 use crate::rules::Rules;
 
 impl Rules {
-    // Links the rules, from the last to the first. A word tells how many rules there are from the one on that it leads to, so that 0 leads behind the
-    // last.
+    // Links the rules, from the last to the first. A word tells how many rules there are from the one on that it leads to, so that 0 leads
+    // behind the last.
     pub fn link(&mut self)
         requires { (self.old.count ≤ max_rules) × LowSymbols self.old.words self.old.count × (length self.old.words ≡ all_words)
             × ((i : ℕ) → nexts_at ≤ i → get_or self.old.words i 0 ≡ 0) }

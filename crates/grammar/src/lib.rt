@@ -73,17 +73,10 @@ pub fn read(file: &[u8], grammar: &mut Grammar) -> Result<(), Fault>
     if malformed(file) {
         return Err(Fault::Malformed);
     }
-    let n = symbols(file);
-    let t = tokens(file);
-    let count = rule_count(file);
-    if !sized(n, t, count) {
+    if !sized(symbols(file), tokens(file), rule_count(file)) {
         return Err(Fault::Broken);
     }
-    let mut found = Grammar {
-        rules: decode(file),
-        symbols: n,
-        tokens: t,
-    };
+    let mut found = decode(file);
     if !accepted(&found) {
         return Err(Fault::Broken);
     }

@@ -19,6 +19,7 @@ fn spreads(rules: &Rules, marks: &Marks, r: usize) -> bool
 }
 
 // Whether every nonterminal is reachable from S: rounds over the rules, until a round marks nothing.
+// The rounds of `all_productive` over another step: one function for both would take the step and what it keeps, and be no plainer.
 pub fn all_reachable(grammar: &Grammar) -> bool
     requires { (grammar.now.tokens + 3 ≤ grammar.now.symbols) × (grammar.now.symbols ≤ max_symbols) × (0 < grammar.now.rules.count)
         × (grammar.now.rules.count ≤ max_rules) × LowSymbols grammar.now.rules.words grammar.now.rules.count }

@@ -1,14 +1,15 @@
 // Rules in words: left side, first and second of rule r at 3r, 3r + 1 and 3r + 2.
 ghost use Rattle.std.specs.Prelude.{◌≡◌, ◌+◌, ◌*◌, ◌≤◌, ◌<◌, length, replicate};
 ghost use Rattle.grammar.specs.Accepted.{max_rules};
-ghost use Rattle.grammar.specs.File.{header_bytes, rule_bytes, rule_count_of};
+ghost use Rattle.grammar.specs.File.{header_bytes, rule_bytes, symbols_of, tokens_of, rule_count_of};
 ghost use Rattle.grammar.specs.inner.Checking.{Last};
 ghost use Rattle.grammar.specs.inner.Decoded.{left_in, first_in, second_in, all_words, DecodedRules, Pushed};
 
-use crate::file::{HEADER, RULE, rule_count, u16_at};
+use crate::Grammar;
+use crate::file::{HEADER, RULE, rule_count, symbols, tokens, u16_at};
 use crate::limits::{EACH, WORDS};
 
-// What stands for the second symbol of a rule that has one symbol.
+// What stands for the second symbol of a rule that has one symbol. No Option: the file, the words and the laws (`none`) have this number.
 pub const NONE: usize = 65535;
 
 // The words of the rules, and behind them those of their chains. And how many rules there are.
@@ -67,7 +68,8 @@ impl Rules {
 
     // One rule more, behind the others.
     pub fn push(&mut self, left: usize, first: usize, second: usize)
-        requires { (self.old.count < max_rules) × (length self.old.words ≡ all_words) × (left < 65536) × (first < 65536) × (second < 65536) }
+        requires { (self.old.count < max_rules) × (length self.old.words ≡ all_words)
+            × (left < 65536) × (first < 65536) × (second < 65536) }
         ensures { Pushed self.old left first second self.new }
     {
         let at = EACH * self.count;
@@ -78,16 +80,19 @@ impl Rules {
     }
 }
 
-// The rules of a file that is whole and has few enough.
-pub fn decode(file: &[u8]) -> Rules
+// The grammar of a file that is whole and has few enough rules.
+pub fn decode(file: &[u8]) -> Grammar
     requires { (header_bytes + rule_bytes * rule_count_of file.now ≤ length file.now)
         × (rule_count_of file.now ≤ max_rules) }
-    ensures { DecodedRules file.now result.words × (result.count ≡ rule_count_of file.now) }
+    ensures rules { DecodedRules file.now result.rules.words × (result.rules.count ≡ rule_count_of file.now) }
+    ensures numbers { (result.symbols ≡ symbols_of file.now) × (result.tokens ≡ tokens_of file.now) }
 {
-    let mut rules = Rules::new();
+    let mut grammar = Grammar::new();
+    grammar.symbols = symbols(file);
+    grammar.tokens = tokens(file);
     for r in 0..rule_count(file) {
         let at = HEADER + RULE * r;
-        rules.push(u16_at(file, at), u16_at(file, at + 2), u16_at(file, at + 4));
+        grammar.rules.push(u16_at(file, at), u16_at(file, at + 2), u16_at(file, at + 4));
     }
-    rules
+    grammar
 }
