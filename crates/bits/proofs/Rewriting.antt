@@ -1,16 +1,14 @@
 -- Row `k` of words that hold rows one behind the other is written anew, one word a turn.
-use mathlib.Core.Path.{◌≡◌, refl, sym, ap, ◌∙◌}
+use mathlib.Core.Path.{◌≡◌, sym, ap, ◌∙◌}
 use mathlib.Core.Logic.{◌⊎◌, inl, inr, ⊎_elim}
 use mathlib.Core.List.{List}
 use Prim.Native.Nat.{ℕ, ◌+◌, ◌*◌, ◌≤◌, ◌<◌}
 use native.Mathlib.Omega.{arith}
-use lib.ListN.{length, get_or, set, length-set}
-use lib.Seq.{get_or-set_other}
+use lib.ListN.{length, get_or}
 use lib.Bits.{bit_or}
 use Rattle.laws.specs.Bits.{union, row_of, with_row}
 use Rattle.laws.proofs.Bits.{union_wide, union-word}
 use Rattle.laws.proofs.Rows.{row_wide, row_word, with_row_ext}
-use Rattle.laws.proofs.Filled.{filled_at}
 
 -- The first `i` words of row `k` are as `f` says, and every other word is as it was.
 pub record Rewritten (w : ℕ) (old : List ℕ) (k : ℕ) (f : ℕ → ℕ) (i : ℕ) (new : List ℕ) : Type 0 where
@@ -20,21 +18,6 @@ pub record Rewritten (w : ℕ) (old : List ℕ) (k : ℕ) (f : ℕ → ℕ) (i :
   pub outside : (j : ℕ) → (j < w * k) ⊎ (w * k + i ≤ j) → get_or new j 0 ≡ get_or old j 0
 
 module _ (w : ℕ) (old : List ℕ) (k : ℕ) (f : ℕ → ℕ) (fits : w * k + w ≤ length old) where
-  -- Before the first turn nothing has changed.
-  pub none_rewritten : Rewritten w old k f 0 old
-  none_rewritten = record { few = omega arith; long = refl; inside = λ j l. absurd (omega arith); outside = λ j h. refl }
-
-  -- A turn writes one word more.
-  pub more_rewritten : (i : ℕ) (new : List ℕ) (word : ℕ) → Rewritten w old k f i new → i < w → word ≡ f i → Rewritten w old k f (i + 1) (set new (w * k + i) word)
-  more_rewritten i new word h l e = record {
-    few = omega arith;
-    long = length-set new (w * k + i) word ∙ h.long;
-    inside = filled_at 0 f new (w * k) i word e (omega (arith, h.long)) h.inside;
-    outside = λ j o. get_or-set_other new (w * k + i) j word 0
-        (⊎_elim (λ (a : j < w * k) (x : j ≡ w * k + i). omega arith) (λ (b : w * k + (i + 1) ≤ j) (x : j ≡ w * k + i). omega arith) o)
-        ∙ h.outside j (⊎_elim inl (λ (b : w * k + (i + 1) ≤ j). inr (omega arith)) o);
-  }
-
   -- After the last turn row `k` is the row that `f` spells.
   pub all_rewritten : (i : ℕ) (new row : List ℕ) → Rewritten w old k f i new → w ≤ i → length row ≡ w → ((j : ℕ) → j < w → f j ≡ get_or row j 0) → new ≡ with_row w old k row
   all_rewritten i new row h last wide spells =
@@ -48,11 +31,6 @@ joined_word w old k row j = bit_or (get_or old (w * k + j) 0) (get_or row j 0)
 
 joined_word_lem : (w : ℕ) (old : List ℕ) (k : ℕ) (row : List ℕ) (j : ℕ) → j < w → joined_word w old k row j ≡ get_or (union (row_of w old k) row) j 0
 joined_word_lem w old k row j l = sym (union-word (row_of w old k) row j ∙ ap (λ (x : ℕ). bit_or x (get_or row j 0)) (row_word w old k j l))
-
--- The word read is still the old one.
-pub still_old : (w : ℕ) (old : List ℕ) (k : ℕ) (f : ℕ → ℕ) (i : ℕ) (new row : List ℕ) → Rewritten w old k f i new
-    → bit_or (get_or new (w * k + i) 0) (get_or row i 0) ≡ joined_word w old k row i
-still_old w old k f i new row h = ap (λ (x : ℕ). bit_or x (get_or row i 0)) (h.outside (w * k + i) (inr (omega arith)))
 
 -- So row `k` has become its union with the row.
 pub all-joined : (w : ℕ) (old : List ℕ) (k : ℕ) (row : List ℕ) (i : ℕ) (new : List ℕ) → w * k + w ≤ length old → length row ≡ w

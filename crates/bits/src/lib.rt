@@ -56,8 +56,8 @@ pub fn join_at(rows: &mut [u64], k: usize, row: &Row)
     ensures { rows.new ≡ with_row row_words rows.old k
         (union (row_of row_words rows.old k) row.now) }
 {
-    for i in 0..WIDTH {
-        rows[WIDTH * k + i] |= row[i];
+    for (i, word) in row.iter().enumerate() {
+        rows[WIDTH * k + i] |= word;
     }
 }
 
