@@ -76,12 +76,12 @@ pub fn read(file: &[u8], grammar: &mut Grammar) -> Result<(), Fault>
     if !sized(symbols(file), tokens(file), rule_count(file)) {
         return Err(Fault::Broken);
     }
-    let mut found = decode(file);
+    let found = decode(file);
     if !accepted(&found) {
         return Err(Fault::Broken);
     }
-    found.rules.link();
     *grammar = found;
+    grammar.rules.link();
     Ok(())
 }
 
