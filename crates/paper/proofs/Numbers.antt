@@ -14,7 +14,7 @@ use Rattle.binary_heap.specs.Queue.{push_queue, pop_queue}
 use Rattle.grammar.specs.Rules.{Grammar}
 use Rattle.grammar.specs.File.{rules_from, grammar_of}
 use Rattle.node.specs.Choice.{both_below}
-use Rattle.node.specs.Rows.{all_ones, units_of, row_of, sum_row, long_product, alone_row, pair_row, product_row, leaf_row, unfit, unfit_product, unfit_right}
+use Rattle.node.specs.Rows.{all_ones, units_at, row_of, sum_row, long_product, alone_row, pair_row, product_row, leaf_row, unfit, unfit_product, unfit_right}
 use Rattle.node.specs.Reading.{long_right}
 use Rattle.node.specs.Writing.{put, place, write_units}
 use Rattle.completion.specs.Pass.{and_then, store, enqueue, written, append}
@@ -147,7 +147,7 @@ parse_rows =
     ∷ []
 
 parse_numbers : All parse_rows
-unfolding entries_in parse_rows tried ended rules_from rows_of ran stepped is_position any_predicted advanced scan_all scan complete complete_medial complete_medial_items complete_unary complete_unary_predictions complete_binary complete_binary_predictions and_then store enqueue append written write_units place put units_of row_of sum_row long_product alone_row pair_row product_row leaf_row unfit unfit_product unfit_right both_below long_right complete_all_sums complete_sum pop_sum next_summand pop_greatest count over until push_queue pop_queue pushed popped move goes_up rise sift_up takes_right child goes_down sink sift_down items_from insert sort_into binary highest greatest_origin predictions union records.flat
+unfolding entries_in parse_rows tried ended rules_from rows_of ran stepped is_position any_predicted advanced scan_all scan complete complete_medial complete_medial_items complete_unary complete_unary_predictions complete_binary complete_binary_predictions and_then store enqueue append written write_units place put units_at row_of sum_row long_product alone_row pair_row product_row leaf_row unfit unfit_product unfit_right both_below long_right complete_all_sums complete_sum pop_sum next_summand pop_greatest count over until push_queue pop_queue pushed popped move goes_up rise sift_up takes_right child goes_down sink sift_down items_from insert sort_into binary highest greatest_origin predictions union records.flat
 parse_numbers = (refl, (refl, (refl, (refl, (refl, (refl, (refl, (refl, (refl, (refl, (refl, tt)))))))))))
 
 -- ALL OF THEM, in one table.
