@@ -24,11 +24,13 @@ stopped_by (Err full) = number full
 
 -- The pass behind a call that answers so.
 abbrev pub after : {A : Type 0} → Result A Full → Lent → Pass
-after r p = pass_over (record { stopped = stopped_by r; items = p.stored; queued = p.queued; used = p.used }) p.items.now p.queue.now p.store.now
+after r p =
+    pass_over (record { stopped = stopped_by r; items = p.stored; queued = p.queued; used = p.used }) p.items.now p.queue.now p.store.now
 
 -- A pass that nothing stopped.
 abbrev pub pass_in : Lent → Pass
-pass_in p = pass_over (record { stopped = 0; items = p.stored; queued = p.queued; used = p.used }) p.items.now p.queue.now p.store.now
+pass_in p =
+    pass_over (record { stopped = 0; items = p.stored; queued = p.queued; used = p.used }) p.items.now p.queue.now p.store.now
 
 -- What no call changes: the words that it reads, and which words it writes.
 abbrev pub Kept : Lent → Lent → Type 0

@@ -10,9 +10,8 @@ pub mod sums;
 ghost use Rattle.std.specs.Prelude.{◌≡◌, ◌*◌, ◌<◌};
 ghost use Rattle.laws.specs.Bits.{word_bits};
 ghost use Rattle.bits.specs.Width.{row_words};
-ghost use Rattle.grammar.specs.inner.Decoded.{Chained};
 ghost use Rattle.completion.specs.Lent.{its_rules, pass_in, after, Kept};
-ghost use Rattle.completion.specs.inner.Ready.{RulesFit, IsSet, Rowed, PassFits, Charted};
+ghost use Rattle.completion.specs.inner.Ready.{Reads, Sound, IsSet};
 ghost use Rattle.completion.specs.Complete.{complete};
 
 use crate::pass::{Full, Pass};
@@ -28,9 +27,9 @@ pub struct Pair {
 impl Pass<'_> {
     // Completes a pair: nothing if the symbol is not predicted at the set.
     pub fn complete(&mut self, pair: Pair) -> Result<(), Full>
-        requires rules_fit { RulesFit (its_rules self.old) × Rowed self.old.starts.now self.old.rows.now × Chained self.old.rules.now.words self.old.rules.now.count }
+        requires rules_fit { Reads self.old }
         requires set { IsSet self.old.starts.now pair.set × (pair.symbol < word_bits * row_words) }
-        requires pass_fits { PassFits (pass_in self.old) × Charted (its_rules self.old) self.old.starts.now (pass_in self.old) }
+        requires pass_fits { Sound self.old }
         ensures kept { Kept self.old self.new }
         ensures pass { after result self.new ≡ complete (its_rules self.old) self.old.starts.now self.old.rows.now
             pair.set pair.symbol pair.link (pass_in self.old) }

@@ -4,7 +4,7 @@ ghost use Rattle.item.specs.Item.{HasPlace, rule_at};
 ghost use Rattle.grammar.specs.Accepted.{max_rules};
 ghost use Rattle.completion.specs.Lent.{its_rules, pass_in, after, Kept};
 ghost use Rattle.completion.specs.inner.Search.{second_at, Searchable, FirstNotBelow, Found};
-ghost use Rattle.completion.specs.inner.Ready.{IsSet, PassFits, Charted};
+ghost use Rattle.completion.specs.inner.Ready.{Sound, IsSet};
 ghost use Rattle.completion.specs.Complete.{complete_medial_items};
 
 use crate::Pair;
@@ -14,13 +14,15 @@ use std::ops::Range;
 impl Pass<'_> {
     // The second of the item at place `p`.
     fn second_at(&self, p: usize) -> usize
-        requires { (self.now.rules.now.count ≤ max_rules) × HasPlace self.now.items.now p × (rule_at self.now.items.now p < length (its_rules self.now)) }
+        requires { (self.now.rules.now.count ≤ max_rules) × HasPlace self.now.items.now p
+            × (rule_at self.now.items.now p < length (its_rules self.now)) }
         ensures { result ≡ second_at (its_rules self.now) self.now.items.now p }
     {
         self.rules.second(item::rule(self.items, p) as usize)
     }
 
-    // The first place from `from` on whose item's second is not below `x`, or `to`, by halves: before `low` all are below, from `high` on none is.
+    // The first place from `from` on whose item's second is not below `x`, or `to`, by halves: before `low` all are below, from `high` on
+    // none is.
     fn by_halves(&self, from: usize, to: usize, x: usize) -> usize
         requires { (self.now.rules.now.count ≤ max_rules) × Searchable (its_rules self.now) self.now.items.now from to }
         ensures { FirstNotBelow (its_rules self.now) self.now.items.now from to x result }
@@ -69,7 +71,7 @@ impl Pass<'_> {
     // Queues each item of the set whose second is the symbol, with the link for its right factor.
     pub fn complete_medial_items(&mut self, pair: Pair) -> Result<(), Full>
         requires count_le_max_rules { (self.old.rules.now.count ≤ max_rules) × IsSet self.old.starts.now pair.set × (pair.symbol < 65536) }
-        requires pass_fits { PassFits (pass_in self.old) × Charted (its_rules self.old) self.old.starts.now (pass_in self.old) }
+        requires pass_fits { Sound self.old }
         ensures kept { Kept self.old self.new }
         ensures pass { after result self.new
             ≡ complete_medial_items (its_rules self.old) self.old.starts.now pair.set pair.symbol pair.link (pass_in self.old) }

@@ -17,8 +17,8 @@ pub enum Full {
     Store,
 }
 
-// The rules and sets that it reads, the words that it writes, and how far it has come: the items stored so far, those of the sets included; the
-// entries of the queue; the used units of the store. No invariant says what a pass rests on: `store` and `append` ask nothing of it.
+// The rules and sets that it reads, the words that it writes, and how far it has come: the items stored so far, those of the sets included;
+// the entries of the queue; the used units of the store. No invariant says what a pass rests on: `store` and `append` ask nothing of it.
 #[derive(Drop)]
 pub struct Pass<'a> {
     pub rules: &'a Rules,

@@ -4,7 +4,8 @@ ghost use Rattle.grammar.specs.Accepted.{max_symbols};
 ghost use Rattle.grammar.specs.inner.Decoded.{first_in, Chained};
 ghost use Rattle.completion.specs.Lent.{its_rules, pass_in, after, Kept};
 ghost use Rattle.completion.specs.inner.Ready.{RulesFit, HasRow, PassFits};
-ghost use Rattle.completion.specs.Complete.{waits, complete_unary, complete_unary_predictions, complete_binary, complete_binary_predictions};
+ghost use Rattle.completion.specs.Complete.{waits, complete_unary, complete_unary_predictions};
+ghost use Rattle.completion.specs.Complete.{complete_binary, complete_binary_predictions};
 
 use crate::Pair;
 use crate::pass::{Full, Pass};

@@ -2,10 +2,9 @@
 ghost use Rattle.std.specs.Prelude.{◌≡◌, ◌*◌, ◌<◌};
 ghost use Rattle.laws.specs.Bits.{word_bits};
 ghost use Rattle.bits.specs.Width.{row_words};
-ghost use Rattle.grammar.specs.inner.Decoded.{Chained};
 ghost use Rattle.completion.specs.Lent.{its_rules, pass_in, after, Kept};
 ghost use Rattle.completion.specs.Scan.{scan, scan_all};
-ghost use Rattle.completion.specs.inner.Ready.{RulesFit, IsSet, Rowed, PassFits, UnitsFit, Charted, KindsFit};
+ghost use Rattle.completion.specs.inner.Ready.{Reads, IsSet, PassFits, UnitsFit, Charted, KindsFit};
 
 use crate::Pair;
 use crate::pass::{Full, Pass};
@@ -14,7 +13,7 @@ use node::Node;
 impl Pass<'_> {
     // Writes the node of a kind and completes set `e` and it: nothing if it is not predicted there.
     fn scan(&mut self, kind: usize, e: usize) -> Result<(), Full>
-        requires rules_fit { RulesFit (its_rules self.old) × Rowed self.old.starts.now self.old.rows.now × Chained self.old.rules.now.words self.old.rules.now.count }
+        requires rules_fit { Reads self.old }
         requires set { IsSet self.old.starts.now e × (kind < word_bits * row_words) }
         requires pass_fits { PassFits (pass_in self.old) × UnitsFit (pass_in self.old)
             × Charted (its_rules self.old) self.old.starts.now (pass_in self.old) }
@@ -37,7 +36,7 @@ impl Pass<'_> {
 
     // The same of each kind of a position, in their order.
     pub fn scan_all(&mut self, kinds: &[u16], e: usize) -> Result<(), Full>
-        requires rules_fit { RulesFit (its_rules self.old) × Rowed self.old.starts.now self.old.rows.now × Chained self.old.rules.now.words self.old.rules.now.count }
+        requires rules_fit { Reads self.old }
         requires set { IsSet self.old.starts.now e × KindsFit kinds.now }
         requires pass_fits { PassFits (pass_in self.old) × UnitsFit (pass_in self.old)
             × Charted (its_rules self.old) self.old.starts.now (pass_in self.old) }

@@ -1,5 +1,5 @@
-// Completed items by origin and left side: greatest first. Each sum is written, the Sum and then its Products as they come off, and then its
-// pair is completed.
+// Completed items by origin and left side: greatest first. Each sum is written, the Sum and then its Products as they come off, and then
+// its pair is completed.
 ghost use Rattle.std.specs.Prelude.{◌≡◌, ◌<◌};
 ghost use Rattle.binary_heap.specs.Entry.{entries_in};
 ghost use Rattle.binary_heap.specs.Sift.{entry_at};
@@ -8,7 +8,8 @@ ghost use Rattle.item.specs.Item.{item_at};
 ghost use Rattle.completion.specs.Lent.{its_rules, pass_in, after, Kept};
 ghost use Rattle.completion.specs.inner.Ready.{PassFits, UnitsFit, RulesRead};
 ghost use Rattle.completion.specs.inner.Pending.{Grounds, Pending, Rooted};
-ghost use Rattle.completion.specs.Sums.{greatest, is_of, summands, product_node, sum_ends, next_summand, pop_sum, complete_sum, complete_all_sums};
+ghost use Rattle.completion.specs.Sums.{greatest, is_of, summands, product_node, sum_ends, next_summand, pop_sum};
+ghost use Rattle.completion.specs.Sums.{complete_sum, complete_all_sums};
 
 use crate::Pair;
 use crate::pass::{Full, Pass};
@@ -44,8 +45,8 @@ impl Pass<'_> {
         self.queued == 0 || !self.is_of(pair, 0)
     }
 
-    // How many entries of the queue are of the origin and left side of a pair. Each but the root has its parent among them, so that behind the
-    // children of the last one found there is none.
+    // How many entries of the queue are of the origin and left side of a pair. Each but the root has its parent among them, so that behind
+    // the children of the last one found there is none.
     fn summands(&self, pair: Pair) -> u32
         requires rules_read { RulesRead (its_rules self.now) (pass_in self.now) × (0 < self.now.queued) }
         requires rooted { Rooted (its_rules self.now) pair.set pair.symbol (pass_in self.now) }
@@ -99,8 +100,8 @@ impl Pass<'_> {
         }
     }
 
-    // Takes all entries of the origin and left side of a pair off the queue, which are its greatest, and writes their Products. They come off the
-    // queue where the store is full too: that is `pop_sum`.
+    // Takes all entries of the origin and left side of a pair off the queue, which are its greatest, and writes their Products. They come off
+    // where the store is full too: that is the specs' `pop_sum`.
     fn pop_sum(&mut self, pair: Pair, before: Result<(), Full>) -> Result<(), Full>
         requires { RulesRead (its_rules self.old) (pass_in self.old) }
         ensures kept { Kept self.old self.new }
@@ -116,8 +117,8 @@ impl Pass<'_> {
 
     // Takes one sum off the queue, writes it, and completes its pair.
     fn complete_sum(&mut self) -> Result<(), Full>
-        requires { Grounds (its_rules self.old) self.old.starts.now self.old.rows.now × Pending (its_rules self.old) self.old.starts.now (pass_in self.old)
-            × UnitsFit (pass_in self.old) × (0 < self.old.queued) × Chained self.old.rules.now.words self.old.rules.now.count }
+        requires { Grounds (its_rules self.old) self.old.starts.now self.old.rows.now
+            × Pending (its_rules self.old) self.old.starts.now (pass_in self.old) × UnitsFit (pass_in self.old) × (0 < self.old.queued) × Chained self.old.rules.now.words self.old.rules.now.count }
         ensures kept { Kept self.old self.new }
         ensures pass { after result self.new ≡ complete_sum (its_rules self.old) self.old.starts.now self.old.rows.now (pass_in self.old) }
     {
@@ -138,10 +139,11 @@ impl Pass<'_> {
 
     // Completes sum after sum, until the queue is empty or something is refused.
     pub fn complete_all_sums_entirely(&mut self) -> Result<(), Full>
-        requires { Grounds (its_rules self.old) self.old.starts.now self.old.rows.now × Pending (its_rules self.old) self.old.starts.now (pass_in self.old)
-            × UnitsFit (pass_in self.old) × Chained self.old.rules.now.words self.old.rules.now.count }
+        requires { Grounds (its_rules self.old) self.old.starts.now self.old.rows.now
+            × Pending (its_rules self.old) self.old.starts.now (pass_in self.old) × UnitsFit (pass_in self.old) × Chained self.old.rules.now.words self.old.rules.now.count }
         ensures kept { Kept self.old self.new }
-        ensures pass { after result self.new ≡ complete_all_sums (its_rules self.old) self.old.starts.now self.old.rows.now (pass_in self.old) }
+        ensures pass { after result self.new
+            ≡ complete_all_sums (its_rules self.old) self.old.starts.now self.old.rows.now (pass_in self.old) }
     {
         // A sum queues entries too: no count.
         while self.queued > 0 {

@@ -9,7 +9,10 @@ use Rattle.grammar.specs.Accepted.{max_rules}
 use Rattle.node.specs.Writing.{usable_units}
 use Rattle.parse.specs.Words.{max_items, max_sets, max_queued}
 use Rattle.parse.specs.WellFormed.{second_of}
+use Rattle.grammar.specs.inner.Decoded.{Chained}
 use Rattle.completion.specs.Pass.{Pass}
+use Rattle.completion.specs.declared.pass.Pass.{Pass as Lent}
+use Rattle.completion.specs.Lent.{its_rules, pass_in}
 
 -- Few rules, whose left sides are symbols of a row.
 pub record RulesFit (rs : List Rule) : Type 0 where
@@ -61,3 +64,11 @@ pub record RulesRead (rs : List Rule) (s : Pass) : Type 0 where
 -- Kinds are symbols of a row.
 pub record KindsFit (kinds : List ℕ) : Type 0 where
   pub each : (i : ℕ) → i < length kinds → get_or kinds i 0 < word_bits * row_words
+
+-- The rules and sets that a pass reads: a start for each row, and the rules' chains.
+abbrev pub Reads : Lent → Type 0
+Reads p = RulesFit (its_rules p) × Rowed p.starts.now p.rows.now × Chained p.rules.now.words p.rules.now.count
+
+-- A pass that can complete a pair.
+abbrev pub Sound : Lent → Type 0
+Sound p = PassFits (pass_in p) × Charted (its_rules p) p.starts.now (pass_in p)
