@@ -61,7 +61,7 @@ impl Pass<'_> {
             pair.set pair.symbol pair.link (pass_in self.old) }
     {
         let mut r = self.rules.head(pair.symbol);
-        // The rules of a chain are no range: each names the next.
+        // The rules of a chain are no range: each names the next. An iterator over it would be longer than both walks.
         while r < self.rules.count {
             self.complete_unary(pair, r)?;
             r = self.rules.next(r);
@@ -92,7 +92,7 @@ impl Pass<'_> {
             pair.set pair.symbol pair.link (pass_in self.old) }
     {
         let mut r = self.rules.head(pair.symbol);
-        // A chain, as above.
+        // The chain again: a walk for both would take its step as a closure that is lent the pass, which is no plainer.
         while r < self.rules.count {
             self.complete_binary(pair, r)?;
             r = self.rules.next(r);
