@@ -14,13 +14,7 @@ pub slice_bounds-answer-end : goal.slice_bounds-answer-end
 slice_bounds-answer-end c = c.read_full-came.ensures.place.1
 
 pub slice_bounds-file-end : goal.slice_bounds-file-end
-slice_bounds-file-end c = c.answer-told.ensures.place.0
+slice_bounds-file-end c = c.answer-said.ensures.place.0
 
 pub slice_bounds-write_all-end : goal.slice_bounds-write_all-end
-slice_bounds-write_all-end c = c.answer-told.ensures.place.1
-
-pub slice_bounds-line-end : goal.slice_bounds-line-end
-slice_bounds-line-end c = c.answer-told.ensures.room.0
-
-pub slice_bounds-write_all-end-2 : goal.slice_bounds-write_all-end-2
-slice_bounds-write_all-end-2 c = c.answer-told.ensures.room.1
+slice_bounds-write_all-end c = c.answer-said.ensures.place.1
