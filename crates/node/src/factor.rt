@@ -4,6 +4,7 @@ ghost use Rattle.node.specs.Reading.{long_right};
 
 pub const NO_FACTOR: u32 = 0xFFFF_FFFF;
 
+#[tactic(auto, unfolding(crate::specs::Reading::long_right))]
 pub fn long_right(right: u32) -> Option<u32>
     ensures { result ≡ long_right right }
 {

@@ -1,7 +1,6 @@
 -- `read` meets its contract: the usable part of the store is read, and the answer is exact.
 use mathlib.Core.Path.{◌≡◌, sym, ap, subst, ◌∙◌}
 use native.Mathlib.Omega.{arith}
-use lib.ListN.{length-take}
 use Rattle.node.specs.Answers.{found}
 use Rattle.node.specs.Writing.{usable}
 use Rattle.node.specs.Reading.{read_at, read_units, Exactly}
@@ -10,22 +9,6 @@ use Rattle.node.proofs.Almost.{Narrow}
 use Rattle.node.proofs.Puts.{usable-narrow}
 use Rattle.node.proofs.Exact.{reads-exactly}
 use Rattle.node.proofs.read.Goals as goal
-
-pub slice_bounds-read_units-end : goal.slice_bounds-read_units-end
-slice_bounds-read_units-end c =
-    omega (
-      arith,
-      c.usable-end.ensures,
-      length-take c.usable-end.result c.args.store.now,
-    )
-
-pub read_units-requires : goal.read_units-requires
-read_units-requires c =
-    omega (
-      arith,
-      c.usable-end.ensures,
-      length-take c.usable-end.result c.args.store.now,
-    )
 
 pub returns : goal.returns
 returns c =

@@ -18,10 +18,6 @@ returns-in_default-units_of c =
     sym (ap (take_node _ _) (sym c.spelt.ensures ∙ c.in-Some.is)
     ∙ take_unfit _ _ _ (none-fitting _ _ (sym c.in_default-units_of.is ∙ c.units_of.ensures)))
 
-pub head_right-requires : goal.head_right-requires
-head_right-requires c =
-    let own = own-units _ _ _ _ c.as_slice-units.ensures (sym c.in-Some-units_of.is ∙ c.units_of.ensures) in (c.requires.0, own.size.some)
-
 pub returns-then-starts_with : goal.returns-then-starts_with
 unfolding read_here
 returns-then-starts_with c =

@@ -3,15 +3,8 @@ use mathlib.Core.Path.{◌≡◌, sym, ap, ◌∙◌}
 use native.Mathlib.Omega.{arith}
 use Rattle.node.specs.Writing.{usable}
 use Rattle.trees.specs.inner.Tables.{tabled}
-use Rattle.trees.specs.declared.Weight.TheVariants.{Number}
 use Rattle.trees.proofs.Tabled.{rest, rest_done, rest_ended, rest_step}
 use Rattle.trees.proofs.table.Table.sum.Goals as goal
-
-pub loop-turn-init : goal.loop-turn-init
-loop-turn-init c =
-    let a = c.args in
-    let all : a.count - 0 ≡ a.count = omega arith in
-    ap (λ n. rest (tabled a.self.now) a.s (usable a.store.now) (Number 0) n a.from) all
 
 pub returns-in_default : goal.returns-in_default
 returns-in_default c =
