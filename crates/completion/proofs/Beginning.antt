@@ -1,11 +1,7 @@
 -- The pass of a position on a well-formed state of an accepted grammar begins pending.
-use mathlib.Core.Path.{◌≡◌, sym, ap, subst}
-use mathlib.Core.List.{List}
-use Prim.Native.Nat.{ℕ, zero, suc, ◌+◌, ◌-◌, ◌*◌, ◌/◌, ◌≤◌, ◌<◌}
+use Rattle.std.proofs.Common.{◌≡◌, sym, ap, subst, List, ℕ, zero, suc, ◌+◌, ◌-◌, ◌*◌, ◌/◌, ◌≤◌, ◌<◌, add-one, arith, length, get_or, length-take}
 use native.Mathlib.Decide.{dec_lt}
-use native.Mathlib.Numerals.{add-one}
-use native.Mathlib.Omega.{arith}
-use lib.ListN.{length, get_or, length-take, get_or-eq_default}
+use lib.ListN.{get_or-eq_default}
 use Rattle.laws.specs.Bits.{word_bits}
 use Rattle.bits.specs.Width.{row_words}
 use Rattle.item.specs.Item.{item_words, item_at}

@@ -1,11 +1,6 @@
 -- A pass stays sound and charted through every step, and nothing that it had is touched.
-use mathlib.Core.Path.{◌≡◌, sym, ap, subst}
-use mathlib.Core.Bool.{false}
-use mathlib.Core.List.{List}
-use Prim.Native.Nat.{ℕ, ◌+◌, ◌*◌, ◌≤◌, ◌<◌}
+use Rattle.std.proofs.Common.{◌≡◌, sym, ap, subst, false, List, ℕ, ◌+◌, ◌*◌, ◌≤◌, ◌<◌, arith, length}
 use native.Mathlib.Decide.{dec_lt}
-use native.Mathlib.Omega.{arith}
-use lib.ListN.{length}
 use Rattle.laws.proofs.Turns.{until-keeps}
 use Rattle.binary_heap.proofs.Each.{Every}
 use Rattle.item.specs.Item.{Item, item_at}

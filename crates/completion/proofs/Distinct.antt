@@ -1,14 +1,9 @@
 -- The items that a pass stores are distinct, each of a rule and of an origin up to the latest set.
-use mathlib.Core.Path.{◌≡◌, refl, sym, ap, ◌∙◌, subst}
-use mathlib.Core.Bool.{true}
+use Rattle.std.proofs.Common.{◌≡◌, refl, sym, ap, ◌∙◌, subst, true, List, ◌∷◌, ◌⊎◌, inl, inr, ℕ, suc, ◌+◌, ◌*◌, ◌≤◌, ◌<◌, arith, length, get_or}
 use mathlib.Core.List.Memᴰ.{head as here}
 use mathlib.Core.List.Memᴰ.{tail as later}
-use mathlib.Core.List.{List, ◌∷◌, Memᴰ as Member}
-use mathlib.Core.Logic.{◌⊎◌, inl, inr}
-use Prim.Native.Nat.{ℕ, suc, ◌+◌, ◌*◌, ◌≤◌, ◌<◌}
+use mathlib.Core.List.{Memᴰ as Member}
 use native.Mathlib.Decide.{dec_lt}
-use native.Mathlib.Omega.{arith}
-use lib.ListN.{length, get_or}
 use Rattle.laws.proofs.Turns.{until-keeps}
 use Rattle.binary_heap.specs.Sift.{entry_at}
 use Rattle.binary_heap.proofs.Each.{Every}

@@ -1,12 +1,7 @@
 -- The queue of a pass as the list of its entries, and what each step of a pass makes of it.
-use mathlib.Core.Path.{◌≡◌, refl, sym, ap, ◌∙◌, subst}
-use mathlib.Core.List.{List, [], ◌∷◌, ◌++◌}
-use Prim.Native.Nat.{ℕ, ◌+◌, ◌-◌, ◌/◌, ◌≤◌, ◌<◌}
+use Rattle.std.proofs.Common.{◌≡◌, refl, sym, ap, ◌∙◌, subst, List, [], ◌∷◌, ◌++◌, ℕ, ◌+◌, ◌-◌, ◌/◌, ◌≤◌, ◌<◌, arith, length, take, drop, length-append, length-drop, length-take-le, get_or-take, take_at, get_or-append-add, get_or-drop, lt-ltb, le-leb}
 use native.Mathlib.Decide.{dec_lt, ℕ_discrete}
-use native.Mathlib.Omega.{arith}
-use lib.ListN.{length, take, drop, length-append, length-drop}
-use lib.Seq.{length-take-le, get_or-take, take_at, get_or-append-add, get_or-drop}
-use borrow.Author.Tests.{lt-ltb, le-leb, lt-leb}
+use borrow.Author.Tests.{lt-leb}
 use Rattle.binary_heap.proofs.Each.{Every}
 use Rattle.item.specs.Item.{item_words, stored}
 use Rattle.binary_heap.specs.Entry.{Entry, no_entry, entry_key}

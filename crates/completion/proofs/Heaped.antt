@@ -1,9 +1,5 @@
 -- The entries of the queue stay a heap through every step, and keep what each of them has.
-use mathlib.Core.Path.{◌≡◌, refl, sym, ap, ◌∙◌, subst}
-use mathlib.Core.List.{List}
-use Prim.Native.Nat.{ℕ, ◌+◌, ◌<◌}
-use native.Mathlib.Omega.{arith}
-use lib.ListN.{length, get_or}
+use Rattle.std.proofs.Common.{◌≡◌, refl, sym, ap, ◌∙◌, subst, List, ℕ, ◌+◌, ◌<◌, arith, length, get_or}
 use Rattle.laws.proofs.Turns.{until-keeps}
 use Rattle.binary_heap.proofs.Each.{Every}
 use Rattle.item.specs.Item.{Item, item_at}

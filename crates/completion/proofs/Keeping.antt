@@ -1,5 +1,5 @@
 -- What calls keep of a pass they keep together.
-use mathlib.Core.Path.{◌∙◌}
+use Rattle.std.proofs.Common.{◌∙◌}
 use Rattle.completion.specs.declared.pass.Pass.{Pass as Lent}
 use Rattle.completion.specs.Lent.{Kept}
 

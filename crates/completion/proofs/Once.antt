@@ -1,11 +1,6 @@
 -- Each pair of an origin and a left side is completed once at the most, after its last summand.
-use mathlib.Core.Path.{◌≡◌, refl, sym, ap, ◌∙◌}
-use mathlib.Core.Bool.{true, false}
-use mathlib.Core.List.{List, [], ◌∷◌}
-use Prim.Native.Nat.{ℕ, zero, suc, ◌≤◌, ◌<◌}
+use Rattle.std.proofs.Common.{◌≡◌, refl, sym, ap, ◌∙◌, true, false, List, [], ◌∷◌, ℕ, zero, suc, ◌≤◌, ◌<◌, arith, length, get_or}
 use native.Mathlib.Decide.{dec_lt, ℕ_discrete}
-use native.Mathlib.Omega.{arith}
-use lib.ListN.{length, get_or}
 use Rattle.laws.specs.Turns.{until}
 use Rattle.laws.proofs.Turns.{until-keeps}
 use Rattle.laws.proofs.Tests.{either_way}

@@ -1,11 +1,6 @@
 -- What no step of a pass changes: the items that are there, the words behind them, and the numbers of words.
-use mathlib.Core.Path.{◌≡◌, refl, sym, ap, ◌∙◌, subst}
-use mathlib.Core.List.{List}
-use Prim.Native.Nat.{ℕ, ◌+◌, ◌-◌, ◌*◌, ◌/◌, ◌≤◌, ◌<◌}
+use Rattle.std.proofs.Common.{◌≡◌, refl, sym, ap, ◌∙◌, subst, List, ℕ, ◌+◌, ◌-◌, ◌*◌, ◌/◌, ◌≤◌, ◌<◌, arith, length, get_or, take, length-take, ext_get_or, get_or-take}
 use native.Mathlib.Decide.{dec_lt, ℕ_discrete}
-use native.Mathlib.Omega.{arith}
-use lib.ListN.{length, get_or, take, length-take}
-use lib.Seq.{ext_get_or, get_or-take}
 use Rattle.item.specs.Item.{Item, item_words, item_at, key_at, key_of}
 use Rattle.item.proofs.Words.{stored-length, stored_item_other, stored_other}
 use Rattle.binary_heap.specs.Entry.{no_entry}

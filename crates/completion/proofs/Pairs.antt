@@ -1,11 +1,5 @@
 -- Completing a pair of a set and a symbol.
-use mathlib.Core.Path.{◌≡◌, refl, ◌∙◌}
-use mathlib.Core.Bool.{Bool, true, false}
-use mathlib.Core.List.{List}
-use Prim.Native.Nat.{ℕ, ◌+◌, ◌-◌, ◌<◌}
-use native.Mathlib.Omega.{arith}
-use lib.ListN.{get_or}
-use lib.Dec.{eqb}
+use Rattle.std.proofs.Common.{◌≡◌, refl, ◌∙◌, Bool, true, false, List, ℕ, ◌+◌, ◌-◌, ◌<◌, arith, get_or, eqb}
 use Rattle.laws.proofs.Turns.{over-keeps}
 use Rattle.item.specs.Item.{item_at}
 use Rattle.grammar.specs.Rules.{Rule}

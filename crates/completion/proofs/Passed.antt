@@ -1,9 +1,5 @@
 -- Steps 2 and 3 as a whole: what a pass leaves.
-use mathlib.Core.Path.{◌≡◌, refl, ◌∙◌}
-use mathlib.Core.List.{List}
-use Prim.Native.Nat.{ℕ, ◌*◌, ◌≤◌, ◌<◌}
-use native.Mathlib.Omega.{arith}
-use lib.ListN.{length, get_or}
+use Rattle.std.proofs.Common.{◌≡◌, refl, ◌∙◌, List, ℕ, ◌*◌, ◌≤◌, ◌<◌, arith, length, get_or}
 use Rattle.item.specs.Item.{item_words, item_at, origin_at, rule_at}
 use Rattle.binary_heap.specs.Entry.{no_entry, entry_words}
 use Rattle.binary_heap.specs.Sift.{entry_at}

@@ -1,14 +1,7 @@
 -- What pushes and writes do, where there is a place and where there is none.
-use mathlib.Core.Path.{◌≡◌, refl, sym, ap, ap₂, ◌∙◌}
-use mathlib.Core.List.{List, [], ◌∷◌}
-use Prim.Native.Nat.{ℕ, ◌+◌, ◌/◌, ◌≤◌, ◌<◌}
-use lib.ListN.{length}
-use lib.Dec.{leb}
-use native.Mathlib.Omega.{arith}
-use borrow.Author.Tests.{lt-ltb, le-ltb, eq-eqb, ne_eqb}
+use Rattle.std.proofs.Common.{◌≡◌, refl, sym, ap, ap₂, ◌∙◌, List, [], ◌∷◌, ℕ, ◌+◌, ◌/◌, ◌≤◌, ◌<◌, length, leb, arith, lt-ltb, le-ltb, eq-eqb, ne_eqb, Some, None, Result, Ok, Err}
 use Rattle.item.specs.Item.{item_words, stored}
 use Rattle.binary_heap.specs.Entry.{Entry, entry_key}
-use Rattle.std.specs.Prelude.{Some, None, Result, Ok, Err}
 use Rattle.binary_heap.specs.Queue.{push_answer, push_queue}
 use Rattle.binary_heap.proofs.Answers.{full-tells, count-tells}
 use Rattle.laws.proofs.Tests.{either_way}

@@ -1,8 +1,5 @@
 -- The loop over the sums: what is left to do from here gives what all sums give.
-use mathlib.Core.Path.{◌≡◌, refl, sym, ◌∙◌, subst}
-use mathlib.Core.Bool.{true}
-use mathlib.Core.List.{List}
-use Prim.Native.Nat.{ℕ, ◌<◌}
+use Rattle.std.proofs.Common.{◌≡◌, refl, sym, ◌∙◌, subst, true, List, ℕ, ◌<◌}
 use Rattle.grammar.specs.Rules.{Rule}
 use Rattle.completion.specs.Pass.{Pass}
 use Rattle.completion.specs.Sums.{complete_sum, rests, complete_all_sums}

@@ -1,14 +1,8 @@
 -- Step 2 of a position: what completing one kind keeps, scanning all its kinds keeps.
-use mathlib.Core.Path.{◌≡◌, refl, sym, ap, ◌∙◌, subst}
-use mathlib.Core.Bool.{true, false}
+use Rattle.std.proofs.Common.{◌≡◌, refl, sym, ap, ◌∙◌, subst, true, false, List, [], ◌∷◌, ℕ, suc, ◌+◌, ◌≤◌, ◌<◌, add-one, arith, length, get_or, drop, drop_of_length-le, drop-cons}
 use mathlib.Core.List.Memᴰ.{head as here}
 use mathlib.Core.List.Memᴰ.{tail as later}
-use mathlib.Core.List.{List, [], ◌∷◌, Memᴰ as Member}
-use Prim.Native.Nat.{ℕ, suc, ◌+◌, ◌≤◌, ◌<◌}
-use native.Mathlib.Numerals.{add-one}
-use native.Mathlib.Omega.{arith}
-use lib.ListN.{length, get_or, drop, drop_of_length-le}
-use lib.Seq.{drop-cons}
+use mathlib.Core.List.{Memᴰ as Member}
 use Rattle.laws.proofs.Tests.{either_way}
 use Rattle.item.specs.Item.{Item}
 use Rattle.grammar.specs.Rules.{Rule, no_rule}

@@ -1,12 +1,7 @@
 -- The counts of a pass stay within the words, and the entries of its queue stay places of items.
-use mathlib.Core.Path.{◌≡◌, refl, sym, ap, ◌∙◌, subst}
-use mathlib.Core.List.{List, ◌++◌}
-use Prim.Native.Nat.{ℕ, ◌+◌, ◌/◌, ◌<◌}
+use Rattle.std.proofs.Common.{◌≡◌, refl, sym, ap, ◌∙◌, subst, List, ◌++◌, ℕ, ◌+◌, ◌/◌, ◌<◌, arith, length, take, drop, length-append, length-drop, length-take-le, get_or-take, lt-ltb}
 use native.Mathlib.Decide.{dec_lt, ℕ_discrete}
-use native.Mathlib.Omega.{arith}
-use lib.ListN.{length, take, drop, length-append, length-drop, get_or-append}
-use lib.Seq.{length-take-le, get_or-take}
-use borrow.Author.Tests.{lt-ltb}
+use lib.ListN.{get_or-append}
 use Rattle.binary_heap.proofs.Each.{Every}
 use Rattle.item.specs.Item.{item_words, HasPlace, stored}
 use Rattle.item.proofs.Words.{stored-length}

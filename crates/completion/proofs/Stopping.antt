@@ -1,8 +1,5 @@
 -- What a refusal leaves out: a pass that was refused stays as it is.
-use mathlib.Core.List.{List}
-use mathlib.Core.Path.{◌≡◌, sym, ap, ◌∙◌, subst}
-use Prim.Native.Nat.{ℕ, ◌+◌, ◌-◌, ◌<◌}
-use native.Mathlib.Omega.{arith}
+use Rattle.std.proofs.Common.{List, ◌≡◌, sym, ap, ◌∙◌, subst, ℕ, ◌+◌, ◌-◌, ◌<◌, arith}
 use Rattle.laws.specs.Turns.{over}
 use Rattle.laws.proofs.Turns.{over-next, over_still, over-split}
 use Rattle.completion.specs.declared.pass.Full.{Full}

@@ -1,21 +1,11 @@
 -- Taking the entries of one origin and left side off the queue, case by case.
-use mathlib.Core.Path.{◌≡◌, refl, sym, ap, ap₂, ◌∙◌, subst}
-use mathlib.Core.Bool.{Bool, true, false, ◌&&◌, ◌||◌, not}
-use mathlib.Core.List.{List, [], ◌∷◌}
-use Prim.Native.Nat.{ℕ, suc, ◌+◌, ◌-◌, ◌≤◌, ◌<◌}
-use native.Mathlib.Numerals.{add-one}
-use native.Mathlib.Omega.{arith}
-use lib.ListN.{length, take, length-take}
-use lib.Seq.{take-suc}
-use lib.Dec.{eqb}
-use borrow.Author.Tests.{eq-eqb, ne_eqb}
+use Rattle.std.proofs.Common.{◌≡◌, refl, sym, ap, ap₂, ◌∙◌, subst, Bool, true, false, ◌&&◌, ◌||◌, not, List, [], ◌∷◌, ℕ, suc, ◌+◌, ◌-◌, ◌≤◌, ◌<◌, add-one, arith, length, take, length-take, take-suc, eqb, eq-eqb, ne_eqb, Some}
 use Rattle.laws.specs.Counts.{count, once}
 use Rattle.laws.proofs.Counts.{count-append}
 use Rattle.laws.specs.Turns.{until}
 use Rattle.laws.proofs.Turns.{until_turns}
 use Rattle.binary_heap.specs.Entry.{Entry, no_entry, entry_key}
 use Rattle.binary_heap.specs.Queue.{pop_queue, pop_answer}
-use Rattle.std.specs.Prelude.{Some}
 use Rattle.binary_heap.proofs.Answers.{pop_entry_tells}
 use Rattle.grammar.specs.Rules.{Rule}
 use Rattle.item.specs.Item.{Item, rule_at}

@@ -1,12 +1,6 @@
 -- What the steps of a completion keep, the completion keeps.
-use mathlib.Core.Path.{◌≡◌}
-use mathlib.Core.Bool.{true, false, ◌&&◌, not}
-use mathlib.Core.List.{List}
-use Prim.Native.Nat.{ℕ, suc, ◌+◌, ◌-◌, ◌≤◌, ◌<◌}
-use native.Mathlib.Omega.{arith}
-use lib.ListN.{length, get_or}
-use lib.Dec.{eqb}
-use borrow.Author.Tests.{eqb-true, eqb-false, not-true}
+use Rattle.std.proofs.Common.{◌≡◌, true, false, ◌&&◌, not, List, ℕ, suc, ◌+◌, ◌-◌, ◌≤◌, ◌<◌, arith, length, get_or, eqb, eqb-true}
+use borrow.Author.Tests.{eqb-false, not-true}
 use Rattle.laws.proofs.Tests.{either_way, both_true}
 use Rattle.laws.proofs.Turns.{over-keeps, over_goes}
 use Rattle.item.specs.Item.{item_at}

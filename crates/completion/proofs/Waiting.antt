@@ -1,13 +1,6 @@
 -- What completing the rules that begin with a symbol comes to, case by case.
-use mathlib.Core.Path.{◌≡◌, refl, sym, ap, ◌∙◌, subst}
-use mathlib.Core.Bool.{Bool, true, false, ◌&&◌, not}
-use mathlib.Core.List.{List}
-use Prim.Native.Nat.{ℕ, ◌+◌, ◌-◌, ◌/◌, ◌<◌}
+use Rattle.std.proofs.Common.{◌≡◌, refl, sym, ap, ◌∙◌, subst, Bool, true, false, ◌&&◌, not, List, ℕ, ◌+◌, ◌-◌, ◌/◌, ◌<◌, arith, length, get_or, eqb, eq-eqb, ne_eqb}
 use native.Mathlib.Decide.{dec_lt, ℕ_discrete}
-use native.Mathlib.Omega.{arith}
-use lib.ListN.{length, get_or}
-use lib.Dec.{eqb}
-use borrow.Author.Tests.{eq-eqb, ne_eqb}
 use Rattle.laws.specs.Turns.{over}
 use Rattle.laws.proofs.Turns.{over-keeps, over-next, over_none, over-split, over_still}
 use Rattle.item.specs.Item.{Item, item_words}

@@ -1,7 +1,5 @@
 -- Each answer of the node writer is one case of the rule.
-use mathlib.Core.Path.{refl, ap, ◌∙◌}
-use Prim.Native.Nat.{ℕ}
-use Rattle.std.specs.Prelude.{Result}
+use Rattle.std.proofs.Common.{refl, ap, ◌∙◌, ℕ, Result}
 use Rattle.node.specs.Answers.{values_of, written}
 use Rattle.node.specs.declared.Unwritten.{Unwritten}
 use Rattle.completion.specs.Lent.{pass_in}

@@ -1,4 +1,4 @@
-use native.Mathlib.Omega.{arith}
+use Rattle.std.proofs.Common.{arith}
 use Rattle.completion.proofs.Searching.{halving_up, halving_down}
 use Rattle.completion.proofs.pass.Pass.by_halves.Goals as goal
 

@@ -1,5 +1,5 @@
 -- The invariant, `Halving`: what is left stands between `low` and `high`.
-use Prim.Native.Nat.{◌-◌}
+use Rattle.std.proofs.Common.{◌-◌}
 use Rattle.completion.specs.Lent.{its_rules}
 use Rattle.completion.proofs.Searching.{Halving}
 use Rattle.completion.proofs.pass.Pass.by_halves.Given as goal

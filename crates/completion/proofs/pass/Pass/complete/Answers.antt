@@ -1,5 +1,4 @@
-use mathlib.Core.Path.{sym, ap, ◌∙◌, subst}
-use native.Mathlib.Omega.{arith}
+use Rattle.std.proofs.Common.{sym, ap, ◌∙◌, subst, arith}
 use Rattle.std.proofs.lemmas.Result.{err_from_is_err_and}
 use Rattle.completion.specs.Complete.{complete_unary_predictions, complete_binary_predictions}
 use Rattle.completion.specs.Lent.{its_rules, pass_in}

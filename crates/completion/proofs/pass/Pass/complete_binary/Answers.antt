@@ -1,5 +1,4 @@
-use mathlib.Core.Path.{refl, sym, ◌∙◌}
-use native.Mathlib.Omega.{arith}
+use Rattle.std.proofs.Common.{refl, sym, ◌∙◌, arith}
 use Rattle.completion.specs.Lent.{its_rules, pass_in}
 use Rattle.completion.proofs.Waiting.{rules-length, rule-second, binary_one, binary_passed, binary-waits}
 use Rattle.completion.proofs.pass.Pass.complete_binary.Goals.{then-second-eq-NONE-via-then-second-eq-NONE, then-second-eq-NONE-via-else-second-eq-NONE+then-not-waits}

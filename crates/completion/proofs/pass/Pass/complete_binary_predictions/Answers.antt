@@ -1,8 +1,5 @@
-use mathlib.Core.Path.{◌≡◌, refl, ap, ◌∙◌}
-use Prim.Native.Nat.{ℕ}
-use native.Mathlib.Omega.{arith}
+use Rattle.std.proofs.Common.{◌≡◌, refl, ap, ◌∙◌, ℕ, arith, length}
 use Rattle.std.proofs.lemmas.Result.{err_from_is_err_and}
-use lib.ListN.{length}
 use Rattle.laws.specs.Turns.{over}
 use Rattle.completion.specs.Complete.{complete_binary, complete_binary_predictions}
 use Rattle.completion.specs.Lent.{its_rules, pass_in}

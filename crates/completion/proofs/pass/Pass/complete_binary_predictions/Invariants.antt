@@ -1,6 +1,5 @@
 -- The rules up to `r`, the next of the chain, are completed.
-use mathlib.Core.Path.{◌≡◌}
-use Prim.Native.Nat.{◌-◌, ◌≤◌, ◌<◌}
+use Rattle.std.proofs.Common.{◌≡◌, ◌-◌, ◌≤◌, ◌<◌}
 use Rattle.laws.specs.Turns.{over}
 use Rattle.grammar.specs.inner.Decoded.{first_in}
 use Rattle.completion.specs.Complete.{complete_binary}

@@ -1,6 +1,5 @@
 -- The places up to the iterator's are queued.
-use mathlib.Core.Path.{◌≡◌}
-use Prim.Native.Nat.{◌-◌, ◌≤◌}
+use Rattle.std.proofs.Common.{◌≡◌, ◌-◌, ◌≤◌}
 use Rattle.laws.specs.Turns.{over}
 use Rattle.completion.specs.Lent.{pass_in, Kept}
 use Rattle.completion.proofs.Searching.{queueing}

@@ -1,6 +1,4 @@
-use mathlib.Core.Path.{refl, sym, ap, ◌∙◌, subst}
-use Prim.Native.Nat.{◌<◌}
-use native.Mathlib.Omega.{arith}
+use Rattle.std.proofs.Common.{refl, sym, ap, ◌∙◌, subst, ◌<◌, arith}
 use Rattle.std.proofs.lemmas.Result.{err_from_is_err_and}
 use Rattle.node.specs.Rows.{all_ones}
 use Rattle.completion.specs.Pass.{Pass, store, enqueue}

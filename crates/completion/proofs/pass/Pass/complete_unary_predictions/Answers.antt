@@ -1,8 +1,5 @@
-use mathlib.Core.Path.{◌≡◌, refl, sym, ap, ◌∙◌, subst}
-use Prim.Native.Nat.{ℕ}
-use native.Mathlib.Omega.{arith}
+use Rattle.std.proofs.Common.{◌≡◌, refl, sym, ap, ◌∙◌, subst, ℕ, arith, length}
 use Rattle.std.proofs.lemmas.Result.{err_from_is_err_and}
-use lib.ListN.{length}
 use Rattle.laws.specs.Turns.{over}
 use Rattle.completion.specs.Complete.{complete_unary, complete_unary_predictions}
 use Rattle.completion.specs.Lent.{its_rules, pass_in}

@@ -1,5 +1,4 @@
-use mathlib.Core.Path.{sym, ◌∙◌}
-use native.Mathlib.Omega.{arith}
+use Rattle.std.proofs.Common.{sym, ◌∙◌, arith}
 use Rattle.binary_heap.specs.Entry.{entries_in}
 use Rattle.binary_heap.proofs.Held.{held-length}
 use Rattle.completion.specs.Lent.{pass_in}

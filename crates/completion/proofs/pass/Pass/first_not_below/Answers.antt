@@ -1,4 +1,4 @@
-use native.Mathlib.Omega.{arith}
+use Rattle.std.proofs.Common.{arith}
 use Rattle.completion.proofs.Searching.{passed_on}
 use Rattle.completion.proofs.pass.Pass.first_not_below.Goals as goal
 

@@ -1,5 +1,5 @@
 -- The invariant, `Passed`: all before `low` are below.
-use Prim.Native.Nat.{◌-◌}
+use Rattle.std.proofs.Common.{◌-◌}
 use Rattle.completion.specs.Lent.{its_rules}
 use Rattle.completion.proofs.Searching.{Passed}
 use Rattle.completion.proofs.pass.Pass.first_not_below.Given as goal

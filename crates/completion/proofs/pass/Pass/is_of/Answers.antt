@@ -1,6 +1,4 @@
-use mathlib.Core.Path.{ap, ◌∙◌}
-use Prim.Native.Nat.{◌<◌}
-use native.Mathlib.Omega.{arith}
+use Rattle.std.proofs.Common.{ap, ◌∙◌, ◌<◌, arith}
 use Rattle.item.specs.Item.{Item, rule_at, item_at}
 use Rattle.binary_heap.specs.Entry.{Entry, entries_in}
 use Rattle.binary_heap.specs.Sift.{entry_at}

@@ -1,6 +1,4 @@
-use mathlib.Core.Path.{◌≡◌, refl, sym, ap, ◌∙◌, subst}
-use mathlib.Core.Bool.{false}
-use native.Mathlib.Omega.{arith}
+use Rattle.std.proofs.Common.{◌≡◌, refl, sym, ap, ◌∙◌, subst, false, arith}
 use Rattle.laws.proofs.Turns.{until-rests}
 use Rattle.completion.specs.Pass.{Pass}
 use Rattle.completion.specs.Sums.{sum_ends, next_summand, pop_sum}

@@ -1,5 +1,5 @@
 -- What is left to pop gives what the whole sum gives.
-use mathlib.Core.Path.{◌≡◌}
+use Rattle.std.proofs.Common.{◌≡◌}
 use Rattle.laws.specs.Turns.{until}
 use Rattle.completion.specs.Sums.{sum_ends, next_summand, pop_sum}
 use Rattle.completion.specs.inner.Ready.{RulesRead}

@@ -1,4 +1,4 @@
-use mathlib.Core.Path.{sym, ap, ◌∙◌, subst}
+use Rattle.std.proofs.Common.{sym, ap, ◌∙◌, subst}
 use Rattle.std.proofs.lemmas.Result.{err_from_is_err_and}
 use Rattle.node.specs.declared.Node.TheVariants.{Evaluated}
 use Rattle.completion.specs.Complete.{complete}

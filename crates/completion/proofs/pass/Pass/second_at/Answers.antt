@@ -1,4 +1,4 @@
-use native.Mathlib.Omega.{arith}
+use Rattle.std.proofs.Common.{arith}
 use Rattle.completion.proofs.Searching.{second-read}
 use Rattle.completion.proofs.Waiting.{rules-length}
 use Rattle.completion.proofs.pass.Pass.second_at.Goals as goal

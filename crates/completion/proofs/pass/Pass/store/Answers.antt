@@ -1,6 +1,4 @@
-use mathlib.Core.Path.{sym, ap, ◌∙◌}
-use mathlib.Core.List.{List}
-use Prim.Native.Nat.{ℕ, ◌+◌}
+use Rattle.std.proofs.Common.{sym, ap, ◌∙◌, List, ℕ, ◌+◌}
 use Rattle.completion.specs.Pass.{pass_over}
 use Rattle.completion.specs.Lent.{pass_in}
 use Rattle.completion.proofs.Pushes.{store_done, store-refused}

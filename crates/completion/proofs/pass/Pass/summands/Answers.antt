@@ -1,6 +1,4 @@
-use mathlib.Core.Path.{◌≡◌, sym, ◌∙◌}
-use Prim.Native.Nat.{◌+◌, ◌*◌, ◌≤◌, ◌<◌}
-use native.Mathlib.Omega.{arith}
+use Rattle.std.proofs.Common.{◌≡◌, sym, ◌∙◌, ◌+◌, ◌*◌, ◌≤◌, ◌<◌, arith}
 use Rattle.binary_heap.specs.Entry.{entries_in}
 use Rattle.completion.specs.Lent.{its_rules}
 use Rattle.completion.proofs.Summing.{counted-few}

@@ -1,5 +1,4 @@
-use native.Mathlib.Omega.{arith}
-use mathlib.Core.Path.{◌∙◌}
+use Rattle.std.proofs.Common.{arith, ◌∙◌}
 use Rattle.grammar.specs.inner.Decoded.{first_in}
 use Rattle.completion.specs.Lent.{its_rules}
 use Rattle.completion.proofs.Waiting.{rules-length, rule-left, rule-first, waits-same}
