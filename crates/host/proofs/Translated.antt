@@ -1,24 +1,15 @@
--- The translator's cases in the host's words.
-use mathlib.Core.Path.{◌≡◌, refl, sym, ap, subst, ◌∙◌}
-use mathlib.Core.Bool.{Bool}
-use mathlib.Core.List.{List}
-use Prim.Native.Nat.{ℕ}
+-- The translator's answers in the host's words.
+use Rattle.std.proofs.Common.{◌≡◌, refl, sym, ap, ◌∙◌, Bool, true, false, List, ℕ}
+use mir.Val.{bool_byte}
 use Rattle.laws.specs.Counts.{once}
 use Rattle.written.specs.Answers.{Answer}
 use Rattle.written.proofs.Agreeing.{answers_agree}
-use Rattle.translation.specs.declared.Translated.{Translated}
-use Rattle.translation.specs.declared.Translated.TheVariants.{Done}
-use Rattle.translation.specs.Answers.{answer_of}
 use Rattle.host.specs.Translating.{Tells, TranslatesIn}
 
--- Done, once the case is known.
-pub tells_done : {told : Translated} (length : ℕ) (empty : Bool) (l e word : ℕ) → told ≡ Done length empty → word ≡ once empty → Tells (answer_of told) l e 0 length word
-tells_done length empty l e word is w =
-    subst (λ (t : Translated). Tells (answer_of t) l e 0 length word) (sym is) (subst (Tells (Answer.done length empty) l e 0 length) (sym w) (Tells.done length empty))
-
--- A refusal, once it is known which.
-pub tells-refused : {told : Translated} (known : Translated) (number l e : ℕ) → told ≡ known → answer_of known ≡ Answer.refused number → Tells (answer_of told) l e number l e
-tells-refused known number l e is n = subst (λ (a : Answer). Tells a l e number l e) (sym (ap answer_of is ∙ n)) (Tells.refused number)
+-- A yes or no as a word.
+pub once-byte : (b : Bool) → bool_byte b ≡ once b
+once-byte true = refl
+once-byte false = refl
 
 -- What the words hold, by the answer.
 abbrev number_in : Answer → ℕ
