@@ -1,10 +1,10 @@
 -- A call on the words within the capacities, which are lent in parts, leaves the words past them.
 use mathlib.Core.Path.{◌≡◌, sym, ap, ◌∙◌}
 use mathlib.Core.List.{List}
-use Prim.Native.Nat.{ℕ, ◌+◌, ◌*◌, ◌≤◌}
+use Prim.Native.Nat.{ℕ, ◌+◌, ◌*◌, ◌≤◌, ◌<◌}
 use native.Mathlib.Omega.{arith}
 use lib.ListN.{length, take, drop}
-use lib.Seq.{length_front}
+use lib.Seq.{length_front, length-take-le}
 use Rattle.bits.specs.Width.{row_words}
 use Rattle.item.specs.Item.{item_words}
 use Rattle.binary_heap.specs.Entry.{entry_words}
@@ -13,6 +13,8 @@ use Rattle.parse.specs.declared.State.{State}
 use Rattle.parse.specs.Words.{Words, item_room, set_room, queue_room, store_room, within, beyond, behind}
 use Rattle.parse.specs.WellFormed.{WellFormed}
 use Rattle.parse.proofs.Capacities.{SameSizes, sets-room}
+use Rattle.recognizer.specs.declared.within.Ends.{Ends}
+use Rattle.recognizer.specs.inner.Cuts.{Measures}
 use Rattle.demands.specs.Steps.{Outcome}
 use Rattle.demands.specs.Calls.{in_place}
 
@@ -33,40 +35,70 @@ place_sizes w v same = record {
   store = length_front w.store v.store (store_room w) same.store;
 }
 
--- The first words, for `i` items, `e` sets, `q` queue entries and `u` units, and what came of them in their place.
-abbrev pub first : Words → ℕ → ℕ → ℕ → ℕ → Words
-first w i e q u =
+-- The first words, as many as `e` tells, and what came of them in their place.
+abbrev pub first : Words → Ends → Words
+first w e =
     record {
-      items = take (item_words * i) w.items;
-      starts = take (e + 1) w.starts;
-      rows = take (row_words * e) w.rows;
-      queue = take (entry_words * q) w.queue;
-      store = take u w.store;
+      items = take e.items w.items;
+      starts = take e.starts w.starts;
+      rows = take e.rows w.rows;
+      queue = take e.queue w.queue;
+      store = take e.store w.store;
     }
 
-abbrev pub put_back : Words → ℕ → ℕ → ℕ → ℕ → Words → Words
-put_back w i e q u v =
+abbrev pub put_back : Words → Ends → Words → Words
+put_back w e v =
     behind v
     (record {
-      items = drop (item_words * i) w.items;
-      starts = drop (e + 1) w.starts;
-      rows = drop (row_words * e) w.rows;
-      queue = drop (entry_words * q) w.queue;
-      store = drop u w.store;
+      items = drop e.items w.items;
+      starts = drop e.starts w.starts;
+      rows = drop e.rows w.rows;
+      queue = drop e.queue w.queue;
+      store = drop e.store w.store;
     })
 
-abbrev pub replaced : Words → ℕ → ℕ → ℕ → ℕ → Outcome → Outcome
-replaced w i e q u o = record { number = o.number; state = o.state; words = put_back w i e q u o.words }
+abbrev pub replaced : Words → Ends → Outcome → Outcome
+replaced w e o = record { number = o.number; state = o.state; words = put_back w e o.words }
 
-module _ (w : Words) {i e q u : ℕ} (items : i ≡ item_room w) (sets : e ≡ set_room w) (queued : q ≡ queue_room w) (units : u ≡ store_room w) where
+module _ (w : Words) (e : Ends) (m : Measures w e) where
+  -- The ends within the capacities.
+  abbrev own : Ends
+  own =
+      record {
+        items = item_words * item_room w;
+        starts = set_room w + 1;
+        rows = row_words * set_room w;
+        queue = entry_words * queue_room w;
+        store = store_room w;
+      }
+
+  measured : e ≡ own
+  measured = λ k. record { items = m.items k; starts = m.starts k; rows = m.rows k; queue = m.queue k; store = m.store k }
+
   -- As many as there is room for are the words within the capacities, ..
-  pub first-within : within w ≡ first w i e q u
-  first-within = λ k. first w (sym items k) (sym sets k) (sym queued k) (sym units k)
+  pub first-within : within w ≡ first w e
+  first-within = ap (first w) (sym measured)
 
   -- .. and what comes of those is put in their place.
-  pub replaced_place : (f : Words → Outcome) (o : Outcome) → o ≡ f (first w i e q u) → replaced w i e q u o ≡ in_place w (f (within w))
-  replaced_place f o came = ap (replaced w i e q u) came ∙ (λ k. replaced w (items k) (sets k) (queued k) (units k) (f (first w (items k) (sets k) (queued k) (units k))))
+  pub replaced_place : (f : Words → Outcome) (o : Outcome) → o ≡ f (first w e) → replaced w e o ≡ in_place w (f (within w))
+  replaced_place f o came = ap (replaced w e) came ∙ ap (λ (x : Ends). replaced w x (f (first w x))) measured
 
   -- The same of words alone.
-  pub put_back_place : (f : Words → Words) (v : Words) → v ≡ f (first w i e q u) → put_back w i e q u v ≡ behind (f (within w)) (beyond w)
-  put_back_place f v came = ap (put_back w i e q u) came ∙ (λ k. put_back w (items k) (sets k) (queued k) (units k) (f (first w (items k) (sets k) (queued k) (units k))))
+  pub put_back_place : (f : Words → Words) (v : Words) → v ≡ f (first w e) → put_back w e v ≡ behind (f (within w)) (beyond w)
+  put_back_place f v came = ap (put_back w e) came ∙ ap (λ (x : Ends). put_back w x (f (first w x))) measured
+
+  -- They are there, where there is room for a set.
+  pub cut_items : length (take e.items w.items) ≡ e.items
+  cut_items = length-take-le e.items w.items (omega (arith, m.items))
+
+  pub cut_starts : 0 < set_room w → length (take e.starts w.starts) ≡ e.starts
+  cut_starts some = length-take-le e.starts w.starts (omega (arith, m.starts))
+
+  pub cut_rows : length (take e.rows w.rows) ≡ e.rows
+  cut_rows = length-take-le e.rows w.rows (omega (arith, m.rows))
+
+  pub cut_queue : length (take e.queue w.queue) ≡ e.queue
+  cut_queue = length-take-le e.queue w.queue (omega (arith, m.queue))
+
+  pub cut_store : length (take e.store w.store) ≡ e.store
+  cut_store = length-take-le e.store w.store (omega (arith, m.store))

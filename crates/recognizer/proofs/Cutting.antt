@@ -1,70 +1,22 @@
 -- Laws of the words within the capacities, as the calls cut them off.
-use mathlib.Core.Path.{◌≡◌, refl, sym, ap, subst, ◌∙◌}
+use mathlib.Core.Path.{◌≡◌, sym, ap, ◌∙◌}
 use mathlib.Core.Bool.{Bool, true, false, ◌&&◌}
-use mathlib.Core.List.{List, [], ◌∷◌, ◌++◌}
-use Prim.Native.Nat.{ℕ, zero, suc, ◌+◌, ◌-◌, ◌*◌, ◌/◌, ◌≤◌, ◌<◌}
+use mathlib.Core.List.{List}
+use Prim.Native.Nat.{ℕ, zero, suc, ◌+◌, ◌-◌, ◌*◌, ◌≤◌, ◌<◌}
 use native.Mathlib.Omega.{arith}
-use lib.ListN.{length, get_or, set, take, drop, replicate, length-append, length-drop, length-replicate, take-append-drop}
+use lib.ListN.{length, get_or, take, drop, length-drop, take-append-drop}
 use lib.Seq.{length-take-le, get_or-take, drop-append-le, take-append-le}
 use lib.Dec.{eqb, ltb}
 use borrow.Author.Tests.{lt-ltb, le-ltb, ltb-true}
-use Rattle.bits.specs.Width.{row_words}
 use Rattle.item.specs.Item.{item_words, rule_at, handle_at}
 use Rattle.grammar.specs.Rules.{Rule}
 use Rattle.parse.specs.declared.State.{State}
-use Rattle.parse.specs.Words.{Words, item_room, set_room, set_room_of, queue_room, store_room, store_room_of, within, start_of}
+use Rattle.parse.specs.Words.{Words, item_room, set_room, within, start_of}
 use Rattle.parse.specs.WellFormed.{WellFormed}
-use Rattle.laws.specs.Decides.{Decides}
 use Rattle.laws.proofs.Tests.{both_true}
-use Rattle.node.specs.Writing.{usable_units}
 use Rattle.parse.proofs.Capacities.{items-within, rows-within}
 use Rattle.demands.specs.Steps.{last_wraps, latest_part}
 use Rattle.recognizer.specs.inner.Cuts.{LatestThere, last_wraps_in, latest_part_in}
-use Rattle.recognizer.proofs.Carving.{first, first-within}
-
--- One word more cleared at the front.
-cleared_suc : (l : List ℕ) (i : ℕ) → i < length l → set (replicate i 0 ++ drop i l) i 0 ≡ replicate (suc i) 0 ++ drop (suc i) l
-cleared_suc [] i there = absurd (omega arith)
-cleared_suc (x ∷ l) zero there = refl
-cleared_suc (x ∷ l) (suc i) there = ap (λ (r : List ℕ). 0 ∷ r) (cleared_suc l i (omega arith))
-
--- A loop that clears the words before `end`: those before `i` are cleared, and the others as they were.
-pub record Clearing (words₀ : List ℕ) (end i : ℕ) (words : List ℕ) : Type 0 where
-  pub there : end ≤ length words₀
-  pub up_to : i ≤ end
-  pub is : words ≡ replicate i 0 ++ drop i words₀
-
-module _ (words₀ : List ℕ) (end : ℕ) where
-  -- At first none is cleared, ..
-  pub clearing_start : end ≤ length words₀ → Clearing words₀ end 0 words₀
-  clearing_start there = record { there = there; up_to = omega arith; is = refl }
-
-  module _ (i : ℕ) (words : List ℕ) (clearing : Clearing words₀ end i words) where
-    -- No word is added.
-    pub clearing_long : length words ≡ length words₀
-    clearing_long =
-        ap length clearing.is
-        ∙ omega (arith, length-append (replicate i 0) (drop i words₀), length-replicate {A = ℕ} i 0, length-drop i words₀, clearing.there, clearing.up_to)
-
-    -- .. a turn clears one more, ..
-    pub clearing_next : i < end → Clearing words₀ end (i + 1) (set words i 0)
-    clearing_next more = record {
-      there = clearing.there;
-      up_to = omega arith;
-      is =
-          ap (λ (l : List ℕ). set l i 0) clearing.is ∙ cleared_suc words₀ i (omega (arith, clearing.there))
-          ∙ ap (λ (k : ℕ). replicate k 0 ++ drop k words₀) next;
-    }
-      where
-        next : suc i ≡ i + 1
-        next = omega arith
-
-    -- .. and at the end all before `end` are.
-    pub clearing_ends : end ≤ i → words ≡ replicate end 0 ++ drop end words₀
-    clearing_ends stop = clearing.is ∙ ap (λ (k : ℕ). replicate k 0 ++ drop k words₀) all
-      where
-        all : i ≡ end
-        all = omega (arith, clearing.up_to)
 
 -- A part of what is cut off is that part of the whole.
 pub cut-part : (l : List ℕ) (m n k : ℕ) → m ≤ length l → n + k ≤ m → take k (drop n l) ≡ take k (drop n (take m l))
@@ -72,15 +24,6 @@ cut-part l m n k long inside =
     ap (λ (r : List ℕ). take k (drop n r)) (sym (take-append-drop m l))
     ∙ ap (take k) (drop-append-le n (take m l) (drop m l) (omega (arith, length-take-le m l long)))
     ∙ take-append-le k (drop n (take m l)) (drop m l) (omega (arith, length-take-le m l long, length-drop n (take m l)))
-
--- Words cut at the room for sets have a start more than rows.
-pub cut-sets : (starts rows : List ℕ) (e : ℕ) → e ≡ set_room_of starts rows → (e ≡ 0 → ⊥) → length (take (e + 1) starts) ≡ length (take (row_words * e) rows) / row_words + 1
-cut-sets starts rows e is some =
-    omega (arith, is, some, length-take-le (e + 1) starts (omega (arith, is, some)), length-take-le (row_words * e) rows (omega (arith, is)))
-
--- A store cut at the room for units is usable.
-pub cut-units : (store : List ℕ) (u : ℕ) → u ≡ store_room_of store → length (take u store) ≤ usable_units
-cut-units store u is = omega (arith, is, length-take-le u store (omega (arith, is)))
 
 -- Whether the last item of the latest set has rule 0, from the words that are read.
 module _ (s : State) (items starts : List ℕ) (start : ℕ) (read : start ≡ get_or starts s.set 0) where
@@ -105,11 +48,6 @@ module _ (n : ℕ) (rs : List Rule) (s : State) (w : Words) where
   -- Words without room for a set hold no well-formed state.
   pub no_room : set_room w ≡ 0 → WellFormed n rs s (within w) → ⊥
   no_room none well = omega (arith, none, well.set_fits, rows-within w)
-
-  -- What is told of words cut at the capacities is told of the words within them.
-  pub tells-within : (answer : Bool) (i e q u : ℕ) → i ≡ item_room w → e ≡ set_room w → q ≡ queue_room w → u ≡ store_room w
-      → Decides answer (WellFormed n rs s (first w i e q u)) → Decides answer (WellFormed n rs s (within w))
-  tells-within answer i e q u is es qs us tells = subst (λ (v : Words). Decides answer (WellFormed n rs s v)) (sym (first-within w is es qs us)) tells
 
   module _ (well : WellFormed n rs s (within w)) where
     -- The latest set is one of the sets that there is room for.

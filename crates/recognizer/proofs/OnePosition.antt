@@ -1,7 +1,6 @@
 -- What the steps of one position leave in the words, as the code goes about them.
 use mathlib.Core.Path.{◌≡◌, refl, sym, ap, ap₂, ◌∙◌, subst}
 use mathlib.Core.Bool.{Bool, true, false}
-use mathlib.Core.Logic.{inl, inr}
 use mathlib.Core.List.{List, ◌++◌}
 use Prim.Native.Nat.{ℕ, ◌+◌, ◌*◌, ◌/◌, ◌≤◌, ◌<◌}
 use native.Mathlib.Decide.{dec_lt}
@@ -14,8 +13,8 @@ use Rattle.item.specs.Item.{Item, item_words, flat}
 use Rattle.binary_heap.specs.Entry.{Entry, entry_words, entries_in}
 use Rattle.binary_heap.specs.Sift.{entry_at}
 use Rattle.binary_heap.proofs.Held.{none_held}
-use Rattle.grammar.specs.Rules.{Grammar, Rule, none}
-use Rattle.grammar.specs.inner.Decoded.{rules_in, Chained}
+use Rattle.grammar.specs.Rules.{Grammar, Rule}
+use Rattle.grammar.specs.inner.Decoded.{rules_of, decoded, Chained}
 use Rattle.grammar.proofs.Decoding.{in_count}
 use Rattle.grammar.proofs.Facts.{second-low}
 use Rattle.parse.specs.declared.State.{State}
@@ -28,30 +27,28 @@ use Rattle.completion.proofs.Waiting.{rule-second}
 use Rattle.completion.proofs.Onward.{onward_take, units_onward}
 use Rattle.completion.proofs.Pending.{pending_steady}
 use Rattle.completion.proofs.Scanning.{steady_scan_all, pending_scan_all}
-use Rattle.completion.proofs.Refusals.{Ends}
 use Rattle.completion.proofs.Beginning.{beginning, start_fits, is_set, begins_pending, begins_spare, accepted_grounds, accepted-rules_fit}
 use Rattle.completion.proofs.Passed.{Passed, position_passed, passed_queue, passed_spare}
 use Rattle.advance.specs.inner.Advances.{lent, has_room, advance_answer, without_new, advance_words, Advances}
 use Rattle.advance.specs.Advance.{next_state, next_words, last_kept, predictions}
-use Rattle.advance.specs.declared.Advanced.{Advanced}
-use Rattle.advance.specs.declared.Advanced.TheVariants as answers
+use Rattle.std.specs.Prelude.{Option, Some, None}
 use Rattle.advance.specs.inner.Ready.{Advanceable}
 use Rattle.parse.proofs.Padded.{padded_ext, padded-length, padded-word, filled-behind}
 use Rattle.advance.proofs.Advancing.{answer_done, answer-refused, words_done, words-refused}
 use Rattle.advance.proofs.Steps.{without_new_lem, ready, ready_lent, ready_used, advances_whole}
-use Rattle.recognizer.specs.declared.Sizes.{Sizes}
+use Rattle.grammar.specs.declared.Grammar as held
 use Rattle.demands.specs.Positions.{is_position}
 use Rattle.demands.specs.Steps.{Outcome, scanned, completed, with_nodes, stepped}
-use Rattle.recognizer.specs.inner.Steppable.{grammar_from, Steppable, FullAt}
+use Rattle.recognizer.specs.inner.Steppable.{Steppable}
 use Rattle.demands.proofs.Positions.{Predicted, position_scannable, position-fits}
 use Rattle.demands.proofs.Ways.{kept_of, new_of, reach_of, kept, is_full, is_no_room, is_done}
 
-module _ (rules : List ℕ) (sizes : Sizes) (table : List (List ℕ)) (s : State) (v : Words) (can : Steppable (grammar_from rules sizes) table s v) (kinds : List ℕ) where
+module _ (gr : held.Grammar) (table : List (List ℕ)) (s : State) (v : Words) (can : Steppable (decoded gr) table s v) (kinds : List ℕ) where
   abbrev g : Grammar
-  g = grammar_from rules sizes
+  g = decoded gr
 
   abbrev rs : List Rule
-  rs = rules_in rules sizes.rules
+  rs = rules_of gr.rules
 
   abbrev pass : Pass
   pass = completed g s v kinds
@@ -67,7 +64,7 @@ module _ (rules : List ℕ) (sizes : Sizes) (table : List (List ℕ)) (s : State
   abbrev reached : State
   reached = record { set = s.set; items = s.items; used = pass.at.used }
 
-  well : WellFormed sizes.symbols rs s v
+  well : WellFormed gr.symbols rs s v
   well = can.well_formed
 
   begins : Pending rs v.starts (beginning s v)
@@ -83,11 +80,11 @@ module _ (rules : List ℕ) (sizes : Sizes) (table : List (List ℕ)) (s : State
   pub row_there : HasRow v.rows s.set
   row_there = record { few_sets = can.rowed.few_sets; row = omega (arith, well.set_fits) }
 
-  pub kinds_fit : is_position sizes.tokens kinds ≡ true → KindsFit kinds
-  kinds_fit = position-fits sizes.tokens kinds (omega (arith, can.accepted.room, can.accepted.few_symbols))
+  pub kinds_fit : is_position gr.tokens kinds ≡ true → KindsFit kinds
+  kinds_fit = position-fits gr.tokens kinds (omega (arith, can.accepted.room, can.accepted.few_symbols))
 
   -- What scanning the kinds asks.
-  pub scan_asks : KindsFit kinds → Chained rules sizes.rules → (RulesFit rs × Rowed v.starts v.rows × Chained rules sizes.rules) × ((IsSet v.starts s.set × KindsFit kinds) × (PassFits (beginning s v) × UnitsFit (beginning s v) × Charted rs v.starts (beginning s v)))
+  pub scan_asks : KindsFit kinds → Chained gr.rules.words gr.rules.count → (RulesFit rs × Rowed v.starts v.rows × Chained gr.rules.words gr.rules.count) × ((IsSet v.starts s.set × KindsFit kinds) × (PassFits (beginning s v) × UnitsFit (beginning s v) × Charted rs v.starts (beginning s v)))
   scan_asks fit chained = ((accepted-rules_fit g can.accepted, can.rowed, chained), ((latest, fit), (begins.sound, units_fit, begins.charted)))
 
   -- What the sums ask.
@@ -99,7 +96,7 @@ module _ (rules : List ℕ) (sizes : Sizes) (table : List (List ℕ)) (s : State
         units_onward (steady_scan_all rs v.starts v.rows s.set (beginning s v) latest kinds (beginning s v) (pending_steady (beginning s v) begins)).onward units_fit,
       )
 
-  module _ (position : is_position sizes.tokens kinds ≡ true) where
+  module _ (position : is_position gr.tokens kinds ≡ true) where
     passed : Passed rs v.starts s.set (beginning s v) pass
     passed = position_passed g can.accepted well can.few_items can.few_entries can.rowed kinds (position_scannable g can.accepted kinds position)
 
@@ -132,7 +129,7 @@ module _ (rules : List ℕ) (sizes : Sizes) (table : List (List ℕ)) (s : State
 
     pub unwritten : filled (length pass.units) (take s.used pass.units) ≡ v.store
     unwritten =
-        ap₂ filled passed.onward.unit-words same_units ∙ sym (filled-behind v.store s.used well.units_fit (record { unit = well.spare_units }))
+        ap₂ filled passed.onward.unit-words same_units ∙ sym (filled-behind v.store s.used well.units_fit (record { each = well.spare_units }))
 
     zeros_same : (q : List ℕ) → length q ≡ length v.queue → ((i : ℕ) → get_or q i 0 ≡ 0) → q ≡ v.queue
     zeros_same q long zero = ext_get_or 0 q v.queue long (λ i there. zero i ∙ sym (well.spare_queue i))
@@ -140,16 +137,6 @@ module _ (rules : List ℕ) (sizes : Sizes) (table : List (List ℕ)) (s : State
     pub cleared_queue : (q : List ℕ) → length q ≡ length v.queue → padded (length q) (take 0 q) ≡ v.queue
     cleared_queue q long =
         zeros_same (padded (length q) (take 0 q)) (padded-length (length q) (take 0 q) (omega arith) ∙ long) (λ i. padded-word (length q) (take 0 q) i)
-
-    -- A pass that was refused met full items, a full queue or a full store.
-    pub full_at : (pass.at.stopped ≡ 0 → ⊥) → FullAt pass.at.stopped
-    full_at stopped = by_end passed.ends
-      where
-        by_end : Ends pass → FullAt pass.at.stopped
-        by_end (Ends.empty going none) = absurd (stopped going)
-        by_end (Ends.full-items at full) = record { either = inl at }
-        by_end (Ends.full-queue at full) = record { either = inr (inl at) }
-        by_end (Ends.full-store at) = record { either = inr (inr at) }
 
     module _ (going : pass.at.stopped ≡ 0) where
       -- The queue is empty again, and so its words are those that were there.
@@ -164,13 +151,13 @@ module _ (rules : List ℕ) (sizes : Sizes) (table : List (List ℕ)) (s : State
       without : without_new s u ≡ v
       without =
           ap (λ (i : List ℕ). let w : Words = record { items = i; starts = v.starts; rows = v.rows; queue = v.queue; store = v.store } in w)
-          (without_new_lem s v u (omega (arith, well.items_fit)) (record { zero = well.spare_items }) passed.onward.item_words_lem (same-front (item_words * s.items) (omega arith)))
+          (without_new_lem s v u (omega (arith, well.items_fit)) (record { each = well.spare_items }) passed.onward.item_words_lem (same-front (item_words * s.items) (omega arith)))
 
       -- What the advance asks.
-      asks : Advanceable rules sizes.rules table s u pass.at.items
+      asks : Advanceable gr.rules.words gr.rules.count table s u pass.at.items
       asks =
-          let count : length rs ≡ sizes.rules = in_count rules 0 0 sizes.rules in
-          ready sizes.symbols rules sizes.rules table s u pass.at.items (subst (WellFormed sizes.symbols rs s) (sym without) well) can.rowed.sets
+          let count : length rs ≡ gr.rules.count = in_count gr.rules.words 0 0 gr.rules.count in
+          ready gr.symbols gr.rules.words gr.rules.count table s u pass.at.items (subst (WellFormed gr.symbols rs s) (sym without) well) can.rowed.sets
           (record {
             few = omega (arith, count, can.accepted.few_rules);
             runs = passed.onward.more-items;
@@ -179,19 +166,19 @@ module _ (rules : List ℕ) (sizes : Sizes) (table : List (List ℕ)) (s : State
           })
           (omega (arith, passed.sound.items_fit, passed.sound.few_items))
           passed.origins
-          (record { zero = passed_spare passed well.spare_items })
+          (record { each = passed_spare passed well.spare_items })
           (λ r there two.
           omega (
             arith,
-            second-low g can.accepted r (omega (arith, count)) (λ e. two (rule-second rules sizes.rules r there ∙ e)),
-            rule-second rules sizes.rules r there,
+            second-low g can.accepted r (omega (arith, count)) (λ e. two (rule-second gr.rules.words gr.rules.count r there ∙ e)),
+            rule-second gr.rules.words gr.rules.count r there,
             can.accepted.few_symbols,
           ))
           can.shape
 
-      pub advance_asks : Advanceable rules sizes.rules table reached (lent pass.items v.starts v.rows) pass.at.items
-      advance_asks = ready_used rules sizes.rules table s pass.at.used (lent pass.items v.starts v.rows) pass.at.items
-          (ready_lent rules sizes.rules table s u pass.at.items asks)
+      pub advance_asks : Advanceable gr.rules.words gr.rules.count table reached (lent pass.items v.starts v.rows) pass.at.items
+      advance_asks = ready_used gr.rules.words gr.rules.count table s pass.at.used (lent pass.items v.starts v.rows) pass.at.items
+          (ready_lent gr.rules.words gr.rules.count table s u pass.at.items asks)
 
       -- Before the new items the words are those that were there.
       next-same : (k m : ℕ) (new : List Item) (row : List ℕ) → start_of v (last_kept k m + 1) ≤ s.items → next_words k m w new row ≡ next_words k m (with_nodes pass.units v) new row
@@ -205,24 +192,24 @@ module _ (rules : List ℕ) (sizes : Sizes) (table : List (List ℕ)) (s : State
           } in w)
           passed.onward.item_words_lem (same-front (item_words * start_of v (last_kept k m + 1)) (omega arith))
 
-      module _ (there : Predicted s v kinds) (r : Advanced) (items starts rows : List ℕ)
+      module _ (there : Predicted s v kinds) (r : Option State) (items starts rows : List ℕ)
           (advances : Advances rs table reached (lent pass.items v.starts v.rows) pass.at.items r (lent items starts rows)) where
         abbrev after : Words
         after = record { items = items; starts = starts; rows = rows; queue = v.queue; store = pass.units }
 
         whole : (r ≡ advance_answer rs reached w pass.at.items) × (after ≡ advance_words rs table reached w pass.at.items)
         whole =
-            advances_whole rules sizes.rules table reached w pass.at.items r items starts rows
-            (record { zero = λ i from. well.spare_queue i }) advances
+            advances_whole gr.rules.words gr.rules.count table reached w pass.at.items r items starts rows
+            (record { each = λ i from. well.spare_queue i }) advances
 
         -- No room for the new set: 9. What was written becomes fillers again.
-        pub advance_refused : r ≡ answers.Refused → (store : List ℕ) → store ≡ filled (length pass.units) (take s.used pass.units)
+        pub advance_refused : r ≡ None → (store : List ℕ) → store ≡ filled (length pass.units) (take s.used pass.units)
             → record { number = 9; state = s; words = with_nodes store after } ≡ stepped g table s v kinds
         advance_refused no_room store is = by_room (has_room rs reached w pass.at.items) refl
           where
             by_room : (b : Bool) → has_room rs reached w pass.at.items ≡ b → record { number = 9; state = s; words = with_nodes store after } ≡ stepped g table s v kinds
             by_room true room =
-                let both : answers.Refused ≡ answers.Done (next_state pass.at.used (kept_of g s v kinds) w (new_of g s v kinds)) =
+                let both : None ≡ Some (next_state pass.at.used (kept_of g s v kinds) w (new_of g s v kinds)) =
                 sym no_room ∙ whole.0 ∙ answer_done rs table reached w pass.at.items room in
                 let z : ◌≡◌ {A = ℕ} 0 1 = cc in
                 absurd (omega arith)
@@ -232,16 +219,16 @@ module _ (rules : List ℕ) (sizes : Sizes) (table : List (List ℕ)) (s : State
                 ∙ sym (is_no_room g table s v kinds position there going (ltb-false (kept_of g s v kinds + 1) (length v.rows / row_words) room))
 
         -- The new set is the latest.
-        pub advance_done : (next : State) → r ≡ answers.Done next → record { number = 0; state = next; words = after } ≡ stepped g table s v kinds
+        pub advance_done : (next : State) → r ≡ Some next → record { number = 0; state = next; words = after } ≡ stepped g table s v kinds
         advance_done next done = by_room (has_room rs reached w pass.at.items) refl
           where
             by_room : (b : Bool) → has_room rs reached w pass.at.items ≡ b → record { number = 0; state = next; words = after } ≡ stepped g table s v kinds
             by_room false room =
-                let both : answers.Done next ≡ answers.Refused = sym done ∙ whole.0 ∙ answer-refused rs table reached w pass.at.items room in
+                let both : Some next ≡ None = sym done ∙ whole.0 ∙ answer-refused rs table reached w pass.at.items room in
                 let z : ◌≡◌ {A = ℕ} 0 1 = cc in
                 absurd (omega arith)
             by_room true room =
-                let both : answers.Done next ≡ answers.Done (next_state pass.at.used (kept_of g s v kinds) w (new_of g s v kinds)) =
+                let both : Some next ≡ Some (next_state pass.at.used (kept_of g s v kinds) w (new_of g s v kinds)) =
                 sym done ∙ whole.0 ∙ answer_done rs table reached w pass.at.items room in
                 let same : next ≡ next_state pass.at.used (kept_of g s v kinds) w (new_of g s v kinds) = cc in
                 let row = predictions rs table (new_of g s v kinds) in

@@ -7,35 +7,25 @@ use Rattle.bits.specs.Width.{row_words}
 use Rattle.grammar.specs.Rules.{Grammar}
 use Rattle.grammar.specs.Prediction.{Predicts}
 use Rattle.parse.specs.declared.State.{State}
-use Rattle.parse.specs.Words.{Words, set_room, within, beyond, behind}
+use Rattle.parse.specs.declared.Words.{Words as Lent}
+use Rattle.parse.specs.Words.{Kept, Words, set_room, within, beyond, behind}
 use Rattle.parse.proofs.Capacities.{SameSizes, split-whole, within_new, beyond-new}
 use Rattle.earley.specs.Positions.{Positions}
-use Rattle.demands.specs.Positions.{is_position}
 use Rattle.demands.specs.Steps.{Outcome, Ended, stepped, ran}
 use Rattle.demands.specs.Calls.{in_place, in_place_ended}
 use Rattle.recognizer.specs.inner.Steppable.{Steppable}
 use Rattle.recognizer.specs.declared.Refusal.{Refusal}
-use Rattle.recognizer.specs.declared.Refusal.TheVariants.{Malformed, Broken, NoSets, IllFormed, NoToken, NotPredicted, ItemsFull, QueueFull, SetsFull, StoreFull}
-use Rattle.recognizer.specs.declared.Answer.{Answer}
-use Rattle.recognizer.specs.declared.Answer.TheVariants.{Done, Refused}
-use Rattle.recognizer.specs.Answers.{refusal_number, outcome_of, ended_of}
+use Rattle.recognizer.specs.Answers.{outcome_of, ended_of}
+use Rattle.recognizer.proofs.Answered.{number-some}
+use Rattle.std.specs.Prelude.{Some, None, Result, Ok, Err}
 use Rattle.recognizer.proofs.Carving.{some-set, place_sizes}
 use Rattle.demands.proofs.Cut.{Cut, cut-same, sizes_refl, sizes_trans}
 use Rattle.demands.proofs.Refusing.{step_sizes, step_well}
 use Rattle.demands.proofs.Running.{ran_on, ran_off}
 
--- A refusal's number is not 0.
-pub number-some : (why : Refusal) → refusal_number why ≡ 0 → ⊥
-number-some Malformed e = omega arith
-number-some Broken e = omega arith
-number-some NoSets e = omega arith
-number-some IllFormed e = omega arith
-number-some NoToken e = omega arith
-number-some NotPredicted e = omega arith
-number-some ItemsFull e = omega arith
-number-some QueueFull e = omega arith
-number-some SetsFull e = omega arith
-number-some StoreFull e = omega arith
+-- Words that are still the host's stay so.
+pub kept_on : (a b c : Lent) → Kept a b → Kept b c → Kept a c
+kept_on a b c p q = (q.0 ∙ p.0, q.1 ∙ p.1, q.2 ∙ p.2, q.3 ∙ p.3, q.4 ∙ p.4)
 
 -- `n` positions before a run.
 abbrev pub before : ℕ → Ended → Ended
@@ -72,7 +62,7 @@ going_first {g} {table} {s} {w} a h = record {
 module _ {g : Grammar} {table : List (List ℕ)} {s₀ : State} {w₀ : Words} {a : Positions} {s : State} {w : Words} {n : ℕ} {rest : Positions}
     (h : Going g table s₀ w₀ a s w n rest) where
   -- The run ends with the positions.
-  pub going_end : rest ≡ [] → ended_of (record { answer = Done s; taken = n }) w ≡ in_place_ended w₀ (ran g table s₀ (within w₀) a)
+  pub going_end : rest ≡ [] → ended_of (record { state = s; taken = n; stopped = None }) w ≡ in_place_ended w₀ (ran g table s₀ (within w₀) a)
   unfolding ran
   going_end none =
       (λ k. record { outcome = record { number = 0; state = s; words = sym (split-whole w) k }; taken = none_behind n k })
@@ -145,22 +135,16 @@ module _ {g : Grammar} {table : List (List ℕ)} {s₀ : State} {w₀ : Words} {
           counts : n + 1 + (left after.words).taken ≡ n + ((left after.words).taken + 1)
           counts = omega arith
 
-    module _ {r : Answer} {left : Words} (came : outcome_of r left ≡ in_place w after) where
-      comes : {r' : Answer} → r ≡ r' → outcome_of r' left ≡ in_place w after
-      comes is = ap (λ (x : Answer). outcome_of x left) (sym is) ∙ came
+    module _ {r : Result State Refusal} {left : Words} (came : outcome_of s r left ≡ in_place w after) where
+      comes : {r' : Result State Refusal} → r ≡ r' → outcome_of s r' left ≡ in_place w after
+      comes is = ap (λ (x : Result State Refusal). outcome_of s x left) (sym is) ∙ came
 
-      pub going_off : {why : Refusal} {kept : State} → r ≡ Refused why kept
-          → ended_of (record { answer = Refused why kept; taken = n }) left ≡ in_place_ended w₀ (ran g table s₀ (within w₀) a)
-      going_off {why} {kept} is = off (outcome_of (Refused why kept) left) (comes is) (number-some why)
+      pub going_off : {why : Refusal} → r ≡ Err why
+          → ended_of (record { state = s; taken = n; stopped = Some why }) left ≡ in_place_ended w₀ (ran g table s₀ (within w₀) a)
+      going_off {why} is = off (outcome_of s (Err why) left) (comes is) (number-some why)
 
       -- It goes on behind a position that is accepted.
-      pub going_on : Predicts g row_words table → {s' : State} → r ≡ Done s' → Going g table s₀ w₀ a s' left (n + 1) others
+      pub going_on : Predicts g row_words table → {s' : State} → r ≡ Ok s' → Going g table s₀ w₀ a s' left (n + 1) others
       going_on predicts {s'} is =
-          let here : outcome_of (Done s') left ≡ in_place w after = comes is in
+          let here : outcome_of s (Ok s') left ≡ in_place w after = comes is in
           subst (λ (p : Outcome). Going g table s₀ w₀ a p.state p.words (n + 1) others) (sym here) (on predicts (sym (ap (λ (p : Outcome). p.number) here)))
-
-  -- A position of no kind is refused as no token is, and leaves everything as it was.
-  pub going_cut : {others : Positions} → rest ≡ [] ∷ others
-      → ended_of (record { answer = Refused NoToken s; taken = n }) w ≡ in_place_ended w₀ (ran g table s₀ (within w₀) a)
-  unfolding stepped is_position
-  going_cut next = off next (outcome_of (Refused NoToken s) w) (ap (λ (v : Words). outcome_of (Refused NoToken s) v) (sym (split-whole w))) (number-some NoToken)

@@ -2,3 +2,4 @@
 pub mod Steppable
 pub mod Cuts
 pub mod Opening
+pub mod Reading

@@ -1,24 +1,20 @@
 // The steps of a position on a well-formed state, in words within the capacities.
-ghost use Rattle.std.specs.Prelude.{◌≡◌, ◌*◌, ◌≤◌, length, take};
+ghost use Rattle.std.specs.Prelude.{◌≡◌, List, ℕ, ◌*◌, ◌≤◌, length, take};
 ghost use Rattle.item.specs.Item.{item_words};
-ghost use Rattle.grammar.specs.inner.Decoded.{Chained};
-ghost use Rattle.completion.specs.Pass.{pass_over};
+ghost use Rattle.grammar.specs.inner.Decoded.{decoded, Chained};
 ghost use Rattle.completion.specs.inner.Ready.{HasRow, KindsFit};
 ghost use Rattle.demands.specs.Positions.{is_position, any_predicted};
 ghost use Rattle.demands.specs.Steps.{completed, stepped};
-ghost use Rattle.recognizer.specs.Answers.{refusal_number, outcome_of};
+ghost use Rattle.recognizer.specs.Answers.{outcome_of};
 ghost use Rattle.parse.specs.Words.{words_of, padded, filled};
-ghost use Rattle.recognizer.specs.inner.Steppable.{grammar_from, Steppable, FullAt};
+ghost use Rattle.recognizer.specs.inner.Steppable.{Steppable, CameTo};
 
-use crate::{Answer, Refusal, Sizes};
-use advance::Advanced;
-use completion::Progress;
-use completion::pass::{ITEMS_FULL, QUEUE_FULL};
-use completion::scan::scan_all;
-use completion::sums::complete_all_sums_entirely;
-use grammar::rules::Rules;
+use crate::Refusal;
+use completion::pass::{Full, Pass};
+use grammar::Grammar;
 use item::ITEM_WORDS;
 use parse::State;
+use parse::padding::FILLER;
 use prediction::Table;
 
 // Whether there is a kind, each is greater than the one before it, and the last is a token.
@@ -50,11 +46,16 @@ fn any_predicted(rows: &[u64], e: usize, kinds: &[u16]) -> bool
     false
 }
 
+// How many items and used units there are behind the pass of a position.
+#[derive(Clone, Copy)]
+struct Reached {
+    items: usize,
+    used: usize,
+}
+
 // Steps 2 and 3: completes the latest set and each kind that is predicted, and then sum after sum.
 fn complete_position(
-    rules: &Rules,
-    sizes: Sizes,
-    table: &Table,
+    grammar: &Grammar,
     state: State,
     items: &mut [u32],
     starts: &[u32],
@@ -62,24 +63,36 @@ fn complete_position(
     queue: &mut [u32],
     store: &mut [u16],
     kinds: &[u16],
-) -> Progress
-    requires { Steppable (grammar_from rules.now sizes) table.now state
-        (words_of items.old starts.now rows.now queue.old store.old) × KindsFit kinds.now × Chained rules.now sizes.rules }
-    ensures { pass_over result items.new queue.new store.new
-        ≡ completed (grammar_from rules.now sizes) state
-        (words_of items.old starts.now rows.now queue.old store.old) kinds.now }
+) -> Result<Reached, Full>
+    requires { (table : List (List ℕ)) × Steppable (decoded grammar.now) table state
+        (words_of items.old starts.now rows.now queue.old store.old) × KindsFit kinds.now × Chained grammar.now.rules.words grammar.now.rules.count }
+    ensures { CameTo result items.new queue.new store.new
+        (completed (decoded grammar.now) state
+        (words_of items.old starts.now rows.now queue.old store.old) kinds.now) }
 {
-    let count = sizes.rules;
-    let begun = Progress {
-        stopped: 0,
-        items: state.items,
+    let mut pass = Pass {
+        rules: &grammar.rules,
+        starts,
+        rows,
+        items,
+        queue,
+        store,
+        stored: state.items,
         queued: 0,
         used: state.used,
     };
-    let scanned = scan_all(
-        rules, count, items, starts, rows, queue, store, state.set, kinds, begun,
-    );
-    complete_all_sums_entirely(rules, count, items, starts, rows, queue, store, scanned)
+    let completed = match pass.scan_all(kinds, state.set) {
+        Ok(()) => pass.complete_all_sums_entirely(),
+        Err(full) => Err(full),
+    };
+    let reached = Reached {
+        items: pass.stored,
+        used: pass.used,
+    };
+    match completed {
+        Ok(()) => Ok(reached),
+        Err(full) => Err(full),
+    }
 }
 
 // Makes fillers of the units that a refused position wrote.
@@ -87,8 +100,7 @@ fn unwrite(store: &mut [u16], used: usize)
     requires { used ≤ length store.old }
     ensures { store.new ≡ filled (length store.old) (take used store.old) }
 {
-    let units = store.len();
-    parse::words::fill(store, used, units);
+    store[used..].fill(FILLER);
 }
 
 // Clears what a refused pass stored and queued, and what it wrote.
@@ -99,31 +111,14 @@ fn give_up(items: &mut [u32], queue: &mut [u32], store: &mut [u16], stored: usiz
     ensures queue { queue.new ≡ padded (length queue.old) (take 0 queue.old) }
     ensures store { store.new ≡ filled (length store.old) (take used store.old) }
 {
-    let item_words = items.len();
-    parse::words::clear(items, ITEM_WORDS * stored, item_words);
-    let entries = queue.len();
-    parse::words::clear(queue, 0, entries);
+    items[ITEM_WORDS * stored..].fill(0);
+    queue.fill(0);
     unwrite(store, used);
-}
-
-// The refusal that a pass met: of a push, or of a node.
-fn full(stopped: u32) -> Refusal
-    requires { FullAt stopped }
-    ensures { refusal_number result ≡ stopped }
-{
-    if stopped == ITEMS_FULL {
-        return Refusal::ItemsFull;
-    }
-    if stopped == QUEUE_FULL {
-        return Refusal::QueueFull;
-    }
-    Refusal::StoreFull
 }
 
 // A position: steps 1 to 6, or the refusal that they meet, which leaves state and words as they were.
 pub fn step(
-    rules: &Rules,
-    sizes: Sizes,
+    grammar: &Grammar,
     table: &Table,
     state: State,
     items: &mut [u32],
@@ -132,42 +127,46 @@ pub fn step(
     queue: &mut [u32],
     store: &mut [u16],
     kinds: &[u16],
-) -> Answer
-    requires { Steppable (grammar_from rules.now sizes) table.now state
-        (words_of items.old starts.old rows.old queue.old store.old) × Chained rules.now sizes.rules }
-    ensures { outcome_of result
+) -> Result<State, Refusal>
+    requires { Steppable (decoded grammar.now) table.now state
+        (words_of items.old starts.old rows.old queue.old store.old) × Chained grammar.now.rules.words grammar.now.rules.count }
+    ensures { outcome_of state result
         (words_of items.new starts.new rows.new queue.new store.new)
-        ≡ stepped (grammar_from rules.now sizes) table.now state
+        ≡ stepped (decoded grammar.now) table.now state
         (words_of items.old starts.old rows.old queue.old store.old) kinds.now }
 {
-    if !is_position(kinds, sizes.tokens) {
-        return Answer::Refused(Refusal::NoToken, state);
+    if !is_position(kinds, grammar.tokens) {
+        return Err(Refusal::NoToken);
     }
-    let e = state.set;
-    if !any_predicted(rows, e, kinds) {
-        return Answer::Refused(Refusal::NotPredicted, state);
+    if !any_predicted(rows, state.set, kinds) {
+        return Err(Refusal::NotPredicted);
     }
-    let pass = complete_position(
-        rules, sizes, table, state, items, starts, rows, queue, store, kinds,
-    );
-    let stopped = pass.stopped;
-    if stopped != 0 {
-        give_up(items, queue, store, state.items, state.used);
-        return Answer::Refused(full(stopped), state);
-    }
-    let count = sizes.rules;
-    let to = pass.items;
-    let reached = State {
-        set: e,
-        items: state.items,
-        used: pass.used,
-    };
-    let advanced = advance::advance(rules, count, table, reached, items, starts, rows, to);
-    match advanced {
-        Advanced::Refused => {
-            unwrite(store, state.used);
-            Answer::Refused(Refusal::SetsFull, state)
+    let passed = complete_position(grammar, state, items, starts, rows, queue, store, kinds);
+    let reached = match passed {
+        Ok(reached) => reached,
+        Err(full) => {
+            give_up(items, queue, store, state.items, state.used);
+            return Err(Refusal::from(full));
         }
-        Advanced::Done(next) => Answer::Done(next),
+    };
+    let used = State {
+        used: reached.used,
+        ..state
+    };
+    let advanced = advance::advance(
+        &grammar.rules,
+        table,
+        used,
+        items,
+        starts,
+        rows,
+        reached.items,
+    );
+    match advanced {
+        Some(next) => Ok(next),
+        None => {
+            unwrite(store, state.used);
+            Err(Refusal::SetsFull)
+        }
     }
 }

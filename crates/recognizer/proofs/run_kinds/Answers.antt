@@ -1,35 +1,10 @@
--- `recognizer::run_kinds` meets its contract.
-use Rattle.prediction.proofs.Reaching.{accepted-within}
-use Rattle.demands.specs.Positions.{positions_in}
-use Rattle.demands.specs.Calls.{Runs}
-use Rattle.demands.proofs.Telling.{run_means}
-use Rattle.recognizer.proofs.Readying.{readied_fault, readied_few, readied_formed, readied_chained}
-use Rattle.recognizer.proofs.Given.{can_step, runs}
+use mathlib.Core.Path.{refl}
+use native.Mathlib.Omega.{arith}
+use lib.ListN.{length}
+use Rattle.recognizer.proofs.Remaining.{few_positions}
 use Rattle.recognizer.proofs.run_kinds.Goals as goal
 
-pub returns-in-Refused : goal.returns-in-Refused
-returns-in-Refused c =
-    let all = run_means (Runs.refused (readied_fault _ _ _ _ _ c.ready.ensures _ c.in-Refused.is)) in
-    record { calls = all.0; sentences = all.1 }
-
-pub table-table-requires : goal.table-table-requires
-table-table-requires c =
-    let readied = c.ready in
-    (readied_few _ _ _ _ _ readied.ensures _ c.in-Formed.is, accepted-within _ _ _ _ (readied_formed _ _ _ _ _ readied.ensures _ c.in-Formed.is).checked.accepted)
-
-pub run_kinds_within-requires : goal.run_kinds_within-requires
-run_kinds_within-requires c =
-    let readied = c.ready in
-    let tabled = c.table-table in
-    (can_step (readied_formed _ _ _ _ _ readied.ensures _ c.in-Formed.is) (tabled.ensures c.in-Formed.found.tokens), tabled.ensures c.in-Formed.found.tokens, readied_chained _ _ _ _ _ readied.ensures _ c.in-Formed.is)
-
-pub returns : goal.returns
-returns c =
-    let given = c.args in
-    let readied = c.ready in
-    let tabled = c.table-table in
-    let ran = c.run_kinds_within in
-    let formed = readied_formed _ _ _ _ _ readied.ensures _ c.in-Formed.is in
-    let all =
-    run_means (runs formed (tabled.ensures c.in-Formed.found.tokens) (positions_in given.positions.now) ran.ensures) in
-    record { calls = all.0; sentences = all.1 }
+pub run_over-requires : goal.run_over-requires
+run_over-requires c =
+    let words = c.args.positions.now in
+    λ k. ((refl, record {}), omega (arith, few_positions (length words) words, c.well_formed.1.1.1.0.0))

@@ -1,9 +1,20 @@
 -- What the calls on cut words rely on and give.
-use Rattle.std.specs.Prelude.{Bool, ◌&&◌, List, ℕ, ◌-◌, ◌*◌, ◌≤◌, ◌<◌, length, get_or, take, drop, replicate, eqb, ltb}
+use Rattle.std.specs.Prelude.{◌≡◌, Bool, ◌&&◌, List, ℕ, ◌+◌, ◌-◌, ◌*◌, ◌≤◌, ◌<◌, length, get_or, take, drop, replicate, eqb, ltb}
 use Rattle.item.specs.Item.{item_words, rule_at}
+use Rattle.bits.specs.Width.{row_words}
+use Rattle.binary_heap.specs.Entry.{entry_words}
+use Rattle.recognizer.specs.declared.within.Ends.{Ends}
 use Rattle.node.specs.Reading.{filler}
 use Rattle.parse.specs.declared.State.{State}
-use Rattle.parse.specs.Words.{Words, within, beyond, behind, padded}
+use Rattle.parse.specs.Words.{Words, item_room, set_room, queue_room, store_room, within, beyond, behind, padded}
+
+-- How many words and units there are within the capacities.
+pub record Measures (w : Words) (e : Ends) : Type 0 where
+  pub items : e.items ≡ item_words * item_room w
+  pub starts : e.starts ≡ set_room w + 1
+  pub rows : e.rows ≡ row_words * set_room w
+  pub queue : e.queue ≡ entry_words * queue_room w
+  pub store : e.store ≡ store_room w
 
 -- Words cleared, the store filled, with a row in row 0.
 abbrev pub cleared_words : List ℕ → Words → Words
