@@ -5,7 +5,7 @@ use Prim.Native.Nat.{ℕ, zero, suc, ◌+◌, ◌-◌, ◌*◌, ◌/◌, ◌%◌
 use native.Mathlib.Decide.{dec_lt, ℕ_discrete}
 use native.Mathlib.Omega.{arith}
 use lib.ListN.{length, get_or, set, take, drop, length-append, length-drop, length-set, get_or-append}
-use lib.Seq.{ext_get_or, length-take-le, get_or-take, get_or-drop, get_or-append-add, get_or-set_same, get_or-set_other, get_or_at, take_at}
+use lib.Seq.{ext_get_or, length-take-le, get_or-take, get_or-drop, get_or-append-add, get_or-set_same, get_or-set_other, take_at}
 use Rattle.item.specs.Item.{Item, item_words, item_at, origin_at, rule_at, handle_at, flat, stored}
 use Rattle.item.proofs.Words.{flat-length, item_of_flat, stored-length, stored_other, stored_item, stored_item_other}
 use Rattle.advance.specs.NewItems.{items_from, placed}
@@ -165,33 +165,6 @@ placed-over words from at to is js runs on there few long =
 
     room : item_words * to ≤ length old
     room = omega (arith, whole)
-
--- One item more behind the stretch.
-pub placed-more : (words : List ℕ) (from to : ℕ) (is : List Item) (i : Item) → from ≤ to → item_words * (to + 1) ≤ length words → length is ≡ to - from
-    → stored (placed words from to is) to i ≡ placed words from (to + 1) (is ++ (i ∷ []))
-placed-more words from to is i runs there long =
-    placed_ext words from (to + 1) (is ++ (i ∷ [])) (omega arith) there (omega (arith, length-append is (i ∷ []))) (stored old to i)
-    (stored-length old to i ∙ whole)
-    (λ k h. stored_other old to i k (λ e. omega arith) (λ e. omega arith) (λ e. omega arith) ∙ placed_below words from to is runs (omega arith) long k h)
-    (λ k h. stored_other old to i k (λ e. omega arith) (λ e. omega arith) (λ e. omega arith) ∙ placed_above words from to is runs (omega arith) long k (omega arith))
-    (λ q h. at q (dec_lt q (length is)) (omega (arith, length-append is (i ∷ []))))
-  where
-    old : List ℕ
-    old = placed words from to is
-
-    whole : length old ≡ length words
-    whole = placed-length words from to is runs (omega arith) long
-
-    at : (q : ℕ) → Dec (q < length is) → q < length is + 1 → item_at (stored old to i) (from + q) ≡ get_or (is ++ (i ∷ [])) q no_item
-    at q (yes l) b =
-        stored_item_other old to i (from + q) (λ e. omega arith)
-        ∙ placed_at words from to is runs (omega arith) long q l
-        ∙ sym (get_or-append is (i ∷ []) no_item q l)
-    at q (no n) b =
-        let here : from + q ≡ to = omega arith in
-        ap (item_at (stored old to i)) here
-        ∙ stored_item old to i (omega (arith, whole))
-        ∙ sym (get_or_at is i [] no_item q (omega arith))
 
 -- The first of the items up to a place, and the others.
 pub items_down : (words : List ℕ) (p to : ℕ) → 0 < p → p ≤ to → items_from words (p - 1) (to - (p - 1)) ≡ item_at words (p - 1) ∷ items_from words p (to - p)

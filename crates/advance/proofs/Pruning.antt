@@ -1,20 +1,21 @@
 -- Step 5: the greatest origin, the sets that are kept, and the new items moved behind them.
 use mathlib.Core.Path.{◌≡◌, refl, sym, ap, ap₂, ◌∙◌}
-use mathlib.Core.List.{List, ◌∷◌, ◌++◌}
+use mathlib.Core.List.{List, ◌∷◌, ◌++◌, append_assoc}
 use Prim.Native.Nat.{ℕ, zero, suc, ◌+◌, ◌-◌, ◌*◌, ◌≤◌, ◌<◌, max}
 use native.Mathlib.Omega.{arith}
-use lib.ListN.{length, get_or, take, replicate}
-use lib.Seq.{length-take-le}
+use lib.ListN.{length, get_or, take, replicate, length-append}
+use lib.Seq.{length-take-le, take_at}
 use borrow.Author.Tests.{lt-ltb, le-ltb}
 use Rattle.bits.specs.Width.{row_words}
-use Rattle.item.specs.Item.{Item, item_words, item_at, stored}
+use Rattle.item.specs.Item.{Item, item_words, item_at, flat}
+use Rattle.item.proofs.Words.{flat-length}
 use Rattle.advance.specs.NewItems.{items_from, placed}
 use Rattle.parse.specs.Words.{padded}
 use Rattle.advance.specs.inner.Advances.{Pruned}
 use Rattle.advance.specs.Advance.{highest, greatest_origin, last_kept, kept_rows, ending}
 use Rattle.advance.specs.inner.Ready.{Prunable}
-use Rattle.advance.proofs.Placed.{items-count, items_down, items_none, item_eq, placed_self, placed-length, placed_above, placed-more}
-use Rattle.advance.proofs.Inserting.{items_more}
+use Rattle.advance.proofs.Placed.{items-count, items_at, items_down, items_none, item_eq, placed_ext}
+use Rattle.std.specs.List.{CopiedTo, SameBelow, SameFrom}
 use Rattle.parse.proofs.Padded.{clear_padded, padded_zeros}
 use Rattle.advance.proofs.Dropping.{cut-ending}
 
@@ -73,50 +74,38 @@ rows_pruned e m rows l = rw (kept_rows, lt-ltb 1 (e - m) l) refl
 pub rows_all : (e m : ℕ) (rows : List ℕ) → e - m ≤ 1 → kept_rows e m rows ≡ take (row_words * (e + 1)) rows
 rows_all e m rows l = rw (kept_rows, le-ltb 1 (e - m) l) refl
 
--- The items of a stretch are copied down, one after the other.
-pub record Moving (w : List ℕ) (from to base q : ℕ) (words : List ℕ) : Type 0 where
-  pub few : q ≤ to - from
-  pub are : words ≡ placed w base (base + q) (items_from w from q)
-
+-- The items of a stretch are copied down.
 module _ (w : List ℕ) (from to base : ℕ) (low : base ≤ from) (runs : from ≤ to) (there : item_words * to ≤ length w) where
-  pub moving_start : Moving w from to base 0 w
-  moving_start = record {
-    few = omega arith;
-    are =
-        placed_self w base (base + 0) (omega arith) (omega arith)
-        ∙ ap (placed w base (base + 0)) (items_none w base (base + 0 - base) (omega arith) ∙ sym (items_none w from 0 refl));
-  }
+  -- How many words they are.
+  abbrev span : ℕ
+  span = item_words * to - item_words * from
 
-  module _ (q : ℕ) (words : List ℕ) (s : Moving w from to base q words) where
-    room : item_words * (base + q) ≤ length w
-    room = omega (arith, s.few)
+  abbrev moved : List Item
+  moved = items_from w from (to - from)
 
-    long : length (items_from w from q) ≡ base + q - base
-    long = items-count w from q ∙ omega arith
-
-    pub moving_length : length words ≡ length w
-    moving_length = ap length s.are ∙ placed-length w base (base + q) (items_from w from q) (omega arith) room long
-
-    -- What is yet to be copied stands where it stood.
-    behind : (i : ℕ) → item_words * (base + q) ≤ i → get_or words i 0 ≡ get_or w i 0
-    behind i l = ap (λ (x : List ℕ). get_or x i 0) s.are ∙ placed_above w base (base + q) (items_from w from q) (omega arith) room long i l
-
-    pub moving_next : q < to - from → {words' : List ℕ} → words' ≡ stored words (base + q) (item_at words (from + q)) → Moving w from to base (q + 1) words'
-    moving_next l e = record {
-      few = omega arith;
-      are =
-          e
-          ∙ ap₂ (λ (x : List ℕ) (i : Item). stored x (base + q) i) s.are
-          (item_eq words w (from + q) (from + q) (behind (item_words * (from + q)) (omega arith)) (behind (item_words * (from + q) + 1) (omega arith)) (behind (item_words * (from + q) + 2) (omega arith)))
-          ∙ placed-more w base (base + q) (items_from w from q) (item_at w (from + q)) (omega arith) (omega (arith, s.few)) long
-          ∙ ap₂ (placed w base) at (sym (items_more w from q) ∙ ap (items_from w from) one);
-    }
+  module _ (words : List ℕ) (long : length words ≡ length w) (copied : CopiedTo w words (item_words * from) (item_words * base) span) (below : SameBelow w words (item_words * base)) (above : SameFrom w words (item_words * base + span)) where
+    -- Then they stand from the place `base` on, ..
+    pub moved_down : words ≡ placed w base (base + (to - from)) moved
+    moved_down =
+        placed_ext w base (base + (to - from)) moved (omega arith) (omega arith) (items-count w from (to - from) ∙ omega arith) words long
+        (λ i l. below i 0 l) (λ i l. above i 0 (omega arith))
+        (λ q l.
+        let few : q < to - from = omega (arith, items-count w from (to - from)) in
+        item_eq words w (base + q) (from + q) (at (item_words * (base + q)) (item_words * (from + q)) (omega arith) (omega arith) (omega arith))
+        (at (item_words * (base + q) + 1) (item_words * (from + q) + 1) (omega arith) (omega arith) (omega arith))
+        (at (item_words * (base + q) + 2) (item_words * (from + q) + 2) (omega arith) (omega arith) (omega arith))
+        ∙ sym (items_at w from (to - from) q few))
       where
-        at : base + q + 1 ≡ base + (q + 1)
-        at = omega arith
+        at : (i j : ℕ) → item_words * base ≤ i → i < item_words * base + span → j ≡ item_words * from + (i - item_words * base) → get_or words i 0 ≡ get_or w j 0
+        at i j a b e = copied i 0 a b ∙ ap (λ (k : ℕ). get_or w k 0) (sym e)
 
-        one : suc q ≡ q + 1
-        one = omega arith
+    -- .. and the words behind them are cleared.
+    pub moved_ends : {words' : List ℕ} → words' ≡ padded (length words) (take (item_words * (base + (to - from))) words) → words' ≡ ending w base moved
+    moved_ends e =
+        e ∙ ap₂ padded long
+        (ap (take (item_words * (base + (to - from)))) (moved_down ∙ sym (append_assoc (take (item_words * base) w) (flat moved) _))
+        ∙ take_at (take (item_words * base) w ++ flat moved) _ (item_words * (base + (to - from)))
+        (omega (arith, length-append (take (item_words * base) w) (flat moved), length-take-le (item_words * base) w (omega arith), flat-length moved, items-count w from (to - from))))
 
 -- Starts that never fall are no higher than the last.
 pub last-greatest : (starts : List ℕ) (e : ℕ) → ((k : ℕ) → k ≤ e → get_or starts k 0 ≤ get_or starts (k + 1) 0) → (k : ℕ) → k ≤ e + 1 → get_or starts k 0 ≤ get_or starts (e + 1) 0

@@ -35,15 +35,6 @@ pub fn last_kept(e: usize, m: usize) -> usize
     if e - m > 1 { m + 1 } else { e }
 }
 
-// Copies the item at place `p` to place `q`.
-fn copy(items: &mut [u32], p: usize, q: usize)
-    requires { HasPlace items.old p × HasPlace items.old q }
-    ensures { items.new ≡ stored items.old q (item_at items.old p) }
-{
-    let item = item::read(items, p);
-    item::write(items, q, item);
-}
-
 // Moves the items at the places from `from` up to and without `to` down to the place `base`. The words behind them are 0 then.
 fn move_items(items: &mut [u32], from: usize, to: usize, base: usize)
     requires { (base ≤ from) × (from ≤ to) × (item_words * to ≤ length items.old) × Clear items.old
@@ -51,11 +42,8 @@ fn move_items(items: &mut [u32], from: usize, to: usize, base: usize)
     ensures { items.new ≡ ending items.old base
         (items_from items.old from (to - from)) }
 {
-    let count = to - from;
-    for q in 0..count {
-        copy(items, from + q, base + q);
-    }
-    clear(items, ITEM_WORDS * (base + count), ITEM_WORDS * to);
+    items.copy_within(ITEM_WORDS * from..ITEM_WORDS * to, ITEM_WORDS * base);
+    clear(items, ITEM_WORDS * (base + (to - from)), ITEM_WORDS * to);
 }
 
 // Keeps the sets 0..m+1, or all, with the new items, at the places from the state's items up to and without `to`, behind them. Answers where

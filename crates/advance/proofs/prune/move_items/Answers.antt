@@ -1,11 +1,9 @@
-use Rattle.advance.proofs.Pruning.{moving_start, moving_next}
+-- `advance::prune::move_items` meets its contract.
+use Rattle.advance.proofs.Pruning.{moved_ends}
 use Rattle.advance.proofs.prune.move_items.Goals as goal
 
-pub loop-q-init : goal.loop-q-init
-loop-q-init c = moving_start _ _ _ _ c.requires.0 c.requires.1 c.requires.2
-
-pub loop-q-preserved : goal.loop-q-preserved
-loop-q-preserved c =
+pub returns : goal.returns
+returns c =
     let required = c.requires in
-    moving_next _ _ _ _ required.0 required.1 required.2 _ _
-    c.loop-q.invariant c.loop-q-test.true c.copy.ensures
+    let copied = c.copy_within.ensures in
+    moved_ends _ _ _ _ required.0 required.1 required.2 _ copied.len copied.by_index.0 copied.by_index.1 copied.by_index.2 c.clear.ensures

@@ -13,12 +13,11 @@ pub returns-then-second-ne-NONE : goal.returns-then-second-ne-NONE
 returns-then-second-ne-NONE c =
     let given = c.args in
     let required = c.requires in
-    let items-lent = c.shared_slice_known-1 in
     let looped = c.loop-p in
     let here : second_of (rules_of given.rules.now) (item_at given.items.now (looped.p - 1)) ≡ c.second.result =
     second-read _ _ _ _ _ _ required.0 (omega arith) (omega (arith, looped.invariant.below)) _ _ c.rule.ensures
     c.second.ensures.0 in
-    let narrow : Narrow given.items.now = record { fits = λ i. omega (arith, items-lent.given i) } in record {
+    let narrow : Narrow given.items.now = record { fits = λ i. omega (arith, c.type_inv.items i) } in record {
       within = (omega arith, omega (arith, looped.invariant.below));
       are = dropping_ends _ _ _ _ narrow required.1 _
           looped.invariant (λ l. omega (arith, here, c.second.ensures.1, c.if-second-ne-NONE.true))
