@@ -1,10 +1,6 @@
 -- Grammar A reads "0 1 0 1 0", and grammar K a position of two kinds: under the handle that finished tells are its two trees, in the order of the pops.
-use mathlib.Core.Path.{◌≡◌, refl, subst}
-use mathlib.Core.Bool.{true}
-use mathlib.Core.List.{[], ◌∷◌, flat_map}
-use Prim.Native.Nat.{ℕ, ◌*◌}
-use native.Mathlib.Omega.{arith}
-use lib.ListN.{replicate}
+use Rattle.std.proofs.Common.{◌≡◌, refl, subst, true, [], ◌∷◌, ℕ, ◌*◌, arith, replicate}
+use mathlib.Core.List.{flat_map}
 use Rattle.laws.specs.Bits.{union}
 use Rattle.laws.specs.Records as records
 use Rattle.laws.specs.Turns.{over, until}

@@ -1,10 +1,8 @@
 -- The order by which a pass falls: what is queued after a pair was completed is of pairs beneath it.
-use mathlib.Core.Path.{◌≡◌, refl, sym, subst}
+use Rattle.std.proofs.Common.{◌≡◌, refl, sym, subst, List, ℕ, suc, ◌<◌, arith}
 use mathlib.Core.List.Memᴰ.{head as here}
 use mathlib.Core.List.Memᴰ.{tail as there}
-use mathlib.Core.List.{List, Memᴰ as Member}
-use Prim.Native.Nat.{ℕ, suc, ◌<◌}
-use native.Mathlib.Omega.{arith}
+use mathlib.Core.List.{Memᴰ as Member}
 use Rattle.item.specs.Item.{item_at}
 use Rattle.binary_heap.specs.Entry.{Entry}
 use Rattle.binary_heap.proofs.Each.{Every}

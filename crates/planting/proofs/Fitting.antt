@@ -1,14 +1,7 @@
 -- Why no node is unfit: in a pass that goes on, the handle of every item and the right factor of every entry lie before the used units.
-use mathlib.Core.Path.{◌≡◌, refl, sym, ◌∙◌, ap, subst}
-use mathlib.Core.Bool.{Bool, true, false}
-use mathlib.Core.List.{List, [], ◌∷◌}
-use mathlib.Core.Logic.{◌↔◌, ◌⊎◌, inl, inr, ⊎_elim}
-use Prim.Native.Nat.{ℕ, ◌+◌, ◌≤◌, ◌<◌}
+use Rattle.std.proofs.Common.{◌≡◌, refl, sym, ◌∙◌, ap, subst, Bool, true, false, List, [], ◌∷◌, ◌↔◌, ◌⊎◌, inl, inr, ⊎_elim, ℕ, ◌+◌, ◌≤◌, ◌<◌, arith, length, leb, leb-true, leb-false, eq-eqb, ne_eqb, Some, None}
 use native.Mathlib.Decide.{dec_lt, ℕ_discrete}
-use native.Mathlib.Omega.{arith}
-use lib.ListN.{length}
-use lib.Dec.{ltb, leb}
-use borrow.Author.Tests.{lt-leb, leb-true, leb-false, eq-eqb, ne_eqb}
+use borrow.Author.Tests.{lt-leb}
 use Rattle.laws.specs.Counts.{once, count}
 use Rattle.laws.specs.Turns.{until}
 use Rattle.laws.proofs.Tests.{either_way}
@@ -20,14 +13,13 @@ use Rattle.binary_heap.proofs.Each.{Every}
 use Rattle.binary_heap.proofs.PushLaws.{pushed_every}
 use Rattle.binary_heap.proofs.PopLaws.{popped_every}
 use Rattle.grammar.specs.Rules.{Rule}
-use Rattle.node.specs.Choice.{pick, both, both_below}
+use Rattle.node.specs.Choice.{pick}
 use Rattle.node.specs.Rows.{all_ones, unfit, unfit_right, units_at, count_limit}
 use Rattle.node.specs.Reading.{long_right}
 use Rattle.node.specs.Answers.{values_of}
 use Rattle.node.specs.Writing.{usable, place, write_units}
-use Rattle.std.specs.Prelude.{Some, None}
 use Rattle.node.specs.declared.Node.{Node}
-use Rattle.node.specs.declared.Node.TheVariants.{Sum, Product, NullingLeaf, Evaluated}
+use Rattle.node.specs.declared.Node.TheVariants.{Sum}
 use Rattle.node.proofs.Fit.{fit_row, row-size, product-fit, right-fit}
 use Rattle.completion.specs.Pass.{Pass, store, enqueue, written, append, store_full}
 use Rattle.completion.specs.Complete.{complete_medial_items, complete_unary_predictions, complete}

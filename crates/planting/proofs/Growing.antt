@@ -1,10 +1,5 @@
 -- From step to step: every item of every set keeps a handle under which are exactly the derivations of its rule's first symbol, each once.
-use mathlib.Core.Path.{◌≡◌, refl, sym, ◌∙◌, ap, subst}
-use mathlib.Core.Bool.{true}
-use mathlib.Core.List.{List, [], ◌∷◌, ◌++◌}
-use Prim.Native.Nat.{ℕ, suc, ◌+◌, ◌/◌, ◌≤◌, ◌<◌}
-use native.Mathlib.Omega.{arith}
-use lib.ListN.{length}
+use Rattle.std.proofs.Common.{◌≡◌, refl, sym, ◌∙◌, ap, subst, true, List, [], ◌∷◌, ◌++◌, ℕ, suc, ◌+◌, ◌/◌, ◌≤◌, ◌<◌, arith, length}
 use Rattle.laws.proofs.Lists.{zeros_word}
 use Rattle.bits.specs.Width.{row_words}
 use Rattle.item.specs.Item.{Item, item_at, origin_at, rule_at, handle_at}

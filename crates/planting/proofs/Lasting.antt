@@ -1,15 +1,6 @@
 -- Along every history the handles of all items stay exact, so under the handle that finished tells is every tree, once.
-use mathlib.Core.Path.{◌≡◌, refl, sym, ap, ◌∙◌, subst, subst₂}
-use mathlib.Core.Bool.{Bool, true, false, false≢true}
-use mathlib.Core.List.{List, [], ◌∷◌, ◌++◌, append-nil, append_assoc}
-use mathlib.Core.Logic.{◌↔◌}
-use Prim.Native.Nat.{ℕ, suc, ◌+◌, ◌-◌, ◌/◌, ◌≤◌, ◌<◌}
-use native.Mathlib.Numerals.{add-one}
-use native.Mathlib.Omega.{arith}
-use lib.ListN.{length, take}
-use lib.Seq.{take_all}
-use lib.Dec.{eqb, ltb}
-use borrow.Author.Tests.{ltb-true, eqb-true}
+use Rattle.std.proofs.Common.{◌≡◌, refl, sym, ap, ◌∙◌, subst, subst₂, Bool, true, false, List, [], ◌∷◌, ◌++◌, append-nil, append_assoc, ◌↔◌, ℕ, suc, ◌+◌, ◌-◌, ◌/◌, ◌≤◌, ◌<◌, add-one, arith, length, take, take_all, eqb, ltb, ltb-true, eqb-true}
+use mathlib.Core.Bool.{false≢true}
 use Rattle.laws.proofs.Tests.{both_true}
 use Rattle.bits.specs.Width.{row_words}
 use Rattle.item.specs.Item.{rule_at, handle_at}

@@ -1,17 +1,10 @@
 -- THE LAW THAT THE TREES NEED holds of every step that was not refused.
-use mathlib.Core.Path.{◌≡◌, refl, sym, ◌∙◌, ap, subst, subst₂}
-use mathlib.Core.Bool.{Bool, true, false, not, ◌||◌}
-use mathlib.Core.List.{List, [], ◌∷◌, map}
+use Rattle.std.proofs.Common.{◌≡◌, refl, sym, ◌∙◌, ap, subst, subst₂, Bool, true, false, not, ◌||◌, List, [], ◌∷◌, map, ◌↔◌, ℕ, zero, suc, ◌-◌, ◌≤◌, arith, length, get_or, eqb, eq-eqb, ne_eqb}
 use mathlib.Core.List.Memᴰ.{head as here}
 use mathlib.Core.List.Memᴰ.{tail as there}
 use mathlib.Core.List.{Memᴰ as Member}
-use mathlib.Core.Logic.{◌↔◌}
-use Prim.Native.Nat.{ℕ, zero, suc, ◌-◌, ◌≤◌}
 use native.Mathlib.Decide.{ℕ_discrete}
-use native.Mathlib.Omega.{arith}
-use lib.ListN.{length, get_or, length-map}
-use lib.Dec.{eqb}
-use borrow.Author.Tests.{eq-eqb, ne_eqb}
+use lib.ListN.{length-map}
 use Rattle.laws.specs.Bits.{row_of}
 use Rattle.laws.proofs.Bits.{true_holds}
 use Rattle.bits.specs.Width.{row_words}

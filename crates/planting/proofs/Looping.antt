@@ -1,15 +1,8 @@
 -- One completion as a turn of the forest's theory: what it calls for, by its loops.
-use mathlib.Core.Path.{◌≡◌, refl, sym, ◌∙◌, ap, subst}
-use mathlib.Core.Bool.{true}
+use Rattle.std.proofs.Common.{◌≡◌, refl, sym, ◌∙◌, ap, subst, true, List, [], ◌∷◌, ⊎_elim, ℕ, ◌+◌, ◌-◌, ◌≤◌, ◌<◌, arith, get_or, eqb, eqb-true, eq-eqb}
 use mathlib.Core.List.Memᴰ.{eq_of_singleton as only}
 use mathlib.Core.List.Memᴰ.{head as here}
-use mathlib.Core.List.{List, [], ◌∷◌, Memᴰ as Member}
-use mathlib.Core.Logic.{⊎_elim}
-use Prim.Native.Nat.{ℕ, ◌+◌, ◌-◌, ◌≤◌, ◌<◌}
-use native.Mathlib.Omega.{arith}
-use lib.ListN.{get_or}
-use lib.Dec.{eqb}
-use borrow.Author.Tests.{eqb-true, eq-eqb}
+use mathlib.Core.List.{Memᴰ as Member}
 use Rattle.laws.specs.Bits.{row_of}
 use Rattle.laws.proofs.Bits.{holds_true, true_holds}
 use Rattle.laws.proofs.Tests.{both_true}

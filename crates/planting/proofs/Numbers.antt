@@ -1,13 +1,9 @@
 -- The number of derivations: lists that have them all, each once, are of one length.
-use mathlib.Core.Path.{◌≡◌, refl, sym, ap, ◌∙◌}
-use mathlib.Core.Logic.{◌≢◌}
+use Rattle.std.proofs.Common.{◌≡◌, refl, sym, ap, ◌∙◌, ◌≢◌, List, [], ◌∷◌, suc, ◌≤◌, arith, length}
 use mathlib.Core.List.Memᴰ.{head as here}
 use mathlib.Core.List.Memᴰ.{not-nil as no_member}
 use mathlib.Core.List.Memᴰ.{tail as there}
-use mathlib.Core.List.{List, [], ◌∷◌, Memᴰ as Member}
-use Prim.Native.Nat.{suc, ◌≤◌}
-use native.Mathlib.Omega.{arith}
-use lib.ListN.{length}
+use mathlib.Core.List.{Memᴰ as Member}
 use Rattle.grammar.specs.Rules.{Grammar}
 use Rattle.earley.specs.Positions.{Positions}
 use Rattle.forest.specs.Lists.{Ordered, Once}

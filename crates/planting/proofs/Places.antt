@@ -1,10 +1,6 @@
 -- The items of a pass at its end, as the forest sees them: those of the sets are those of the chart, and none stands twice.
-use mathlib.Core.Path.{◌≡◌, sym, ◌∙◌, ap, ap₂}
-use mathlib.Core.List.{List}
-use Prim.Native.Nat.{ℕ, ◌+◌, ◌-◌, ◌*◌, ◌≤◌, ◌<◌}
+use Rattle.std.proofs.Common.{◌≡◌, sym, ◌∙◌, ap, ap₂, List, ℕ, ◌+◌, ◌-◌, ◌*◌, ◌≤◌, ◌<◌, arith, length}
 use native.Mathlib.Decide.{dec_lt}
-use native.Mathlib.Omega.{arith}
-use lib.ListN.{length}
 use Rattle.item.specs.Item.{Item, item_words, item_at, origin_at, rule_at, handle_at}
 use Rattle.binary_heap.specs.Entry.{entry_words}
 use Rattle.grammar.specs.Rules.{Rule, Grammar}

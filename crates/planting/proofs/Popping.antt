@@ -1,12 +1,7 @@
 -- What a sum pops: with what stays, it is what was queued; all of it is of the sum's pair, and none of that pair stays.
-use mathlib.Core.Path.{◌≡◌, refl, sym, ◌∙◌, ap, subst}
-use mathlib.Core.Bool.{Bool, true, false, not, ◌||◌}
+use Rattle.std.proofs.Common.{◌≡◌, refl, sym, ◌∙◌, ap, subst, Bool, true, false, not, ◌||◌, List, ℕ, zero, suc, ◌+◌, ◌<◌, arith, eqb, eqb-true}
 use mathlib.Core.List.Memᴰ.{head as here}
-use mathlib.Core.List.{List, Memᴰ as Member}
-use Prim.Native.Nat.{ℕ, zero, suc, ◌+◌, ◌<◌}
-use native.Mathlib.Omega.{arith}
-use lib.Dec.{eqb}
-use borrow.Author.Tests.{eqb-true}
+use mathlib.Core.List.{Memᴰ as Member}
 use Rattle.laws.specs.Counts.{count, once}
 use Rattle.laws.proofs.Tests.{both_true}
 use Rattle.item.specs.Item.{Item, item_at}

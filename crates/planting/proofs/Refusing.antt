@@ -1,10 +1,5 @@
 -- Where a pass is refused with 14: at a node, and never while a pair is completed.
-use mathlib.Core.Path.{◌≡◌, refl, sym, subst}
-use mathlib.Core.Bool.{false}
-use mathlib.Core.List.{List}
-use mathlib.Core.Logic.{◌⊎◌, inl, inr, ⊎_elim}
-use Prim.Native.Nat.{ℕ, zero, suc}
-use native.Mathlib.Omega.{arith}
+use Rattle.std.proofs.Common.{◌≡◌, refl, sym, subst, false, List, ◌⊎◌, inl, inr, ⊎_elim, ℕ, zero, suc, arith}
 use Rattle.laws.specs.Turns.{until}
 use Rattle.laws.proofs.Tests.{either_way}
 use Rattle.laws.proofs.Turns.{until-rests, until_turns}

@@ -1,13 +1,9 @@
 -- A position's pass that is not refused comes to rest: its turns, and what they leave.
-use mathlib.Core.Path.{◌≡◌, refl, sym, ap, ◌∙◌, subst}
-use mathlib.Core.Bool.{true}
+use Rattle.std.proofs.Common.{◌≡◌, refl, sym, ap, ◌∙◌, subst, true, List, [], ℕ, zero, suc, ◌*◌, ◌≤◌, ◌<◌, arith, length, get_or, take, drop, length-take}
 use mathlib.Core.List.Memᴰ.{head as here}
 use mathlib.Core.List.Memᴰ.{tail as there}
-use mathlib.Core.List.{List, [], Memᴰ as Member}
-use Prim.Native.Nat.{ℕ, zero, suc, ◌*◌, ◌≤◌, ◌<◌}
+use mathlib.Core.List.{Memᴰ as Member}
 use native.Mathlib.Decide.{ℕ_discrete}
-use native.Mathlib.Omega.{arith}
-use lib.ListN.{length, get_or, take, drop, length-take}
 use lib.Seq.{take-length}
 use Rattle.laws.specs.Bits.{row_of}
 use Rattle.laws.proofs.Bits.{true_holds}

@@ -1,11 +1,5 @@
 -- A position's kinds, one behind another: the pass behind the first of them, and behind one more.
-use mathlib.Core.Path.{◌≡◌, refl, sym, ◌∙◌, ap}
-use mathlib.Core.Bool.{true, false}
-use mathlib.Core.List.{List, [], ◌∷◌, ◌++◌}
-use Prim.Native.Nat.{ℕ, suc, ◌<◌}
-use lib.ListN.{length, get_or, take, drop, take-append-drop}
-use lib.Seq.{take-suc}
-use borrow.Author.Tests.{lt-ltb}
+use Rattle.std.proofs.Common.{◌≡◌, refl, sym, ◌∙◌, ap, true, false, List, [], ◌∷◌, ◌++◌, ℕ, suc, ◌<◌, length, get_or, take, drop, take-append-drop, take-suc, lt-ltb}
 use Rattle.grammar.specs.Rules.{Rule}
 use Rattle.node.specs.Rows.{units_at, row_of, leaf_row, unfit}
 use Rattle.node.specs.declared.Node.TheVariants.{Evaluated}

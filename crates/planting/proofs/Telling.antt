@@ -1,11 +1,8 @@
 -- What count and tree tell under a handle that finished has told.
-use mathlib.Core.Path.{◌≡◌, refl, sym, ap, subst}
-use mathlib.Core.Bool.{Bool, true, false≢true}
+use Rattle.std.proofs.Common.{◌≡◌, refl, sym, ap, subst, Bool, true, List, ◌∷◌, [], ◌++◌, ℕ, suc, ◌≤◌, arith, length, drop}
+use mathlib.Core.Bool.{false≢true}
 use mathlib.Core.List.Memᴰ.{head as here}
-use mathlib.Core.List.{List, ◌∷◌, [], ◌++◌, Memᴰ as Member}
-use Prim.Native.Nat.{ℕ, suc, ◌≤◌}
-use native.Mathlib.Omega.{arith}
-use lib.ListN.{length, drop}
+use mathlib.Core.List.{Memᴰ as Member}
 use Rattle.grammar.specs.Rules.{Grammar, start}
 use Rattle.grammar.specs.Accepted.{Accepted}
 use Rattle.grammar.specs.File.{grammar_of}

@@ -1,8 +1,5 @@
 -- The trees of one step: under the handle of each completed pair are exactly its derivations, each once, and the items of the sets keep theirs.
-use mathlib.Core.Path.{sym, subst}
-use mathlib.Core.List.{List, [], ◌∷◌, ◌++◌}
-use Prim.Native.Nat.{ℕ, suc, ◌≤◌}
-use lib.ListN.{length}
+use Rattle.std.proofs.Common.{sym, subst, List, [], ◌∷◌, ◌++◌, ℕ, suc, ◌≤◌, length}
 use Rattle.item.specs.Item.{Item, origin_at, rule_at, handle_at}
 use Rattle.grammar.specs.Rules.{Grammar, rule_at as grammar_rule}
 use Rattle.parse.specs.declared.State.{State}

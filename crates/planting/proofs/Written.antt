@@ -1,15 +1,10 @@
 -- What a sum writes: the Sum with the number of its summands, and behind it, in the order of the pops, a Product for each.
-use mathlib.Core.Path.{◌≡◌, refl, sym, ◌∙◌, ap, subst}
-use mathlib.Core.Bool.{Bool, true, false}
+use Rattle.std.proofs.Common.{◌≡◌, refl, sym, ◌∙◌, ap, subst, Bool, true, false, List, [], ◌∷◌, map, ℕ, zero, suc, ◌+◌, ◌≤◌, ◌<◌, arith, length, leb, eqb, eqb-true, eq-eqb, ne_eqb, Some, None}
 use mathlib.Core.List.Memᴰ.{head as here}
 use mathlib.Core.List.Memᴰ.{tail as there}
-use mathlib.Core.List.{List, [], ◌∷◌, map, Memᴰ as Member}
-use Prim.Native.Nat.{ℕ, zero, suc, ◌+◌, ◌≤◌, ◌<◌}
+use mathlib.Core.List.{Memᴰ as Member}
 use native.Mathlib.Decide.{dec_lt, ℕ_discrete}
-use native.Mathlib.Omega.{arith}
-use lib.ListN.{length, get_or-eq_default}
-use lib.Dec.{leb, eqb}
-use borrow.Author.Tests.{eqb-true, eq-eqb, ne_eqb}
+use lib.ListN.{get_or-eq_default}
 use Rattle.laws.specs.Counts.{count}
 use Rattle.laws.specs.Turns.{until}
 use Rattle.laws.proofs.Tests.{either_way, both_true}
@@ -23,7 +18,6 @@ use Rattle.node.specs.Rows.{units_at, all_ones}
 use Rattle.node.specs.Reading.{stand, long_right}
 use Rattle.node.specs.Answers.{answer, done, position, values_of}
 use Rattle.node.specs.Writing.{usable, usable_units, place, write_units, write_at}
-use Rattle.std.specs.Prelude.{Some, None}
 use Rattle.node.specs.declared.Node.{Node}
 use Rattle.node.specs.declared.Node.TheVariants.{Sum, Product}
 use Rattle.node.proofs.RoundTrip.{Wrote, did_write, written_stands}
