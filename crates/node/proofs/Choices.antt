@@ -33,11 +33,3 @@ unfolding both_below
 below {a} {x} {b} {y} e t =
     let h : Both (ltb a x) (ltb b y) = both_true _ _ (sym e ∙ t) in
     record { first = ltb-true a x h.first; second = ltb-true b y h.second }
-
--- Two comparisons that say the same of their numbers are the same test.
-pub same_test : (a b c d : ℕ) → (a ≤ b → c ≤ d) → (b < a → d < c) → leb a b ≡ leb c d
-same_test a b c d up down = on (leb a b) refl
-  where
-    on : (t : Bool) → leb a b ≡ t → leb a b ≡ leb c d
-    on true e = e ∙ sym (le-leb c d (up (leb-true a b e)))
-    on false e = e ∙ sym (lt-leb c d (down (leb-false a b e)))

@@ -1,8 +1,7 @@
 -- What is below what is below, and the first step down.
 use mathlib.Core.Path.{◌≡◌, sym, subst}
 use mathlib.Core.List.{List, Memᴰ as Member}
-use Prim.Native.Nat.{ℕ, ◌≤◌, ◌<◌}
-use native.Mathlib.Omega.{arith}
+use Prim.Native.Nat.{ℕ, ◌<◌}
 use Rattle.forest.specs.Forests.{Product, Node, sum, FactorOf, Under}
 use Rattle.forest.specs.Stores.{node_at}
 use Rattle.trees.specs.Faults.{Below}
@@ -12,11 +11,6 @@ use Rattle.trees.specs.Faults.Below.{itself, factor}
 pub below_through : {store : List ℕ} {h s q : ℕ} → Below store h s → Below store s q → Below store h q
 below_through a itself = a
 below_through a (factor b u l e) = factor (below_through a b) u l e
-
--- Nothing below a handle lies behind it.
-pub below-low : {store : List ℕ} {h s : ℕ} → Below store h s → s ≤ h
-below-low itself = omega arith
-below-low (factor b u l e) = omega (arith, below-low b)
 
 -- The handle itself, or below one of its factors.
 pub data Down (store : List ℕ) (h : ℕ) : ℕ → Type 0 where

@@ -9,7 +9,6 @@ use mathlib.Core.List.{Memᴰ as Member}
 use mathlib.Core.Logic.{◌≢◌}
 use Prim.Native.Nat.{ℕ, zero, suc, ◌-◌, ◌*◌, ◌/◌, ◌%◌, ◌≤◌, ◌<◌}
 use native.Mathlib.Nat.{mul-zero, div-eq_of_lt, mod-eq_of_lt, mod-lt, div-lt_iff_lt-mul}
-use native.Mathlib.Decide.{dec_lt}
 use native.Mathlib.Omega.{arith}
 use lib.ListN.{length, length-append, length-map}
 use borrow.Author.Tests.{ltb-true, ltb-false}
@@ -30,7 +29,7 @@ use Rattle.trees.specs.declared.Weight.{Weight}
 use Rattle.trees.specs.declared.Weight.TheVariants.{Number}
 use Rattle.trees.specs.declared.Step.{Step}
 use Rattle.trees.specs.declared.Choice.{Choice}
-use Rattle.trees.specs.declared.Choice.TheVariants.{Word, Chosen}
+use Rattle.trees.specs.declared.Choice.TheVariants.{Word}
 use Rattle.trees.specs.declared.Head.TheVariants.{SumOf, Leaf}
 use Rattle.trees.proofs.Belows.{FactorIn}
 use Rattle.trees.proofs.Means.{Means, means_same}
@@ -42,13 +41,6 @@ use Rattle.trees.proofs.Tabled.{same_weight}
 -- A number of trees, where nothing is faulty.
 abbrev pub Weighed_as : ℕ → Weight → Type 0
 Weighed_as n w = Means (λ v. ⊥) n w
-
--- One that is not none is some.
-pub some_divides : (w : Weight) (c : ℕ) → w ≢ Number 0 → w ≡ Number c → 0 < c
-some_divides w c never is = elim (dec_lt 0 c) [
-  | yes some ↦ some
-  | no not ↦ (let none : c ≡ 0 = omega arith in absurd (never (is ∙ ap Number none)))
-]
 
 -- A weight chooses the numbers that are below it, and passes over as many as there are.
 pub chooses-inside : {n : ℕ} {w : Weight} (k : ℕ) → Weighed_as n w → k < tree_limit → chooses w k ≡ true → k < n
@@ -275,19 +267,6 @@ module _ {store : List ℕ} {table : Table} {s k from count : ℕ} (asked : Choo
   turn_on {m} past is =
       subst (λ m. Passing store s k (rest - m) (products_at count (usable store) from) (products_at n (usable store) x.behind)) (sym is)
       (passing_on (product_of x.action x.left x.right) w first_read weighs past)
-
--- The choice in a Product with one factor, and in one with two.
-pub alone_choice : (under : ℕ → Option Weight) (s action a k : ℕ) (right : Option ℕ) → right ≡ None → Chosen action None a k ≡ choice_in under s action a right k
-unfolding choice_in
-alone_choice under s action a k right none = sym (ap (λ r. choice_in under s action a r k) none)
-
-pub paired_choice : (under : ℕ → Option Weight) (s action a b k i j : ℕ) (right : Option ℕ) (w : Weight) → right ≡ Some b → w ≡ factor_weight under s b
-    → i ≡ left_number w k → j ≡ right_number w k → Chosen action (Some (a, i)) b j ≡ choice_in under s action a right k
-unfolding choice_in
-paired_choice under s action a b k i j right w some is-w is-i is-j =
-    ap (λ n. Chosen action (Some (a, n)) b j) (is-i ∙ ap (λ x. left_number x k) is-w)
-    ∙ ap (λ n. Chosen action (Some (a, left_number (factor_weight under s b) k)) b n) (is-j ∙ ap (λ x. right_number x k) is-w)
-    ∙ sym (ap (λ r. choice_in under s action a r k) some)
 
 -- What is chosen at a head: at a Sum of a Product, at a leaf its symbol; and one of the two is where there is a tree.
 module _ {store : List ℕ} {table : Table} {h k : ℕ} where

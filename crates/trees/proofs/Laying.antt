@@ -11,7 +11,7 @@ use Rattle.forest.specs.Trees.{Tree, leaf, preorder}
 use Rattle.forest.specs.Lists.{At, first}
 use Rattle.forest.specs.Forests.{token, of_node, listed}
 use Rattle.forest.specs.Stores.{node_at, trees_at}
-use Rattle.trees.specs.inner.Walks.{Walks, FrontWalks, FrontWords, front_end, Reached, Picks, Laid, Limited, Walked, FrontWalked}
+use Rattle.trees.specs.inner.Walks.{Walks, FrontWalks, FrontWords, front_end, Reached, Picks, Laid, Walked, FrontWalked}
 use Rattle.std.specs.Prelude.{Option, Some, None}
 use Rattle.trees.specs.declared.Choice.{Choice}
 use Rattle.trees.specs.declared.Choice.TheVariants.{Word, Chosen}
@@ -108,16 +108,6 @@ pub record Walking (store : List ℕ) (table : Table) (h k : ℕ) (place : List 
   pub long : length left ≡ length place
 
 module _ {store : List ℕ} {table : Table} {h k : ℕ} {place : List ℕ} {at limit : ℕ} where
-  pub walking_starts : Walks store table h k → Limited place at limit → Walking store table h k place at limit place h k at
-  walking_starts walks limits = record {
-    low = omega arith;
-    walks = walks;
-    words = [];
-    reached = λ d chosen. record { tree = d; chosen = chosen; spells = refl };
-    laid = laid_none place at limit limits.within;
-    long = refl;
-  }
-
   -- The walk goes on with a Product's last factor,
   pub walking_on : {left end : List ℕ} {from number next last action rest to : ℕ} {front : Option (ℕ × ℕ)} → length place ≤ limit
       → Walking store table h k place at limit left from number next

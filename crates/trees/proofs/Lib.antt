@@ -8,7 +8,6 @@ pub mod Examples
 -- How a walker chooses.
 pub mod Chosen
 -- What the code reads and stores.
-pub mod Limits
 pub mod Heads
 pub mod Tabled
 -- How the walkers choose by weights, what they lay down, and what tree answers.
