@@ -1,14 +1,10 @@
 -- One completion by its loops: what they queue is what the pair calls for, each entry once.
-use mathlib.Core.Path.{◌≡◌, refl, sym, ◌∙◌, ap, subst}
-use mathlib.Core.Bool.{Bool, true, false}
+use Rattle.std.proofs.Common.{◌≡◌, refl, sym, ◌∙◌, ap, subst, Bool, true, false, List, [], ◌++◌, ◌⊎◌, inl, inr, ⊎_elim, ℕ, ◌+◌, ◌-◌, ◌≤◌, ◌<◌, arith}
 use mathlib.Core.List.Memᴰ.{not-nil as no_member}
-use mathlib.Core.List.{List, [], ◌++◌, Memᴰ as Member}
+use mathlib.Core.List.{Memᴰ as Member}
 use mathlib.Core.List.Memᴰ.{append_cases as member-either}
 use mathlib.Core.List.Memᴰ.{append_left as member-left}
 use mathlib.Core.List.Memᴰ.{append_right as member_right}
-use mathlib.Core.Logic.{◌⊎◌, inl, inr, ⊎_elim}
-use Prim.Native.Nat.{ℕ, ◌+◌, ◌-◌, ◌≤◌, ◌<◌}
-use native.Mathlib.Omega.{arith}
 use Rattle.grammar.specs.Rules.{Grammar, Says, none, rule_at, rule_count}
 use Rattle.earley.proofs.Sieves.{Any}
 use Rattle.earley.proofs.Charts.{Chart}

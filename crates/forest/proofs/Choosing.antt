@@ -1,10 +1,8 @@
 -- The k-th member of joined lists and of pairs: how a walker chooses.
-use mathlib.Core.Path.{◌≡◌, sym, subst}
-use mathlib.Core.List.{List, [], ◌∷◌, ◌++◌, map, flat_map}
-use Prim.Native.Nat.{ℕ, zero, suc, ◌+◌, ◌*◌, ◌/◌, ◌%◌}
-use native.Mathlib.Nat.{suc-mul, zero-mul, div-add-mod, mul_comm}
-use native.Mathlib.Omega.{arith}
-use lib.ListN.{length, length-append, length-map}
+use Rattle.std.proofs.Common.{◌≡◌, sym, subst, List, [], ◌∷◌, ◌++◌, ℕ, zero, suc, ◌+◌, ◌*◌, ◌/◌, ◌%◌, suc-mul, zero-mul, mul_comm, arith, length, length-append}
+use mathlib.Core.List.{map, flat_map}
+use native.Mathlib.Nat.{div-add-mod}
+use lib.ListN.{length-map}
 use Rattle.forest.specs.Lists.{At, first, later}
 use Rattle.forest.specs.Forests.{pairs}
 

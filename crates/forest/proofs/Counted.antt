@@ -1,13 +1,9 @@
 -- Members and "nothing twice" by counts: what the laws of a heap say, read as what the forest asks.
-use mathlib.Core.Path.{◌≡◌, refl, sym, ◌∙◌, ap}
-use mathlib.Core.Bool.{Bool, true, false}
+use Rattle.std.proofs.Common.{◌≡◌, refl, sym, ◌∙◌, ap, Bool, true, false, List, [], ◌∷◌, ◌+◌, ◌≤◌, ◌<◌, arith, length}
 use mathlib.Core.List.Memᴰ.{cast as member-same}
 use mathlib.Core.List.Memᴰ.{head as here}
 use mathlib.Core.List.Memᴰ.{tail as there}
-use mathlib.Core.List.{List, [], ◌∷◌, Memᴰ as Member}
-use Prim.Native.Nat.{◌+◌, ◌≤◌, ◌<◌}
-use native.Mathlib.Omega.{arith}
-use lib.ListN.{length}
+use mathlib.Core.List.{Memᴰ as Member}
 use Rattle.laws.specs.Counts.{count, once}
 use Rattle.laws.proofs.Tests.{either_way}
 use Rattle.forest.specs.Lists.{none, more, Once}

@@ -1,12 +1,6 @@
 -- Entries, pairs and items of a pass: what completing a pair calls for, and what a pass has to keep of its items and handles.
-use mathlib.Core.Path.{◌≡◌, refl, ◌∙◌, ap}
-use mathlib.Core.Bool.{Bool, true, false, ◌&&◌}
-use mathlib.Core.List.{List, Memᴰ as Member}
-use mathlib.Core.Logic.{◌⊎◌}
-use Prim.Native.Nat.{ℕ, ◌≤◌, ◌<◌}
-use native.Mathlib.Omega.{arith}
-use lib.Dec.{eqb}
-use borrow.Author.Tests.{eq-eqb, ne_eqb, eqb-true}
+use Rattle.std.proofs.Common.{◌≡◌, refl, ◌∙◌, ap, Bool, true, false, ◌&&◌, List, ◌⊎◌, ℕ, ◌≤◌, ◌<◌, arith, eqb, eq-eqb, ne_eqb, eqb-true}
+use mathlib.Core.List.{Memᴰ as Member}
 use Rattle.laws.proofs.Tests.{both_true}
 use Rattle.binary_heap.specs.Entry.{Entry}
 use Rattle.grammar.specs.Rules.{Grammar, Says, none, rule_at, rule_count}

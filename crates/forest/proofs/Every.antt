@@ -1,12 +1,10 @@
 -- Exact lists stay exact when positions come; and one of S over all positions has every tree once.
-use mathlib.Core.Path.{refl, sym, ◌∙◌}
-use mathlib.Core.List.{List, [], ◌∷◌, ◌++◌, append-nil, map}
+use Rattle.std.proofs.Common.{refl, sym, ◌∙◌, List, [], ◌∷◌, ◌++◌, append-nil, ℕ, ◌≤◌, length}
+use mathlib.Core.List.{map}
 use mathlib.Core.List.Memᴰ.{head as here}
 use mathlib.Core.List.Memᴰ.{of_map as member-map}
 use mathlib.Core.List.Memᴰ.{tail as there}
 use mathlib.Core.List.{Memᴰ as Member}
-use Prim.Native.Nat.{ℕ, ◌≤◌}
-use lib.ListN.{length}
 use Rattle.grammar.specs.Rules.{Grammar, start}
 use Rattle.grammar.specs.Accepted.{Accepted}
 use Rattle.earley.specs.Positions.{Positions}

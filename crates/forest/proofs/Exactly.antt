@@ -1,16 +1,12 @@
 -- THE FOREST OF ONE POSITION IS EXACT: the trees under the handle of a completed pair are the derivations of its symbol over its stretch, each once.
-use mathlib.Core.Path.{◌≡◌, refl, sym, ◌∙◌, ap, subst, subst₂}
+use Rattle.std.proofs.Common.{◌≡◌, refl, sym, ◌∙◌, ap, subst, subst₂, List, [], ◌∷◌, ◌++◌, ◌≢◌, ℕ, zero, suc, ◌≤◌, ◌<◌, arith, length, get_or, length-append}
 use mathlib.Core.List.Memᴰ.{head as here}
 use mathlib.Core.List.Memᴰ.{not-nil as no_member}
-use mathlib.Core.List.{List, [], ◌∷◌, ◌++◌, flat_map, Memᴰ as Member}
+use mathlib.Core.List.{flat_map, Memᴰ as Member}
 use mathlib.Core.List.Memᴰ.{eq_of_singleton as only}
 use mathlib.Core.List.Memᴰ.{map as map-member}
 use mathlib.Core.List.Memᴰ.{of_map as member-map}
-use mathlib.Core.Logic.{◌≢◌}
-use Prim.Native.Nat.{ℕ, zero, suc, ◌≤◌, ◌<◌}
 use native.Mathlib.Decide.{dec_lt}
-use native.Mathlib.Omega.{arith}
-use lib.ListN.{length, get_or, length-append}
 use lib.Seq.{get_or-append_seam}
 use Rattle.grammar.specs.Rules.{Grammar, Says, none, rule_at}
 use Rattle.grammar.specs.Accepted.{Accepted}

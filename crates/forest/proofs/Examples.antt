@@ -1,9 +1,6 @@
 -- Grammar A: three numbers joined by plus, "0 1 0 1 0", have two trees.
-use mathlib.Core.Path.{◌≡◌, refl, ap}
-use mathlib.Core.List.{List, [], ◌∷◌, ◌++◌, flat_map}
-use Prim.Native.Nat.{ℕ}
-use native.Mathlib.Omega.{arith}
-use lib.ListN.{get_or}
+use Rattle.std.proofs.Common.{◌≡◌, refl, ap, List, [], ◌∷◌, ◌++◌, ℕ, arith, get_or}
+use mathlib.Core.List.{flat_map}
 use Rattle.grammar.specs.Rules.{Rule, Grammar, none, start}
 use Rattle.grammar.proofs.Facts.{rule-says}
 use Rattle.forest.specs.Trees.{Tree, leaf, one, two, Derivation, preorder}

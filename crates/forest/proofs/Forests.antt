@@ -1,8 +1,6 @@
 -- What it is that a list, and a handle, has exactly the derivations; and what the pass over one position leaves of nodes and handles.
-use mathlib.Core.Path.{◌≡◌}
-use mathlib.Core.List.{List, Memᴰ as Member}
-use mathlib.Core.Logic.{◌↔◌}
-use Prim.Native.Nat.{ℕ, ◌<◌}
+use Rattle.std.proofs.Common.{◌≡◌, List, ◌↔◌, ℕ, ◌<◌}
+use mathlib.Core.List.{Memᴰ as Member}
 use Rattle.grammar.specs.Rules.{Grammar, Says, none}
 use Rattle.earley.specs.Positions.{Positions}
 use Rattle.earley.proofs.Charts.{Chart}

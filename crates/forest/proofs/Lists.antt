@@ -1,6 +1,6 @@
 -- Members of joined lists and of pairs, and what joining does to lists in order.
-use mathlib.Core.Path.{◌≡◌, refl, subst}
-use mathlib.Core.List.{List, [], ◌∷◌, ◌++◌, map, flat_map}
+use Rattle.std.proofs.Common.{◌≡◌, refl, subst, List, [], ◌∷◌, ◌++◌, ⊎_elim}
+use mathlib.Core.List.{map, flat_map}
 use mathlib.Core.List.Memᴰ.{append_left as member-left}
 use mathlib.Core.List.Memᴰ.{cast as member-same}
 use mathlib.Core.List.Memᴰ.{head as here}
@@ -10,7 +10,6 @@ use mathlib.Core.List.Memᴰ.{append_cases as member-either}
 use mathlib.Core.List.Memᴰ.{append_right as member_right}
 use mathlib.Core.List.Memᴰ.{map as map-member}
 use mathlib.Core.List.Memᴰ.{of_map as member-map}
-use mathlib.Core.Logic.{⊎_elim}
 use Rattle.forest.specs.Lists.{Ordered, none, more, Once}
 use Rattle.forest.specs.Forests.{pairs}
 

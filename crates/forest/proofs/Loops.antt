@@ -1,7 +1,5 @@
 -- What the loops of a pass push and pop, as lists.
-use mathlib.Core.Path.{◌≡◌, refl, sym, ◌∙◌, ap, subst}
-use mathlib.Core.Bool.{Bool, true, false}
-use mathlib.Core.List.{List, [], ◌∷◌, ◌++◌}
+use Rattle.std.proofs.Common.{◌≡◌, refl, sym, ◌∙◌, ap, subst, Bool, true, false, List, [], ◌∷◌, ◌++◌, ⊎_elim, ℕ, zero, suc, ◌+◌, ◌<◌, arith}
 use mathlib.Core.List.Memᴰ.{head as here}
 use mathlib.Core.List.Memᴰ.{not-nil as no_member}
 use mathlib.Core.List.Memᴰ.{tail as there}
@@ -10,10 +8,7 @@ use mathlib.Core.List.Memᴰ.{append_cases as member-either}
 use mathlib.Core.List.Memᴰ.{append_left as member-left}
 use mathlib.Core.List.Memᴰ.{append_right as member_right}
 use mathlib.Core.List.Memᴰ.{eq_of_singleton as only}
-use mathlib.Core.Logic.{⊎_elim}
-use Prim.Native.Nat.{ℕ, zero, suc, ◌+◌, ◌<◌}
 use native.Mathlib.Decide.{dec_lt}
-use native.Mathlib.Omega.{arith}
 use Rattle.laws.specs.Counts.{count, once}
 use Rattle.laws.proofs.Counts.{count-append}
 use Rattle.laws.specs.Turns.{over, until}

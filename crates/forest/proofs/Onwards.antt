@@ -1,10 +1,6 @@
 -- From position to position: every item of every set, live or not, keeps a handle under which are exactly the derivations; and under the handle
 -- of rule 0's item is every tree.
-use mathlib.Core.Path.{◌≡◌, sym, ◌∙◌, ap, subst, subst₂}
-use mathlib.Core.List.{List, [], ◌∷◌, ◌++◌}
-use Prim.Native.Nat.{ℕ, suc, ◌≤◌, ◌<◌}
-use native.Mathlib.Omega.{arith}
-use lib.ListN.{length, length-append}
+use Rattle.std.proofs.Common.{◌≡◌, sym, ◌∙◌, ap, subst, subst₂, List, [], ◌∷◌, ◌++◌, ℕ, suc, ◌≤◌, ◌<◌, arith, length, length-append}
 use Rattle.grammar.specs.Rules.{Grammar, rule_at}
 use Rattle.grammar.specs.Accepted.{Accepted}
 use Rattle.earley.specs.Positions.{Positions}

@@ -1,12 +1,9 @@
 -- The trees under a handle stand in summand order.
-use mathlib.Core.Path.{◌≡◌, refl, sym, ◌∙◌, subst}
+use Rattle.std.proofs.Common.{◌≡◌, refl, sym, ◌∙◌, subst, List, [], ◌∷◌, ◌++◌, ⊎_elim, ℕ, zero, suc, ◌≤◌, arith}
 use mathlib.Core.List.Memᴰ.{not-nil as no_member}
-use mathlib.Core.List.{List, [], ◌∷◌, ◌++◌, map, flat_map, map-map, map-append, Memᴰ as Member}
+use mathlib.Core.List.{map, flat_map, map-map, map-append, Memᴰ as Member}
 use mathlib.Core.List.Memᴰ.{append_cases as member-either}
 use mathlib.Core.List.Memᴰ.{of_map as member-map}
-use mathlib.Core.Logic.{⊎_elim}
-use Prim.Native.Nat.{ℕ, zero, suc, ◌≤◌}
-use native.Mathlib.Omega.{arith}
 use Rattle.forest.specs.Trees.{Tree, one, two}
 use Rattle.forest.specs.Lists.{Ordered, none, more}
 use Rattle.forest.specs.Forests.{Product, alone, paired, Node, token, sum, other, pairs, of_product, of_node, listed}

@@ -1,10 +1,7 @@
 -- The pairs that a pass at rest has completed are what the rules of completion give: nothing wrong, and closed.
-use mathlib.Core.Path.{◌≡◌, refl, sym, ◌∙◌, ap, subst, subst₂}
+use Rattle.std.proofs.Common.{◌≡◌, refl, sym, ◌∙◌, ap, subst, subst₂, List, [], ◌⊎◌, ⊎_elim, ℕ, zero, suc, ◌≤◌, ◌<◌, arith}
 use mathlib.Core.List.Memᴰ.{not-nil as no_member}
-use mathlib.Core.List.{List, [], Memᴰ as Member}
-use mathlib.Core.Logic.{◌⊎◌, ⊎_elim}
-use Prim.Native.Nat.{ℕ, zero, suc, ◌≤◌, ◌<◌}
-use native.Mathlib.Omega.{arith}
+use mathlib.Core.List.{Memᴰ as Member}
 use Rattle.grammar.specs.Rules.{Grammar, Says, none, rule_at}
 use Rattle.earley.proofs.Charts.{Chart}
 use Rattle.earley.proofs.Steps.{Kinds, DoneFor, PassFor, done_passes}

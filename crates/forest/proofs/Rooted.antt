@@ -1,10 +1,8 @@
 -- Nodes are only added: a handle whose factors all stand lists the same trees, however much is written behind.
-use mathlib.Core.Path.{◌≡◌, refl, sym, ◌∙◌, ap, subst}
+use Rattle.std.proofs.Common.{◌≡◌, refl, sym, ◌∙◌, ap, subst, List, [], ◌∷◌, ◌++◌, ℕ, zero, suc, ◌≤◌, ◌<◌, arith}
 use mathlib.Core.List.Memᴰ.{head as here}
 use mathlib.Core.List.Memᴰ.{tail as there}
-use mathlib.Core.List.{List, [], ◌∷◌, ◌++◌, map, flat_map, Memᴰ as Member}
-use Prim.Native.Nat.{ℕ, zero, suc, ◌≤◌, ◌<◌}
-use native.Mathlib.Omega.{arith}
+use mathlib.Core.List.{map, flat_map, Memᴰ as Member}
 use Rattle.grammar.specs.Rules.{Grammar}
 use Rattle.earley.specs.Positions.{Positions}
 use Rattle.forest.specs.Trees.{Tree, one, two}

@@ -1,6 +1,5 @@
 -- What the rules of an accepted grammar tell of a tree's root.
-use mathlib.Core.Path.{◌≡◌, sym, ◌∙◌, ap, subst}
-use Prim.Native.Nat.{ℕ, ◌≤◌}
+use Rattle.std.proofs.Common.{◌≡◌, sym, ◌∙◌, ap, subst, ℕ, ◌≤◌}
 use Rattle.grammar.specs.Rules.{Grammar, Says, rule_at}
 use Rattle.grammar.specs.Accepted.{Accepted}
 use Rattle.grammar.proofs.Facts.{left-high}

@@ -1,20 +1,14 @@
 -- The premises can be met: the smallest parse, whole. The grammar is S ::= 0, the token 0 is read, its pair calls for the new item of S ::= 0,
 -- and S is completed with it; two nodes are written into a store of three units.
-use mathlib.Core.Path.{◌≡◌, refl, sym, ◌∙◌, ap, subst, subst₂}
-use mathlib.Core.Bool.{true, false}
-use mathlib.Core.List.{List, [], ◌∷◌, ◌++◌, map, flat_map}
+use Rattle.std.proofs.Common.{◌≡◌, refl, sym, ◌∙◌, ap, subst, subst₂, true, false, List, [], ◌∷◌, ◌++◌, ◌⊎◌, inl, inr, ⊎_elim, ℕ, ◌+◌, ◌<◌, arith, eqb, eq-eqb, eqb-true}
+use mathlib.Core.List.{map, flat_map}
 use mathlib.Core.List.Memᴰ.{head as here}
 use mathlib.Core.List.Memᴰ.{not-nil as no_member}
 use mathlib.Core.List.Memᴰ.{tail as there}
 use mathlib.Core.List.{Memᴰ as Member}
 use mathlib.Core.List.Memᴰ.{cases_cons as first-or-later}
 use mathlib.Core.List.Memᴰ.{eq_of_singleton as only}
-use mathlib.Core.Logic.{◌⊎◌, inl, inr, ⊎_elim}
-use Prim.Native.Nat.{ℕ, ◌+◌, ◌<◌}
 use native.Mathlib.Decide.{dec_lt}
-use native.Mathlib.Omega.{arith}
-use lib.Dec.{eqb}
-use borrow.Author.Tests.{eq-eqb, eqb-true}
 use Rattle.laws.specs.Counts.{count}
 use Rattle.laws.proofs.Decides.{true_false}
 use Rattle.grammar.specs.Rules.{Rule, Grammar, none, rule_at}

@@ -1,11 +1,8 @@
 -- At rest each Sum has exactly the summands of its pair, each once, with its factors before it: what `forest_exact` asks.
-use mathlib.Core.Path.{◌≡◌, refl, sym, ◌∙◌, ap, subst, subst₂}
+use Rattle.std.proofs.Common.{◌≡◌, refl, sym, ◌∙◌, ap, subst, subst₂, List, [], ⊎_elim, ℕ, ◌≤◌, ◌<◌, arith}
 use mathlib.Core.List.Memᴰ.{map as map-member}
 use mathlib.Core.List.Memᴰ.{of_map as member-map}
-use mathlib.Core.List.{List, [], map, Memᴰ as Member}
-use mathlib.Core.Logic.{⊎_elim}
-use Prim.Native.Nat.{ℕ, ◌≤◌, ◌<◌}
-use native.Mathlib.Omega.{arith}
+use mathlib.Core.List.{map, Memᴰ as Member}
 use Rattle.grammar.specs.Rules.{Grammar, Says, none, rule_at}
 use Rattle.earley.proofs.Charts.{Chart}
 use Rattle.forest.specs.Forests.{Product, alone, paired, Node, sum}

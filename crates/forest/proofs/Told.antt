@@ -1,8 +1,6 @@
 -- The words of a tree in preorder tell the tree: no tree's words are a beginning of another's from the same symbol.
-use mathlib.Core.Path.{◌≡◌, sym, ◌∙◌, ap}
-use mathlib.Core.List.{List, ◌++◌, append_assoc, head-eq_of_cons-eq, tail-eq_of_cons-eq}
-use Prim.Native.Nat.{ℕ}
-use native.Mathlib.Omega.{arith}
+use Rattle.std.proofs.Common.{◌≡◌, sym, ◌∙◌, ap, List, ◌++◌, append_assoc, ℕ, arith}
+use mathlib.Core.List.{head-eq_of_cons-eq, tail-eq_of_cons-eq}
 use Rattle.grammar.specs.Rules.{Grammar}
 use Rattle.grammar.specs.Accepted.{Accepted}
 use Rattle.forest.specs.Trees.{Tree, leaf, one, two, Derivation, preorder}

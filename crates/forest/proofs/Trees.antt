@@ -1,10 +1,7 @@
 -- Derivations by positions: three numbers instead of a word, as spans are to what symbols derive.
-use mathlib.Core.Path.{◌≡◌, refl, sym, ◌∙◌, subst}
-use mathlib.Core.List.{List, [], ◌∷◌, ◌++◌, Memᴰ as Member}
-use mathlib.Core.Logic.{◌≢◌}
-use Prim.Native.Nat.{ℕ, suc, ◌≤◌, ◌<◌}
-use native.Mathlib.Omega.{arith}
-use lib.ListN.{length, get_or, length-append, get_or-append}
+use Rattle.std.proofs.Common.{◌≡◌, refl, sym, ◌∙◌, subst, List, [], ◌∷◌, ◌++◌, ◌≢◌, ℕ, suc, ◌≤◌, ◌<◌, arith, length, get_or, length-append}
+use mathlib.Core.List.{Memᴰ as Member}
+use lib.ListN.{get_or-append}
 use Rattle.grammar.specs.Rules.{Grammar, Says, none}
 use Rattle.grammar.specs.Sentences.{Derives}
 use Rattle.earley.specs.Positions.{Positions, Spelt, none as nothing, next}

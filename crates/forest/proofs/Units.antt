@@ -1,15 +1,10 @@
 -- The units of a node store as a store of the forest: a Sum written with its Products stands, and stays however much is written behind it.
-use mathlib.Core.Path.{◌≡◌, refl, sym, ◌∙◌, ap}
-use mathlib.Core.Bool.{true}
-use mathlib.Core.List.{List, [], ◌∷◌, map}
-use Prim.Native.Nat.{ℕ, ◌+◌, ◌≤◌, ◌<◌}
-use native.Mathlib.Omega.{arith}
-use lib.ListN.{length, get_or}
+use Rattle.std.proofs.Common.{◌≡◌, refl, sym, ◌∙◌, ap, true, List, [], ◌∷◌, ℕ, ◌+◌, ◌≤◌, ◌<◌, arith, length, get_or, Some, None}
+use mathlib.Core.List.{map}
 use Rattle.node.specs.Choice.{pick}
 use Rattle.node.specs.Rows.{units_at}
 use Rattle.node.specs.Writing.{usable}
 use Rattle.node.specs.Reading.{stand, spelt}
-use Rattle.std.specs.Prelude.{Some, None}
 use Rattle.node.specs.declared.Node.{Node as Written}
 use Rattle.node.specs.declared.Node.TheVariants.{Sum, Product as Factors, Evaluated}
 use Rattle.node.proofs.Stands.{Holds, all_held, all-stand}

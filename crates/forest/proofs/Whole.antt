@@ -1,10 +1,6 @@
 -- ONE POSITION, WHOLE: from the turns of a pass and its writes to a forest that is exact, and rooted, in the store that the pass leaves.
-use mathlib.Core.Path.{◌≡◌, refl, ◌∙◌, subst, subst₂}
-use mathlib.Core.List.{List, [], ◌∷◌, ◌++◌, map, Memᴰ as Member}
-use mathlib.Core.Logic.{◌⊎◌}
-use Prim.Native.Nat.{ℕ, suc, ◌≤◌, ◌<◌}
-use native.Mathlib.Omega.{arith}
-use lib.ListN.{length}
+use Rattle.std.proofs.Common.{◌≡◌, refl, ◌∙◌, subst, subst₂, List, [], ◌∷◌, ◌++◌, ◌⊎◌, ℕ, suc, ◌≤◌, ◌<◌, arith, length}
+use mathlib.Core.List.{map, Memᴰ as Member}
 use Rattle.grammar.specs.Rules.{Grammar, rule_at}
 use Rattle.grammar.specs.Accepted.{Accepted}
 use Rattle.earley.specs.Positions.{Positions}

@@ -1,8 +1,5 @@
 -- Document 01's number and values, and the place of a refusal, determine the answer: two results that meet a promise agree.
-use mathlib.Core.Path.{◌≡◌, refl, sym, ap, ◌∙◌}
-use mathlib.Core.List.{List}
-use Prim.Native.Nat.{ℕ}
-use Rattle.std.specs.Prelude.{Option, Some, None, Result, Ok, Err}
+use Rattle.std.proofs.Common.{◌≡◌, refl, sym, ap, ◌∙◌, List, ℕ, Option, Some, None, Result, Ok, Err}
 use Rattle.node.specs.Answers.{written, found, stopped, walked}
 use Rattle.node.specs.Writing.{StoreOutcome}
 use Rattle.node.specs.declared.Node.{Node}

@@ -1,13 +1,9 @@
 -- Every factor of a Product in a store lies strictly before it: no node is its own factor, and none points forward.
-use Prim.Native.Nat.{ℕ, ◌<◌}
-use mathlib.Core.Path.{◌≡◌}
-use mathlib.Core.Bool.{true}
-use mathlib.Core.List.{List}
+use Rattle.std.proofs.Common.{ℕ, ◌<◌, ◌≡◌, true, List, Option, Some, None}
 use Rattle.node.specs.Rows.{unfit, units_at}
 use Rattle.node.specs.Answers.{answer, done, node, position}
 use Rattle.node.specs.Writing.{usable, write_at}
 use Rattle.node.specs.Reading.{head_from, stand, read_at}
-use Rattle.std.specs.Prelude.{Option, Some, None}
 use Rattle.node.specs.declared.Node.TheVariants.{Product}
 use Rattle.node.proofs.Fit.{FitProduct, fit-product, fit-right}
 use Rattle.node.proofs.Exact.{read_taken}

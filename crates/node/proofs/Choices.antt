@@ -1,9 +1,5 @@
 -- What a choice gives once its test is known.
-use Prim.Native.Nat.{ℕ, ◌<◌, ◌≤◌}
-use mathlib.Core.Path.{◌≡◌, refl, sym, ◌∙◌}
-use mathlib.Core.Bool.{Bool, true, false}
-use lib.Dec.{ltb, leb}
-use borrow.Author.Tests.{ltb-true, leb-true, leb-false, le-leb, lt-leb}
+use Rattle.std.proofs.Common.{ℕ, ◌<◌, ◌≡◌, refl, sym, ◌∙◌, Bool, true, false, ltb, ltb-true}
 use Rattle.node.specs.Choice.{both, both_below}
 
 pub record BothBelow (a x b y : ℕ) : Type 0 where

@@ -1,15 +1,9 @@
 -- The units that are due: the first row that fits, row by row.
-use Prim.Native.Nat.{ℕ, ◌+◌, ◌*◌, ◌<◌}
-use mathlib.Core.Path.{◌≡◌, refl}
-use mathlib.Core.Bool.{false}
-use mathlib.Core.List.{[], ◌∷◌}
-use native.Mathlib.Omega.{arith}
-use lib.Dec.{ltb}
-use borrow.Author.Tests.{lt-ltb, lt-leb, ne_eqb}
+use Rattle.std.proofs.Common.{ℕ, ◌+◌, ◌*◌, ◌<◌, ◌≡◌, refl, false, [], ◌∷◌, arith, ltb, lt-ltb, ne_eqb, Some, None}
+use borrow.Author.Tests.{lt-leb}
 use Rattle.node.specs.Choice.{both, both_below}
 use Rattle.node.specs.Rows.{units_at, row_of, sum_row, alone_row, pair_row, product_row, long_product, leaf_row}
 use Rattle.node.specs.Rows.{unfit, unfit_right, unfit_product, distance, low, high, all_ones, count_limit, action_limit}
-use Rattle.std.specs.Prelude.{Some, None}
 use Rattle.node.specs.declared.Node.TheVariants.{Sum, Product, NullingLeaf, Evaluated}
 use Rattle.node.proofs.Fit.{product-fit, right-fit}
 

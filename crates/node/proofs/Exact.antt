@@ -1,19 +1,12 @@
 -- The reader takes exactly what the writer writes.
-use Prim.Native.Nat.{ℕ, suc, ◌+◌, ◌-◌, ◌≤◌, ◌<◌}
-use mathlib.Core.Path.{◌≡◌, refl, sym, ap, subst, ◌∙◌}
-use mathlib.Core.Bool.{Bool, true, false}
-use mathlib.Core.List.{List, [], ◌∷◌}
-use native.Mathlib.Omega.{arith}
-use lib.ListN.{length, get_or, length-set}
-use lib.Dec.{ltb}
-use borrow.Author.Tests.{ltb-false, lt-ltb, le-ltb, ltb-true, le-leb, lt-leb}
+use Rattle.std.proofs.Common.{ℕ, suc, ◌+◌, ◌-◌, ◌≤◌, ◌<◌, ◌≡◌, refl, sym, ap, subst, ◌∙◌, Bool, true, false, List, [], ◌∷◌, arith, length, get_or, length-set, ltb, ltb-false, lt-ltb, le-ltb, ltb-true, le-leb, Option, Some, None}
+use borrow.Author.Tests.{lt-leb}
 use Rattle.node.specs.Choice.{pick, both}
 use Rattle.node.specs.Rows.{units_at}
 use Rattle.node.specs.Answers.{Answer, answer, refused, done, no_node, node, end, nothing}
 use Rattle.node.specs.Reading.{head_from, stand, stand_all, spelt, head_stands, head_right, faults, lowest, take_node, read_here, read_units}
 use Rattle.node.specs.Reading.{NoNodeAt, zero_behind, Exactly}
 use Rattle.node.specs.declared.Node.{Node}
-use Rattle.std.specs.Prelude.{Option, Some, None}
 use Rattle.node.proofs.Stands.{hold, First, first-stands}
 use Rattle.node.proofs.Spells.{units_spell}
 use Rattle.node.proofs.Lowest.{wrong_head, other-head, second_told}

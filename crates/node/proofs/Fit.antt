@@ -1,17 +1,10 @@
 -- What it means that a node is not unfit.
-use Prim.Native.Nat.{ℕ, ◌<◌, ◌≤◌}
-use mathlib.Core.Path.{◌≡◌, refl, sym, ap, subst, ◌∙◌}
-use mathlib.Core.Bool.{Bool, true, false}
-use mathlib.Core.List.{List, []}
-use native.Mathlib.Omega.{arith}
-use lib.ListN.{length}
-use lib.Dec.{leb, ltb, eqb}
-use borrow.Author.Tests.{leb-false, lt-leb}
+use Rattle.std.proofs.Common.{ℕ, ◌<◌, ◌≤◌, ◌≡◌, refl, sym, ap, subst, ◌∙◌, Bool, true, false, List, [], arith, length, leb, ltb, eqb, leb-false, Option, Some, None}
+use borrow.Author.Tests.{lt-leb}
 use Rattle.node.specs.Choice.{pick, both, either, both_below}
 use Rattle.node.specs.Rows.{unfit, unfit_factor, unfit_right, unfit_product, units_at, row_of}
 use Rattle.node.specs.Rows.{sum_row, long_product, alone_row, pair_row, product_row, leaf_row, distance}
 use Rattle.node.specs.Rows.{count_limit, action_limit, all_ones}
-use Rattle.std.specs.Prelude.{Option, Some, None}
 use Rattle.node.specs.declared.Node.{Node}
 use Rattle.node.specs.declared.Node.TheVariants.{Sum, Product, NullingLeaf, Evaluated}
 

@@ -1,13 +1,5 @@
 -- Nodes written one behind another are read and walked in order.
-use Prim.Native.Nat.{ℕ, zero, suc, ◌+◌, ◌≤◌, ◌<◌}
-use mathlib.Core.Path.{◌≡◌, refl, sym, ap, subst, ◌∙◌}
-use mathlib.Core.Bool.{Bool, true, false}
-use mathlib.Core.List.{List, [], ◌∷◌, ◌++◌}
-use native.Mathlib.Omega.{arith}
-use native.Mathlib.Nat.{add-zero, zero-add}
-use lib.ListN.{length, get_or, drop, length-drop}
-use lib.Seq.{get_or-drop}
-use lib.Dec.{eqb}
+use Rattle.std.proofs.Common.{ℕ, zero, suc, ◌+◌, ◌≤◌, ◌<◌, ◌≡◌, refl, sym, ap, subst, ◌∙◌, Bool, true, false, List, [], ◌∷◌, ◌++◌, arith, add-zero, zero-add, length, get_or, drop, length-drop, get_or-drop, eqb}
 use Rattle.node.specs.Rows.{units_at}
 use Rattle.node.specs.Answers.{Answer, answer, refused, values_of, done, node, position, nothing, end, nodes}
 use Rattle.node.specs.Writing.{usable, write_at}

@@ -1,16 +1,9 @@
 -- A longer form where a shorter was due is 12, seen at its head.
-use Prim.Native.Nat.{ℕ, ◌+◌, ◌*◌, ◌<◌}
-use mathlib.Core.Path.{◌≡◌, refl, sym, ap, subst, ◌∙◌}
-use mathlib.Core.Bool.{Bool, true, false}
-use mathlib.Core.List.{List, [], ◌∷◌}
-use native.Mathlib.Omega.{arith}
-use lib.ListN.{length, get_or}
-use borrow.Author.Tests.{ne_eqb}
+use Rattle.std.proofs.Common.{ℕ, ◌+◌, ◌*◌, ◌<◌, ◌≡◌, refl, sym, ap, subst, ◌∙◌, Bool, true, false, List, [], ◌∷◌, arith, length, get_or, ne_eqb, Some, None}
 use Rattle.node.specs.Choice.{both_below}
 use Rattle.node.specs.Rows.{units_at, long_product, distance, low, high, all_ones}
 use Rattle.node.specs.Answers.{refused, no_node, nothing}
 use Rattle.node.specs.Reading.{filler, head_from, stand, spelt, head_right, read_units}
-use Rattle.std.specs.Prelude.{Some, None}
 use Rattle.node.specs.declared.Node.{Node}
 use Rattle.node.specs.declared.Node.TheVariants.{Sum, Product, NullingLeaf, Evaluated}
 use Rattle.node.proofs.Choices.{BothBelow, below}

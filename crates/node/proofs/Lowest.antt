@@ -1,17 +1,9 @@
 -- The lowest fault: the head where anything is wrong there, and otherwise the first unit that is not zero where zero is due.
-use Prim.Native.Nat.{ℕ, ◌+◌, ◌≤◌, ◌<◌, min}
-use mathlib.Core.Path.{◌≡◌, refl, ap, ◌∙◌}
-use mathlib.Core.Bool.{Bool, true, false}
-use mathlib.Core.List.{List, [], ◌∷◌}
-use native.Mathlib.Omega.{arith}
-use lib.ListN.{length, get_or}
-use lib.Dec.{ltb, leb, eqb}
-use borrow.Author.Tests.{lt-ltb, ne_eqb, leb-true}
+use Rattle.std.proofs.Common.{ℕ, ◌+◌, ◌≤◌, ◌<◌, min, ◌≡◌, refl, ap, ◌∙◌, Bool, true, false, List, [], ◌∷◌, arith, length, get_or, ltb, leb, eqb, lt-ltb, ne_eqb, leb-true, Some}
 use Rattle.node.specs.Choice.{pick, both}
 use Rattle.node.specs.Rows.{units_at}
 use Rattle.node.specs.Reading.{holds, head_stands, head_right, not_zero, faults, lowest}
 use Rattle.node.specs.declared.Node.{Node}
-use Rattle.std.specs.Prelude.{Some}
 use Rattle.node.proofs.Choices.{Both, both_true}
 use Rattle.node.proofs.Stands.{held}
 

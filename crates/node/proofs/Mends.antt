@@ -1,18 +1,10 @@
 -- What a zero behind the head would mend: nothing but the second unit of a wide leaf.
-use Prim.Native.Nat.{ℕ, zero, suc, ◌+◌, ◌*◌, ◌<◌}
-use mathlib.Core.Path.{◌≡◌, refl, sym, ap, subst, ◌∙◌}
-use mathlib.Core.Bool.{Bool, true, false}
-use mathlib.Core.List.{List, [], ◌∷◌}
-use native.Mathlib.Omega.{arith}
-use lib.ListN.{length, get_or, length-set}
-use lib.Seq.{get_or-set_same, get_or-set_other}
-use lib.Dec.{ltb}
-use borrow.Author.Tests.{lt-ltb, ltb-true, eqb-false}
+use Rattle.std.proofs.Common.{ℕ, zero, suc, ◌+◌, ◌*◌, ◌<◌, ◌≡◌, refl, sym, ap, subst, ◌∙◌, Bool, true, false, List, [], ◌∷◌, arith, length, get_or, length-set, get_or-set_same, get_or-set_other, ltb, lt-ltb, ltb-true, Some, None}
+use borrow.Author.Tests.{eqb-false}
 use Rattle.node.specs.Choice.{pick, both, both_below}
 use Rattle.node.specs.Rows.{distance, units_at, row_of, sum_row, long_product, alone_row, pair_row, product_row}
 use Rattle.node.specs.Rows.{leaf_row, unfit, unfit_right, low, high, all_ones, count_limit, action_limit}
 use Rattle.node.specs.Reading.{spelt, value_at, stand_all, stand, zero_behind}
-use Rattle.std.specs.Prelude.{Some, None}
 use Rattle.node.specs.declared.Node.{Node}
 use Rattle.node.specs.declared.Node.TheVariants.{Sum, Product, NullingLeaf, Evaluated}
 use Rattle.node.proofs.Choices.{BothBelow, below, Both, both_true}

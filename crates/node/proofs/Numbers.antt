@@ -1,10 +1,8 @@
 -- Document 01's numbers to try, as rows of one table under one statement.
-use mathlib.Core.Path.{◌≡◌, refl}
-use mathlib.Core.List.{List, [], ◌∷◌, ◌++◌}
+use Rattle.std.proofs.Common.{◌≡◌, refl, List, [], ◌∷◌, ◌++◌, Some, None}
 use Rattle.node.specs.Choice.{both_below}
 use Rattle.node.specs.Rows.{units_at, row_of, sum_row, long_product, alone_row, pair_row, product_row, leaf_row, unfit, unfit_product}
 use Rattle.node.specs.Rows.{unfit_right}
-use Rattle.std.specs.Prelude.{Some, None}
 use Rattle.node.specs.declared.Node.TheVariants.{Sum, Product, NullingLeaf}
 
 -- A row: what the definitions give, and what document 01 prints.

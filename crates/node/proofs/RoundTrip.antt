@@ -1,13 +1,6 @@
 -- Write then read, and read then write.
-use Prim.Native.Nat.{ℕ, zero, suc, ◌+◌, ◌*◌, ◌≤◌, ◌<◌, min}
-use mathlib.Core.Path.{◌≡◌, refl, sym, ap, subst, ◌∙◌}
-use mathlib.Core.Bool.{Bool, true, false}
-use mathlib.Core.List.{List, [], ◌∷◌, ◌++◌}
-use native.Mathlib.Omega.{arith}
-use lib.ListN.{length, get_or, replicate, length-replicate, length-append}
-use lib.Seq.{get_or-append-add}
-use lib.Dec.{leb}
-use borrow.Author.Tests.{leb-true}
+use Rattle.std.proofs.Common.{ℕ, zero, suc, ◌+◌, ◌*◌, ◌≤◌, ◌<◌, min, ◌≡◌, refl, sym, ap, subst, ◌∙◌, Bool, true, false, List, [], ◌∷◌, ◌++◌, arith, length, get_or, replicate, length-append, get_or-append-add, leb, leb-true, Some}
+use lib.ListN.{length-replicate}
 use Rattle.node.specs.Choice.{pick}
 use Rattle.node.specs.Rows.{units_at, unfit, row_of, count_limit}
 use Rattle.node.specs.Answers.{Answer, answer, refused, done, value_unfit, out_of_room, node, position, nothing}
@@ -15,7 +8,6 @@ use Rattle.node.specs.Writing.{StoreOutcome, usable, usable_units, put, place, w
 use Rattle.node.specs.Reading.{filler, head_from, stand_all, stand, spelt_by, long_spelt, value_at, read_units, read_at}
 use Rattle.node.specs.declared.Node.{Node}
 use Rattle.node.specs.declared.Node.TheVariants.{Sum}
-use Rattle.std.specs.Prelude.{Some}
 use Rattle.node.proofs.Fit.{fit-sum}
 use Rattle.node.proofs.Fillers.{head-here}
 use Rattle.node.proofs.Runs.{length-usable, length-put, place_done, write_some}

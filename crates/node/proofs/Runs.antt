@@ -1,13 +1,6 @@
 -- Units one behind another: two at a time, in the store and put there.
-use Prim.Native.Nat.{ℕ, ◌+◌, ◌≤◌, ◌<◌, min}
-use mathlib.Core.Path.{◌≡◌, refl, sym, ap, ◌∙◌}
-use mathlib.Core.Bool.{Bool, true, false}
-use mathlib.Core.List.{List, [], ◌∷◌}
-use native.Mathlib.Omega.{arith}
-use borrow.Author.Tests.{leb-true, leb-false, le-leb, lt-leb}
-use lib.Dec.{leb}
-use lib.ListN.{length, set, take, length-set, length-take}
-use lib.Seq.{take_all}
+use Rattle.std.proofs.Common.{ℕ, ◌+◌, ◌≤◌, ◌<◌, min, ◌≡◌, refl, sym, ap, ◌∙◌, Bool, true, false, List, [], ◌∷◌, arith, leb-true, leb-false, le-leb, leb, length, set, take, length-set, length-take, take_all}
+use borrow.Author.Tests.{lt-leb}
 use Rattle.node.specs.Rows.{}
 use Rattle.node.specs.Answers.{answer, refused, done, out_of_room, nothing, position}
 use Rattle.node.specs.Writing.{usable, usable_units, put, place, write_units}

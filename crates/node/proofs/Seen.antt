@@ -1,17 +1,9 @@
 -- A fault is seen exactly where no node stands: so of a 12 there is a lowest one.
-use Prim.Native.Nat.{ℕ, ◌+◌}
-use mathlib.Core.Path.{◌≡◌, refl, sym, subst, ◌∙◌}
-use mathlib.Core.Bool.{Bool, true, false}
-use mathlib.Core.List.{List, [], ◌∷◌, ◌++◌}
-use native.Mathlib.Omega.{arith}
-use lib.ListN.{get_or}
-use lib.Dec.{ltb, eqb}
-use borrow.Author.Tests.{le-ltb, ltb-false, eqb-true, ne_eqb}
+use Rattle.std.proofs.Common.{ℕ, ◌+◌, ◌≡◌, refl, sym, subst, ◌∙◌, Bool, true, false, List, [], ◌∷◌, ◌++◌, arith, get_or, ltb, eqb, le-ltb, ltb-false, eqb-true, ne_eqb, Some}
 use Rattle.node.specs.Choice.{pick, both}
 use Rattle.node.specs.Rows.{units_at}
 use Rattle.node.specs.Reading.{stand, stand_all, spelt, head_right, not_zero, faults}
 use Rattle.node.specs.declared.Node.{Node}
-use Rattle.std.specs.Prelude.{Some}
 use Rattle.node.proofs.Stands.{First, first-stands}
 use Rattle.node.proofs.Almost.{Narrow, Almost, almost, stands, wide}
 use Rattle.node.proofs.Exact.{right_of, stand-right}

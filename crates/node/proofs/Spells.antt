@@ -1,18 +1,10 @@
 -- The reader's table undoes the writer's: the units of a node, where they stand, spell that node.
-use Prim.Native.Nat.{ℕ, ◌+◌, ◌-◌, ◌*◌, ◌/◌, ◌%◌, ◌<◌}
-use mathlib.Core.Path.{◌≡◌, refl, sym, ap, ◌∙◌}
-use mathlib.Core.Bool.{Bool, true, false}
-use mathlib.Core.List.{List, [], ◌∷◌}
-use native.Mathlib.Omega.{arith}
-use lib.ListN.{get_or}
-use lib.Dec.{ltb, eqb}
-use borrow.Author.Tests.{lt-ltb, le-ltb, le-leb, ltb-true}
+use Rattle.std.proofs.Common.{ℕ, ◌+◌, ◌-◌, ◌*◌, ◌/◌, ◌%◌, ◌<◌, ◌≡◌, refl, sym, ap, ◌∙◌, Bool, true, false, List, [], ◌∷◌, arith, get_or, ltb, eqb, lt-ltb, le-ltb, le-leb, ltb-true, Option, Some, None}
 use Rattle.node.specs.Choice.{pick, both, both_below}
 use Rattle.node.specs.Rows.{distance, units_at, row_of, sum_row, long_product, alone_row, pair_row, product_row}
 use Rattle.node.specs.Rows.{leaf_row, unfit, low, high, all_ones, count_limit, action_limit}
 use Rattle.node.specs.Reading.{factor_at, alone, paired, long_right, value_at, near_spelt, leaf_spelt, long_spelt, spelt_by, spelt}
 use Rattle.node.specs.Reading.{stand}
-use Rattle.std.specs.Prelude.{Option, Some, None}
 use Rattle.node.specs.declared.Node.{Node}
 use Rattle.node.specs.declared.Node.TheVariants.{Sum, Product, NullingLeaf, Evaluated}
 use Rattle.node.proofs.Choices.{BothBelow, below, Both, both_true}

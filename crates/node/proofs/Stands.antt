@@ -1,17 +1,8 @@
 -- What it means that units stand at a position.
-use Prim.Native.Nat.{ℕ, zero, suc, ◌+◌, ◌-◌, ◌*◌, ◌<◌}
-use mathlib.Core.Path.{◌≡◌, refl, sym, ap, ◌∙◌}
-use mathlib.Core.Bool.{Bool, true, false, ◌&&◌}
-use mathlib.Core.List.{List, [], ◌∷◌}
-use native.Mathlib.Nat.{add-zero, add_assoc}
-use native.Mathlib.Omega.{arith}
-use lib.ListN.{length, get_or, take, drop, drop_of_length-le, length-drop}
-use lib.Seq.{drop-cons, take_all}
+use Rattle.std.proofs.Common.{ℕ, zero, suc, ◌+◌, ◌-◌, ◌*◌, ◌<◌, ◌≡◌, refl, sym, ap, ◌∙◌, Bool, true, false, ◌&&◌, List, [], ◌∷◌, add-zero, add_assoc, arith, length, get_or, take, drop, drop_of_length-le, length-drop, drop-cons, take_all, add-one, ltb, eqb, ltb-true, ltb-false, eqb-true, lt-ltb, eq-eqb, ne_eqb}
 use lib.Pointwise.{pointwise}
-use native.Mathlib.Numerals.{add-one}
 use Rattle.node.specs.Choice.{both}
-use lib.Dec.{ltb, eqb}
-use borrow.Author.Tests.{ltb-true, ltb-false, eqb-true, eqb-false, lt-ltb, eq-eqb, ne_eqb}
+use borrow.Author.Tests.{eqb-false}
 use Rattle.node.specs.Reading.{holds, stand_all, stand, value_at}
 use Rattle.node.proofs.Choices.{Both, both_true}
 

@@ -1,9 +1,5 @@
 -- The walk, read by read.
-use Prim.Native.Nat.{ℕ, zero, suc, ◌+◌, ◌<◌}
-use mathlib.Core.Path.{◌≡◌, refl, ap, ◌∙◌}
-use mathlib.Core.List.{List}
-use native.Mathlib.Omega.{arith}
-use lib.ListN.{length}
+use Rattle.std.proofs.Common.{ℕ, zero, suc, ◌+◌, ◌<◌, ◌≡◌, refl, ap, ◌∙◌, List, arith, length}
 use Rattle.node.specs.Answers.{Answer, answer, refused, done, no_node, node, end, nothing, position, nodes}
 use Rattle.node.specs.Reading.{read_units}
 use Rattle.node.specs.Walking.{go_on, walk_on, walk_from}

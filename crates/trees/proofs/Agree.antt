@@ -1,9 +1,5 @@
 -- Two answers that meet a statement are one, and so are the places that they leave.
-use mathlib.Core.Path.{◌≡◌, refl, ap}
-use mathlib.Core.List.{List, ◌++◌}
-use Prim.Native.Nat.{ℕ, ◌<◌}
-use native.Mathlib.Omega.{arith}
-use lib.ListN.{length, drop}
+use Rattle.std.proofs.Common.{◌≡◌, refl, ap, List, ◌++◌, ℕ, ◌<◌, arith, length, drop}
 use Rattle.node.specs.Answers.{done, no_node}
 use Rattle.laws.specs.Fills.{too_short}
 use Rattle.forest.specs.Trees.{Tree, preorder}

@@ -1,11 +1,7 @@
 -- What tree answers, from the weight at the handle and from the walks.
 use Rattle.trees.specs.declared.table.Table.{Table}
-use mathlib.Core.Path.{◌≡◌, sym, ap, subst, ◌∙◌}
-use mathlib.Core.List.{List, ◌++◌}
-use Prim.Native.Nat.{ℕ, ◌+◌, ◌≤◌, ◌<◌, min}
+use Rattle.std.proofs.Common.{◌≡◌, sym, ap, subst, ◌∙◌, List, ◌++◌, ℕ, ◌+◌, ◌≤◌, ◌<◌, min, arith, length, drop, take, take-append-drop, Some}
 use native.Mathlib.Decide.{dec_lt}
-use native.Mathlib.Omega.{arith}
-use lib.ListN.{length, drop, take, take-append-drop}
 use lib.Seq.{sets-eq}
 use borrow.Author.Tests.{lt-leb}
 use Rattle.node.specs.Choice.{pick}
@@ -22,7 +18,6 @@ use Rattle.trees.specs.inner.Tables.{Filled}
 use Rattle.trees.specs.inner.Walks.{Walkable, Walks, Walked}
 use Rattle.trees.specs.declared.Weight.{Weight}
 use Rattle.trees.specs.declared.Weight.TheVariants.{Fault, Number, Many}
-use Rattle.std.specs.Prelude.{Some}
 use Rattle.trees.proofs.Means.{Means}
 use Rattle.trees.proofs.Weighing.{FaultBelow}
 use Rattle.trees.proofs.Counting.{weight_means, all_sound, lowest-fault}

@@ -1,7 +1,6 @@
 -- What is below what is below, and the first step down.
-use mathlib.Core.Path.{◌≡◌, sym, subst}
-use mathlib.Core.List.{List, Memᴰ as Member}
-use Prim.Native.Nat.{ℕ, ◌<◌}
+use Rattle.std.proofs.Common.{◌≡◌, sym, subst, List, ℕ, ◌<◌}
+use mathlib.Core.List.{Memᴰ as Member}
 use Rattle.forest.specs.Forests.{Product, Node, sum, FactorOf, Under}
 use Rattle.forest.specs.Stores.{node_at}
 use Rattle.trees.specs.Faults.{Below}

@@ -1,19 +1,13 @@
 -- The walker's choice by weights: the Product of the k-th tree, and the numbers of its factors' trees.
 use Rattle.trees.specs.declared.table.Table.{Table}
-use mathlib.Core.Path.{◌≡◌, refl, sym, ap, subst, ◌∙◌}
-use mathlib.Core.Bool.{true, false}
-use mathlib.Core.List.{List, [], ◌∷◌, flat_map}
+use Rattle.std.proofs.Common.{◌≡◌, refl, sym, ap, subst, ◌∙◌, true, false, List, [], ◌∷◌, ◌≢◌, ℕ, zero, suc, ◌-◌, ◌*◌, ◌/◌, ◌%◌, ◌≤◌, ◌<◌, mul-zero, mod-eq_of_lt, mod-lt, div-lt_iff_lt-mul, arith, length, length-append, ltb-true, ltb-false, Option, Some, None}
+use mathlib.Core.List.{flat_map}
 use mathlib.Core.List.Memᴰ.{head as here}
 use mathlib.Core.List.Memᴰ.{tail as there}
 use mathlib.Core.List.{Memᴰ as Member}
-use mathlib.Core.Logic.{◌≢◌}
-use Prim.Native.Nat.{ℕ, zero, suc, ◌-◌, ◌*◌, ◌/◌, ◌%◌, ◌≤◌, ◌<◌}
-use native.Mathlib.Nat.{mul-zero, div-eq_of_lt, mod-eq_of_lt, mod-lt, div-lt_iff_lt-mul}
-use native.Mathlib.Omega.{arith}
-use lib.ListN.{length, length-append, length-map}
-use borrow.Author.Tests.{ltb-true, ltb-false}
+use native.Mathlib.Nat.{div-eq_of_lt}
+use lib.ListN.{length-map}
 use Rattle.node.specs.Writing.{usable_units, usable}
-use Rattle.std.specs.Prelude.{Option, Some, None}
 use Rattle.forest.specs.Trees.{Tree, one, two}
 use Rattle.forest.specs.Lists.{At}
 use Rattle.forest.specs.Forests.{Product, sum, other, FactorOf, of_product, listed}

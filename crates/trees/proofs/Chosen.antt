@@ -1,12 +1,9 @@
 -- The trees under a sound handle, one Sum at a time: how a walker chooses.
-use mathlib.Core.Path.{◌≡◌, refl, sym, ap, subst, ◌∙◌}
-use mathlib.Core.List.{List, [], ◌∷◌, ◌++◌, map, flat_map}
+use Rattle.std.proofs.Common.{◌≡◌, refl, sym, ap, subst, ◌∙◌, List, [], ◌∷◌, ◌++◌, ℕ, zero, suc, ◌+◌, ◌-◌, ◌≤◌, ◌<◌, arith, length}
+use mathlib.Core.List.{map, flat_map}
 use mathlib.Core.List.Memᴰ.{head as here}
 use mathlib.Core.List.Memᴰ.{tail as there}
-use Prim.Native.Nat.{ℕ, zero, suc, ◌+◌, ◌-◌, ◌≤◌, ◌<◌}
 use native.Mathlib.Decide.{dec_lt}
-use native.Mathlib.Omega.{arith}
-use lib.ListN.{length}
 use Rattle.forest.specs.Trees.{Tree, one, two}
 use Rattle.forest.specs.Lists.{At, first, later}
 use Rattle.forest.specs.Forests.{Product, alone, paired, Node, token, sum, other, FactorOf, pairs, of_product, of_node, listed}

@@ -1,16 +1,10 @@
 -- What count answers, from the table's entry at the handle.
-use mathlib.Core.Path.{◌≡◌, refl, sym, subst, ap, ◌∙◌}
-use mathlib.Core.List.{List}
-use mathlib.Core.Logic.{◌≢◌}
-use Prim.Native.Nat.{ℕ, suc, ◌≤◌}
-use native.Mathlib.Omega.{arith}
-use lib.ListN.{length}
+use Rattle.std.proofs.Common.{◌≡◌, refl, sym, subst, ap, ◌∙◌, List, ◌≢◌, ℕ, suc, ◌≤◌, arith, length, Option, Some, None, Ok, Err}
 use Rattle.forest.specs.Forests.{Product, Node, sum, Under}
 use Rattle.forest.specs.Stores.{node_at, trees_at}
 use Rattle.trees.specs.Faults.{asked_at, Faulty, Below, LowestFault, Sound}
 use Rattle.trees.specs.Answers.{Answer, counted, Counts}
 use Rattle.trees.specs.inner.Weights.{weigh_node, entry_in, weights, entry_at, answer_of}
-use Rattle.std.specs.Prelude.{Option, Some, None, Ok, Err}
 use Rattle.trees.specs.declared.Uncounted.TheVariants.{Faulty as FaultyAt}
 use Rattle.trees.specs.declared.Weight.{Weight}
 use Rattle.trees.proofs.Belows.{Down, below_down}

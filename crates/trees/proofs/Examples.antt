@@ -1,8 +1,6 @@
 -- The inputs of C-20's readings, computed.
-use mathlib.Core.Path.{◌≡◌, refl}
-use mathlib.Core.List.{List, [], ◌∷◌, flat_map}
-use Prim.Native.Nat.{ℕ}
-use native.Mathlib.Omega.{arith}
+use Rattle.std.proofs.Common.{◌≡◌, refl, List, [], ◌∷◌, ℕ, arith, Result, Ok, Err}
+use mathlib.Core.List.{flat_map}
 use Rattle.laws.specs.Fills.{too_short}
 use Rattle.node.specs.Choice.{both_below}
 use Rattle.node.specs.Rows.{units_at, row_of, sum_row, long_product, alone_row, pair_row, product_row, leaf_row, unfit, unfit_right, unfit_product}
@@ -16,7 +14,6 @@ use Rattle.forest.specs.Stores.{products_at, node_at, trees_at}
 use Rattle.trees.specs.Faults.{asked_at, Sound}
 use Rattle.trees.specs.Answers.{answer, nothing, words, no_such_tree, counted, Counts, Tells}
 use Rattle.trees.specs.inner.Weights.{limited, lower, plus, often, times, of_entry, factor_weight, product_weight, sum_from, closed, weigh_node, weights}
-use Rattle.std.specs.Prelude.{Result, Ok, Err}
 use Rattle.trees.specs.declared.Uncounted.{Uncounted}
 use Rattle.trees.specs.declared.Uncounted.TheVariants.{Faulty}
 use Rattle.trees.specs.declared.Weight.TheVariants.{Fault, Number}

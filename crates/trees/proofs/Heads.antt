@@ -1,19 +1,11 @@
 -- What is read of a store is what stands in it.
-use mathlib.Core.Path.{◌≡◌, refl, sym, ap, subst, ◌∙◌}
-use mathlib.Core.Bool.{Bool, true, false}
-use mathlib.Core.List.{List, [], ◌∷◌}
-use mathlib.Core.Logic.{◌≢◌}
-use Prim.Native.Nat.{ℕ, suc, ◌+◌, ◌<◌}
+use Rattle.std.proofs.Common.{◌≡◌, refl, sym, ap, subst, ◌∙◌, Bool, true, false, List, [], ◌∷◌, ◌≢◌, ℕ, suc, ◌+◌, ◌<◌, arith, length, get_or, get_or-take, Option, Some, None}
 use native.Mathlib.Decide.{dec_lt}
-use native.Mathlib.Omega.{arith}
-use lib.ListN.{length, get_or}
-use lib.Seq.{get_or-take}
 use Rattle.node.specs.Choice.{pick}
 use Rattle.node.specs.Rows.{units_at}
 use Rattle.node.specs.Writing.{usable_units, usable}
 use Rattle.node.specs.Reading.{filler, head_from, holds, stand, spelt, read_at}
 use Rattle.node.specs.Answers.{Answer, answer, refused, done, node, end, nothing, no_node}
-use Rattle.std.specs.Prelude.{Option, Some, None}
 use Rattle.node.specs.declared.Node.{Node as Written}
 use Rattle.node.specs.declared.Node.TheVariants.{Sum, Product as Factors, NullingLeaf, Evaluated}
 use Rattle.node.proofs.Fillers.{head_past, head-here}

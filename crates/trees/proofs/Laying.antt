@@ -1,18 +1,13 @@
 -- Words laid down one after another, and a tree walked piece by piece.
 use Rattle.trees.specs.declared.table.Table.{Table}
-use mathlib.Core.Path.{◌≡◌, refl, sym, ap, subst, ◌∙◌}
-use mathlib.Core.List.{List, [], ◌∷◌, ◌++◌, append_assoc}
-use Prim.Native.Nat.{ℕ, zero, suc, ◌+◌, ◌≤◌, ◌<◌, min}
+use Rattle.std.proofs.Common.{◌≡◌, refl, sym, ap, subst, ◌∙◌, List, [], ◌∷◌, ◌++◌, append_assoc, ℕ, zero, suc, ◌+◌, ◌≤◌, ◌<◌, min, arith, length, set, length-append, Option, Some, None}
 use native.Mathlib.Decide.{dec_lt}
-use native.Mathlib.Omega.{arith}
-use lib.ListN.{length, set, length-append}
 use lib.Seq.{sets, length-sets, set_out}
 use Rattle.forest.specs.Trees.{Tree, leaf, preorder}
 use Rattle.forest.specs.Lists.{At, first}
 use Rattle.forest.specs.Forests.{token, of_node, listed}
 use Rattle.forest.specs.Stores.{node_at, trees_at}
 use Rattle.trees.specs.inner.Walks.{Walks, FrontWalks, FrontWords, front_end, Reached, Picks, Laid, Walked, FrontWalked}
-use Rattle.std.specs.Prelude.{Option, Some, None}
 use Rattle.trees.specs.declared.Choice.{Choice}
 use Rattle.trees.specs.declared.Choice.TheVariants.{Word, Chosen}
 use Rattle.trees.proofs.Chosen.{kth}

@@ -1,11 +1,6 @@
 -- What a weight means of faults and of a number of trees, and that sums and products of weights mean it of both.
-use mathlib.Core.Path.{◌≡◌, refl, sym, subst, ap, ◌∙◌}
-use mathlib.Core.Logic.{◌⊎◌, inl, inr, ⊎_elim}
-use Prim.Native.Nat.{ℕ, zero, suc, ◌+◌, ◌*◌, ◌≤◌, ◌<◌}
-use native.Mathlib.Nat.{suc-mul, zero-mul, mul_comm}
+use Rattle.std.proofs.Common.{◌≡◌, refl, sym, subst, ap, ◌∙◌, ◌⊎◌, inl, inr, ⊎_elim, ℕ, zero, suc, ◌+◌, ◌*◌, ◌≤◌, ◌<◌, suc-mul, zero-mul, mul_comm, arith, lt-ltb, le-ltb, eq-eqb, ne_eqb}
 use native.Mathlib.Decide.{dec_lt}
-use native.Mathlib.Omega.{arith}
-use borrow.Author.Tests.{lt-ltb, le-ltb, eq-eqb, ne_eqb}
 use Rattle.node.specs.Choice.{pick}
 use Rattle.trees.specs.Answers.{tree_limit}
 use Rattle.trees.specs.inner.Weights.{limited, lower, plus, often, times}

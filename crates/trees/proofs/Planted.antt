@@ -1,9 +1,6 @@
 -- Where a forest was planted nothing is faulty: each Sum below a handle has its Products behind it, and factors before it.
-use mathlib.Core.Path.{◌≡◌, sym, ap, subst, ◌∙◌}
-use mathlib.Core.List.{List, ◌∷◌, map}
-use Prim.Native.Nat.{ℕ, ◌<◌}
-use native.Mathlib.Omega.{arith}
-use lib.ListN.{length}
+use Rattle.std.proofs.Common.{◌≡◌, sym, ap, subst, ◌∙◌, List, ◌∷◌, ℕ, ◌<◌, arith, length}
+use mathlib.Core.List.{map}
 use Rattle.node.specs.Writing.{usable}
 use Rattle.node.specs.declared.Node.TheVariants.{Sum}
 use Rattle.forest.specs.Forests.{Product, Node, sum, other, Under}

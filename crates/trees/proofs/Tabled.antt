@@ -1,16 +1,9 @@
 -- The table as rows of numbers, filled position by position.
 use Rattle.trees.specs.declared.table.Table.{Table}
-use mathlib.Core.Path.{◌≡◌, refl, sym, ap, ◌∙◌}
-use mathlib.Core.List.{List, [], ◌∷◌}
-use Prim.Native.Nat.{ℕ, suc, ◌+◌, ◌-◌, ◌≤◌, ◌<◌}
+use Rattle.std.proofs.Common.{◌≡◌, refl, sym, ap, ◌∙◌, List, [], ◌∷◌, ℕ, suc, ◌+◌, ◌-◌, ◌≤◌, ◌<◌, arith, length, ltb, lt-ltb, le-ltb, Option, Some, None, unwrap_or}
 use native.Mathlib.Decide.{dec_lt}
-use native.Mathlib.Omega.{arith}
-use lib.ListN.{length}
-use lib.Dec.{ltb}
-use borrow.Author.Tests.{lt-ltb, le-ltb}
 use Rattle.node.specs.Choice.{pick}
 use Rattle.node.specs.Writing.{usable}
-use Rattle.std.specs.Prelude.{Option, Some, None, unwrap_or}
 use Rattle.forest.specs.Forests.{Product, alone, paired, Node, token, sum, other}
 use Rattle.forest.specs.Stores.{products_at, node_at}
 use Rattle.trees.specs.Faults.{asked_at}

@@ -1,16 +1,11 @@
 -- THE TABLE: the entry at a position tells the lowest fault below it, or the number of its trees.
-use mathlib.Core.Path.{◌≡◌, refl, sym, subst, ap, ◌∙◌}
-use mathlib.Core.List.{List, [], ◌∷◌, ◌++◌, flat_map}
+use Rattle.std.proofs.Common.{◌≡◌, refl, sym, subst, ap, ◌∙◌, List, [], ◌∷◌, ◌++◌, inl, inr, ⊎_elim, ℕ, zero, suc, ◌+◌, ◌≤◌, ◌<◌, arith, length, get_or, length-append, get_or-append-add, lt-ltb, le-ltb, Option, Some, None}
+use mathlib.Core.List.{flat_map}
 use mathlib.Core.List.Memᴰ.{head as here}
 use mathlib.Core.List.Memᴰ.{tail as there}
 use mathlib.Core.List.{Memᴰ as Member}
-use mathlib.Core.Logic.{inl, inr, ⊎_elim}
-use Prim.Native.Nat.{ℕ, zero, suc, ◌+◌, ◌≤◌, ◌<◌}
 use native.Mathlib.Decide.{dec_lt}
-use native.Mathlib.Omega.{arith}
-use lib.ListN.{length, get_or, length-append, length-map, get_or-append}
-use lib.Seq.{get_or-append-add}
-use borrow.Author.Tests.{lt-ltb, le-ltb}
+use lib.ListN.{length-map, get_or-append}
 use Rattle.node.specs.Choice.{pick}
 use Rattle.forest.specs.Trees.{one, two}
 use Rattle.forest.specs.Forests.{Product, alone, paired, Node, token, sum, other, FactorOf, Under, of_product, of_node, listed}
@@ -20,7 +15,6 @@ use Rattle.trees.specs.Faults.{asked_at, Faulty, Below, Sound}
 use Rattle.trees.specs.inner.Weights.{plus, of_entry, factor_weight, product_weight, sum_from, closed, weigh_node, entry_in, weigh, weights, entry_at}
 use Rattle.trees.specs.declared.Weight.{Weight}
 use Rattle.trees.specs.declared.Weight.TheVariants.{Fault, Number}
-use Rattle.std.specs.Prelude.{Option, Some, None}
 use Rattle.trees.proofs.Belows.{below_through, Down, below_down, FactorIn, under_sum, sum_under}
 use Rattle.trees.proofs.Means.{Means, means_same, Or, plus_means, times_means}
 

@@ -1,6 +1,5 @@
 -- `read` meets its contract: the usable part of the store is read, and the answer is exact.
-use mathlib.Core.Path.{◌≡◌, sym, ap, subst, ◌∙◌}
-use native.Mathlib.Omega.{arith}
+use Rattle.std.proofs.Common.{◌≡◌, sym, ap, subst, ◌∙◌, arith}
 use Rattle.node.specs.Answers.{found}
 use Rattle.node.specs.Writing.{usable}
 use Rattle.node.specs.Reading.{read_at, read_units, Exactly}

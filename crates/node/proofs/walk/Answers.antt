@@ -1,5 +1,5 @@
 -- `walk` meets its contract: the usable part of the store is walked.
-use mathlib.Core.Path.{ap, ◌∙◌}
+use Rattle.std.proofs.Common.{ap, ◌∙◌}
 use Rattle.node.specs.Walking.{walk_from}
 use Rattle.node.proofs.Runs.{usable-part}
 use Rattle.node.proofs.walk.Goals as goal

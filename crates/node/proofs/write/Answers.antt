@@ -1,6 +1,5 @@
 -- `write` meets its contract: the units of the node are placed, and an unfit node has none.
-use mathlib.Core.Path.{sym, ap, ◌∙◌}
-use native.Mathlib.Omega.{arith}
+use Rattle.std.proofs.Common.{sym, ap, ◌∙◌, arith}
 use Rattle.node.specs.Writing.{write_units}
 use Rattle.node.proofs.Fit.{own-units, none-fitting}
 use Rattle.node.proofs.Runs.{write_some}

@@ -1,7 +1,5 @@
 -- `total` meets its contract: the entry at the handle tells the answer.
-use mathlib.Core.Path.{◌≡◌, sym, subst, ◌∙◌}
-use native.Mathlib.Omega.{arith}
-use Rattle.std.specs.Prelude.{Some}
+use Rattle.std.proofs.Common.{◌≡◌, sym, subst, ◌∙◌, arith, Some}
 use Rattle.trees.specs.Answers.{Counts, counted}
 use Rattle.trees.specs.inner.Weights.{entry_at}
 use Rattle.trees.proofs.Counting.{weight_counts, sum_told}

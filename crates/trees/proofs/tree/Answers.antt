@@ -1,6 +1,5 @@
 -- `tree` meets its contract: a handle at no Sum is the fault itself.
-use mathlib.Core.Path.{sym, ap, ◌∙◌}
-use Rattle.std.specs.Prelude.{Some}
+use Rattle.std.proofs.Common.{sym, ap, ◌∙◌, Some}
 use Rattle.trees.specs.Answers.{Tells}
 use Rattle.trees.proofs.Heads.{head-sum, sums, no_sum}
 use Rattle.trees.proofs.Counting.{no_sum-lowest}

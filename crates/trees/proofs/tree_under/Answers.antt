@@ -1,6 +1,5 @@
 -- `tree_under` meets its contract: the entry at the handle decides.
-use mathlib.Core.Path.{sym, ◌∙◌}
-use native.Mathlib.Omega.{arith}
+use Rattle.std.proofs.Common.{sym, ◌∙◌, arith}
 use Rattle.trees.proofs.Counting.{sum_told}
 use Rattle.trees.proofs.tree_under.Goals as goal
 

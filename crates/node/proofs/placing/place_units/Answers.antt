@@ -1,8 +1,5 @@
 -- `placing::place_units` meets its contract: units that fit, and units that do not.
-use Prim.Native.Nat.{◌+◌, ◌-◌, ◌≤◌, ◌<◌, min}
-use mathlib.Core.Path.{sym}
-use native.Mathlib.Omega.{arith}
-use lib.ListN.{length}
+use Rattle.std.proofs.Common.{◌+◌, ◌-◌, ◌≤◌, ◌<◌, min, sym, arith, length}
 use Rattle.node.specs.Writing.{usable_units}
 use Rattle.node.proofs.Runs.{place_done, place-full}
 use Rattle.node.proofs.Puts.{put-part}

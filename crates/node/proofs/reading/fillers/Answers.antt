@@ -1,11 +1,9 @@
 -- `reading::fillers` meets its contract, by the library's word for it.
-use mathlib.Core.Path.{sym, ◌∙◌}
-use Rattle.std.proofs.Common.{rules, tests}
+use Rattle.std.proofs.Common.{sym, ◌∙◌, rules, tests, eqb}
 use Rattle.std.proofs.lemmas.Iterator.{YieldsList-from_slice}
 use Rattle.std.proofs.lemmas.Iterator.Search.{YieldsList-from_take_while}
 use Rattle.std.proofs.lemmas.Iterator.Consumers.{count_from_yields_List}
 use Rattle.std.proofs.lemmas.List.Folds.{length-prefix_len}
-use lib.Dec.{eqb}
 use Rattle.node.specs.Reading.{filler}
 use Rattle.node.proofs.Fillers.{fillers_are}
 use Rattle.node.proofs.reading.fillers.Goals as goal

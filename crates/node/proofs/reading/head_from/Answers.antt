@@ -1,9 +1,5 @@
 -- `reading::head_from` meets its contract.
-use mathlib.Core.Path.{sym}
-use native.Mathlib.Omega.{arith}
-use Prim.Native.Nat.{ℕ, ◌-◌}
-use mathlib.Core.List.{List}
-use lib.ListN.{length, take, drop, length-take, length-drop}
+use Rattle.std.proofs.Common.{sym, arith, ℕ, ◌-◌, List, length, take, drop, length-take, length-drop}
 use Rattle.node.proofs.Fillers.{fillers-few, head_past}
 use Rattle.node.proofs.reading.head_from.Goals as goal
 

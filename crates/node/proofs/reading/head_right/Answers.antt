@@ -1,10 +1,5 @@
 -- `reading::head_right` meets its contract: the head is tested first, then the room.
-use Prim.Native.Nat.{◌-◌}
-use mathlib.Core.Path.{◌≡◌, refl, sym, ◌∙◌}
-use mathlib.Core.Bool.{Bool, true, false}
-use lib.ListN.{length}
-use lib.Dec.{leb}
-use borrow.Author.Tests.{leb-true, leb-false, ne_eqb}
+use Rattle.std.proofs.Common.{◌-◌, ◌≡◌, refl, sym, ◌∙◌, Bool, true, false, length, leb, leb-true, leb-false, ne_eqb}
 use Rattle.node.specs.Reading as R
 use Rattle.node.proofs.Exact.{head_told, head_other, head_cut}
 use Rattle.node.proofs.reading.head_right.Goals as goal

@@ -1,6 +1,5 @@
 -- `reading::read_here` meets its contract: the spelt node is taken where its own units stand; otherwise its head is right or wrong.
-use mathlib.Core.Path.{sym, ap, ◌∙◌}
-use native.Mathlib.Omega.{arith}
+use Rattle.std.proofs.Common.{sym, ap, ◌∙◌, arith}
 use Rattle.node.specs.Reading.{read_here, take_node, faults, lowest}
 use Rattle.node.proofs.Exact.{take_like, take_second, take_head, take_unfit}
 use Rattle.node.proofs.Almost.{Narrow}

@@ -1,6 +1,5 @@
 -- `reading::read_units` meets its contract: the node at the head, or the end.
-use mathlib.Core.Path.{sym, ◌∙◌}
-use borrow.Author.Tests.{lt-ltb, le-ltb}
+use Rattle.std.proofs.Common.{sym, ◌∙◌, lt-ltb, le-ltb}
 use Rattle.std.proofs.lemmas.Result.{err_from_is_err_and}
 use Rattle.node.specs.Reading.{read_units}
 use Rattle.node.proofs.reading.read_units.Goals as goal

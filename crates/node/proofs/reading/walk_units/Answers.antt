@@ -1,6 +1,4 @@
-use mathlib.Core.Path.{◌≡◌, sym, ap, ◌∙◌}
-use native.Mathlib.Omega.{arith}
-use Rattle.std.specs.Prelude.{Ok}
+use Rattle.std.proofs.Common.{◌≡◌, sym, ap, ◌∙◌, arith, Ok}
 use Rattle.node.specs.Answers.{answer, done, node, found}
 use Rattle.node.specs.Reading.{read_units}
 use Rattle.node.proofs.Exact.{Onward, read_onward}

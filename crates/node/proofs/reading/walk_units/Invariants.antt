@@ -1,8 +1,5 @@
 -- `reading::walk_units` meets its contract. The loop's invariant: what is left to walk gives what is wanted.
-use Prim.Native.Nat.{ℕ, ◌≤◌, ◌-◌}
-use mathlib.Core.Path.{◌≡◌}
-use mathlib.Core.List.{List}
-use lib.ListN.{length}
+use Rattle.std.proofs.Common.{ℕ, ◌≤◌, ◌-◌, ◌≡◌, List, length}
 use Rattle.node.specs.Walking.{walk_from}
 use Rattle.node.proofs.reading.walk_units.Given as goal
 

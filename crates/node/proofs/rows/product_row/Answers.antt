@@ -1,5 +1,5 @@
 -- `rows::product_row` meets its contract: a fit Product has what its row asks.
-use mathlib.Core.Path.{sym, ap, ◌∙◌}
+use Rattle.std.proofs.Common.{sym, ap, ◌∙◌}
 use Rattle.node.specs.Rows.{unfit_right}
 use Rattle.node.proofs.Fit.{fit-product, fit-right}
 use Rattle.node.proofs.rows.product_row.Goals as goal

@@ -1,5 +1,5 @@
 -- `rows::row_of` meets its contract: what is not unfit has the limits that its row asks.
-use mathlib.Core.Path.{sym, ap, ◌∙◌}
+use Rattle.std.proofs.Common.{sym, ap, ◌∙◌}
 use Rattle.node.specs.Rows.{unfit}
 use Rattle.node.proofs.Fit.{fit-sum}
 use Rattle.node.proofs.rows.row_of.Goals as goal

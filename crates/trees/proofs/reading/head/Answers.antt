@@ -1,6 +1,5 @@
 -- `reading::head` meets its contract: what is read where no filler is stands there.
-use mathlib.Core.Path.{sym, ap, ◌∙◌}
-use Rattle.std.specs.Prelude.{Ok}
+use Rattle.std.proofs.Common.{sym, ap, ◌∙◌, Ok}
 use Rattle.node.specs.Answers.{found}
 use Rattle.trees.proofs.Heads.{filler-head, read_head, none_head, end_none, fault_none}
 use Rattle.trees.proofs.reading.head.Goals as goal

@@ -1,6 +1,5 @@
 -- `reading::step` meets its contract: what is read stands behind the fillers.
-use mathlib.Core.Path.{sym, ap, ◌∙◌}
-use Rattle.std.specs.Prelude.{Ok}
+use Rattle.std.proofs.Common.{sym, ap, ◌∙◌, Ok}
 use Rattle.node.specs.Answers.{found}
 use Rattle.trees.proofs.Heads.{read_step, none_step, end_none, fault_none}
 use Rattle.trees.proofs.reading.step.Goals as goal

@@ -1,5 +1,5 @@
 -- `telling::by_weight` meets its contract, weight by weight.
-use native.Mathlib.Omega.{arith}
+use Rattle.std.proofs.Common.{arith}
 use Rattle.trees.proofs.Answering.{tells-fault, tells_none, number_walks, many_walks}
 use Rattle.trees.proofs.telling.by_weight.Goals as goal
 

@@ -1,5 +1,5 @@
 -- `telling::write` meets its contract: the words are counted, and written where they fit.
-use native.Mathlib.Omega.{arith}
+use Rattle.std.proofs.Common.{arith}
 use Rattle.trees.proofs.Answering.{nothing_written, tells-short, tells-written}
 use Rattle.trees.proofs.telling.write.Goals as goal
 

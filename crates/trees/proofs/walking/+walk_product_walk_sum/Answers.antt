@@ -1,5 +1,4 @@
-use mathlib.Core.Path.{ap}
-use native.Mathlib.Omega.{arith}
+use Rattle.std.proofs.Common.{ap, arith}
 use Rattle.trees.specs.inner.Walks.{front_end}
 use Rattle.trees.proofs.Laying.{walking_on, walking_word, walking_full, worded, onward, left_walks, front-alone, front-walked}
 use Rattle.trees.proofs.walking.+walk_product_walk_sum.Goals as goal

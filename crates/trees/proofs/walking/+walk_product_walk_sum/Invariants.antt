@@ -1,5 +1,5 @@
 -- `walking::walk_sum` and `walking::walk_product`, which call each other, meet their contracts. The Sum's handle falls.
-use Prim.Native.Nat.{◌+◌, ◌*◌}
+use Rattle.std.proofs.Common.{◌+◌, ◌*◌}
 use Rattle.trees.specs.inner.Walks.{front_end}
 use Rattle.trees.proofs.Laying.{Walking}
 use Rattle.trees.proofs.walking.+walk_product_walk_sum.Given as goal

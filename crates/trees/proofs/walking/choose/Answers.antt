@@ -1,6 +1,4 @@
-use Prim.Native.Nat.{ℕ, suc, ◌+◌, ◌-◌, ◌<◌}
-use mathlib.Core.Path.{◌≡◌, sym, subst, ◌∙◌}
-use native.Mathlib.Omega.{arith}
+use Rattle.std.proofs.Common.{ℕ, suc, ◌+◌, ◌-◌, ◌<◌, ◌≡◌, sym, subst, ◌∙◌, arith}
 use Rattle.node.specs.Writing.{usable}
 use Rattle.forest.specs.Stores.{products_at}
 use Rattle.trees.proofs.Choices.{Passing, passing-starts, passing-some, reads_none, no_products, turn_divides, turn_picks, turn_low, turn_on}

@@ -1,5 +1,5 @@
 -- `walking::choose` meets its contract: the Products that do not have the tree are passed over.
-use Prim.Native.Nat.{◌-◌}
+use Rattle.std.proofs.Common.{◌-◌}
 use Rattle.node.specs.Writing.{usable}
 use Rattle.forest.specs.Stores.{products_at}
 use Rattle.trees.proofs.Choices.{Passing}

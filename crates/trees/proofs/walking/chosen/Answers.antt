@@ -1,6 +1,5 @@
 -- `walking::chosen` meets its contract: at a Sum a Product is chosen, at a leaf its symbol.
-use mathlib.Core.Path.{sym, ap, ◌∙◌}
-use Rattle.std.specs.Prelude.{Some}
+use Rattle.std.proofs.Common.{sym, ap, ◌∙◌, Some}
 use Rattle.trees.proofs.Choices.{choosing_sum, leaf_picks, neither_walks}
 use Rattle.trees.proofs.walking.chosen.Goals as goal
 

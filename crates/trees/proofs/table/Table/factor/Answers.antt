@@ -1,5 +1,5 @@
 -- `table::Table::factor` meets its contract: a factor lies before its Sum, and has an entry.
-use mathlib.Core.Path.{◌∙◌}
+use Rattle.std.proofs.Common.{◌∙◌}
 use Rattle.trees.proofs.Tabled.{factor_late, factor-tells, entry-or}
 use Rattle.trees.proofs.table.Table.factor.Goals as goal
 

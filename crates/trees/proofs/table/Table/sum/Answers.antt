@@ -1,6 +1,4 @@
-use Prim.Native.Nat.{suc, ◌+◌, ◌-◌}
-use mathlib.Core.Path.{◌≡◌, sym, ap, ◌∙◌}
-use native.Mathlib.Omega.{arith}
+use Rattle.std.proofs.Common.{suc, ◌+◌, ◌-◌, ◌≡◌, sym, ap, ◌∙◌, arith}
 use Rattle.node.specs.Writing.{usable}
 use Rattle.trees.specs.inner.Tables.{tabled}
 use Rattle.trees.proofs.Tabled.{rest, rest_done, rest_ended, rest_step}

@@ -1,6 +1,5 @@
 -- `table::Table::sum` meets its contract: what is weighed so far and what is left give what the whole gives.
-use Prim.Native.Nat.{◌-◌}
-use mathlib.Core.Path.{◌≡◌}
+use Rattle.std.proofs.Common.{◌-◌, ◌≡◌}
 use Rattle.node.specs.Writing.{usable}
 use Rattle.trees.specs.inner.Tables.{tabled}
 use Rattle.trees.specs.declared.Weight.TheVariants.{Number}

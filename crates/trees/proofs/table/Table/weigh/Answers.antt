@@ -1,6 +1,5 @@
 -- `table::Table::weigh` meets its contract: what is found at a position is weighed.
-use mathlib.Core.Path.{sym, ap, ◌∙◌}
-use Rattle.std.specs.Prelude.{Some, None}
+use Rattle.std.proofs.Common.{sym, ap, ◌∙◌, Some, None}
 use Rattle.trees.specs.declared.Head.TheVariants.{SumOf, Leaf}
 use Rattle.trees.proofs.Heads.{head_weighs}
 use Rattle.trees.proofs.table.Table.weigh.Goals as goal
