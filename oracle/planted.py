@@ -18,7 +18,9 @@ EDITS = [
     ("the first item whose second is completed is passed over", "completion/src/medial.rt",
      "        for place in self.medial_item_set_range(from, to, pair.symbol) {", "        for place in self.medial_item_set_range(from, to, pair.symbol).skip(1) {",
      model.GRAMMAR_A, [0, 1, 0, 1, 0], ["compared 3", "stopped 0", "disagreement 3", "main no", "plain yes"]),
-    ("finished behind every rule but one", "recognizer/src/within.rt", "        return item::rule(items, end - 1) == 0;", "        return item::rule(items, end - 1) != 1;",
+    ("finished behind every rule but one", "recognizer/src/within.rt",
+     "    (starts[state.set] as usize) < state.items && item::rule(items, state.items - 1) == 0",
+     "    (starts[state.set] as usize) < state.items && item::rule(items, state.items - 1) != 1",
      model.GRAMMAR_A, [0, 1, 0], ["compared 2", "stopped 0", "disagreement 2", "main yes", "plain no"]),
 ]
 
