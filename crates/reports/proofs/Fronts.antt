@@ -5,7 +5,8 @@ use Prim.Native.Nat.{ℕ, suc, ◌+◌, ◌≤◌, ◌<◌}
 use native.Mathlib.Omega.{arith}
 use lib.ListN.{length, set, drop, length-append, length-drop}
 use lib.Seq.{take_at, drop-append-add, drop-drop, set-append_seam, drop-cons}
-use Rattle.reports.specs.declared.Filled.TheVariants.{Wrote, TooShort}
+use Rattle.std.specs.Prelude.{Ok, Err}
+use Rattle.reports.specs.declared.Unfilled.TheVariants.{TooShort}
 use Rattle.reports.specs.inner.Puts.{Puts, written}
 
 -- Words put right behind a list that stands in front of a place stand in front with it.
@@ -33,12 +34,12 @@ pub front_long : (place l : List ℕ) → length l ≤ length place → length (
 front_long place l fits = omega (arith, length-append l (drop (length l) place), length-drop (length l) place)
 
 -- A place that is shorter than the count of the list, and one that has the list in front.
-pub puts_short : (list place : List ℕ) (needed : ℕ) → needed ≡ length list → length place < needed → Puts list place (TooShort needed) place
+pub puts_short : (list place : List ℕ) (needed : ℕ) → needed ≡ length list → length place < needed → Puts list place (Err (TooShort needed)) place
 puts_short list place needed is l =
-    let short : length place < length list = omega arith in subst (λ (n : ℕ). Puts list place (TooShort n) place) (sym is) (Puts.short short)
+    let short : length place < length list = omega arith in subst (λ (n : ℕ). Puts list place (Err (TooShort n)) place) (sym is) (Puts.short short)
 
 pub puts_wrote : (list place : List ℕ) (needed : ℕ) (out : List ℕ) → needed ≡ length list → needed ≤ length place → out ≡ list ++ drop (length list) place
-    → Puts list place (Wrote needed) out
+    → Puts list place (Ok needed) out
 puts_wrote list place needed out is l are =
     let fits : length list ≤ length place = omega arith in
-    subst₂ (λ (n : ℕ) (o : List ℕ). Puts list place (Wrote n) o) (sym is) (sym are) (Puts.wrote fits)
+    subst₂ (λ (n : ℕ) (o : List ℕ). Puts list place (Ok n) o) (sym is) (sym are) (Puts.wrote fits)

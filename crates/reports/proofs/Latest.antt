@@ -1,10 +1,10 @@
 -- The latest set of a well-formed state, in the words that are lent and in those within the capacities.
 use mathlib.Core.Path.{◌≡◌, refl, sym, ap, ap₂, ◌∙◌}
-use mathlib.Core.List.{List, [], ◌∷◌, ◌++◌, append_assoc}
+use mathlib.Core.List.{List, [], ◌∷◌, ◌++◌}
 use Prim.Native.Nat.{ℕ, zero, suc, ◌+◌, ◌-◌, ◌*◌, ◌≤◌, ◌<◌}
 use native.Mathlib.Omega.{arith}
-use lib.ListN.{length, get_or, set, take, drop, length-append, length-drop}
-use lib.Seq.{get_or-take, sets-eq}
+use lib.ListN.{length, get_or, take, drop, length-append, length-drop}
+use lib.Seq.{get_or-take}
 use Rattle.laws.specs.Bits.{row_of}
 use Rattle.laws.specs.Records.{flat}
 use Rattle.laws.proofs.Records.{flat-length, flat_append}
@@ -12,7 +12,7 @@ use Rattle.bits.specs.Width.{row_words}
 use Rattle.item.specs.Item.{Item, HasPlace, item_words, item_at, origin_at, rule_at}
 use Rattle.grammar.specs.Rules.{Rule, Grammar, no_rule}
 use Rattle.grammar.specs.Accepted.{max_rules}
-use Rattle.grammar.specs.inner.Decoded.{left_in, first_in, second_in, rules_in}
+use Rattle.grammar.specs.inner.Decoded.{left_in, first_in, second_in, rules_in, rules_of}
 use Rattle.grammar.proofs.Decoding.{in_count, in_left, in_first, in_second}
 use Rattle.parse.specs.declared.State.{State}
 use Rattle.parse.specs.Words.{Words, item_room, set_room, within, start_of}
@@ -22,11 +22,8 @@ use Rattle.advance.specs.NewItems.{items_from}
 use Rattle.advance.proofs.Placed.{items-count, item_eq}
 use Rattle.advance.proofs.Inserting.{items_more}
 use Rattle.demands.specs.Calls.{Formed}
-use Rattle.recognizer.specs.declared.Sizes.{Sizes}
-use Rattle.recognizer.specs.declared.ready.Readied.{Readied}
-use Rattle.recognizer.specs.declared.ready.Readied.TheVariants as readied
-use Rattle.recognizer.specs.inner.Opening.{Readies}
-use Rattle.recognizer.proofs.Readying.{readied_few, readied_formed}
+use Rattle.grammar.specs.declared.Grammar as held
+use Rattle.recognizer.specs.inner.Opening.{ReadyFor}
 use Rattle.recognizer.proofs.Cutting.{cut-part}
 use Rattle.reports.specs.Lists.{latest_items, five_words}
 use Rattle.reports.specs.inner.Puts.{written, five, RowThere, Listable}
@@ -97,23 +94,9 @@ row_listable {g = g} s w formed = record {
 }
 
 -- .. and its latest items.
-pub rules_listable : (file : List ℕ) (s : State) (w : Words) (words : List ℕ) (r : Readied) → Readies file s w words r → (sizes : Sizes) → r ≡ readied.Formed sizes → {from : ℕ}
-    → from ≡ get_or w.starts s.set 0 → Listable sizes.rules w.items from s.items
-rules_listable file s w words r tells sizes is at =
-    latest_listable sizes.symbols (rules_in words sizes.rules) s w (readied_formed file s w words r tells sizes is).well_formed sizes.rules _ (in_count words 0 0 sizes.rules)
-    (readied_few file s w words r tells sizes is) at
-
--- Five words stored one behind the other.
-pub five-stored : (out : List ℕ) (at a b c d e : ℕ) → at + five ≤ length out
-    → set (set (set (set (set out at a) (at + 1) b) (at + 2) c) (at + 3) d) (at + 4) e ≡ written out at (a ∷ b ∷ c ∷ d ∷ e ∷ [])
-five-stored out at a b c d e l =
-    let second : at + 1 ≡ suc at = omega arith in
-    let third : at + 2 ≡ suc (suc at) = omega arith in
-    let fourth : at + 3 ≡ suc (suc (suc at)) = omega arith in
-    let fifth : at + 4 ≡ suc (suc (suc (suc at))) = omega arith in
-    (λ k. set (set (set (set (set out at a) (second k) b) (third k) c) (fourth k) d) (fifth k) e)
-    ∙ sets-eq (a ∷ b ∷ c ∷ d ∷ e ∷ []) out at l
-    ∙ append_assoc (take at out) (a ∷ b ∷ c ∷ d ∷ e ∷ []) (drop (at + five) out)
+pub rules_listable : {file : List ℕ} {g : held.Grammar} (s : State) (w : Words) → ReadyFor file s w g → {from : ℕ} → from ≡ get_or w.starts s.set 0 → Listable g.rules.count w.items from s.items
+rules_listable {g = g} s w ready at =
+    latest_listable g.symbols (rules_of g.rules) s w ready.well_formed g.rules.count _ (in_count g.rules.words 0 0 g.rules.count) ready.opened.few at
 
 -- The five words of an item.
 pub five_are : (words : List ℕ) (count : ℕ) (items : List ℕ) (p : ℕ) → rule_at items p < count → {r rule a b c origin : ℕ} → rule ≡ rule_at items p → r ≡ rule

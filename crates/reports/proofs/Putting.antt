@@ -6,7 +6,8 @@ use native.Mathlib.Omega.{arith}
 use lib.ListN.{length, take, drop, set, length-append, length-drop, take-append-drop}
 use lib.Seq.{length-take-le, take_at, drop-append-add, drop-drop, set_split}
 use Rattle.reports.specs.Decimal.{digit, decimal}
-use Rattle.reports.specs.declared.Filled.TheVariants.{Wrote, TooShort}
+use Rattle.std.specs.Prelude.{Ok, Err}
+use Rattle.reports.specs.declared.Unfilled.TheVariants.{TooShort}
 use Rattle.reports.specs.inner.Puts.{Puts, written}
 use Rattle.reports.specs.inner.Puts.Puts.{short, wrote}
 use Rattle.reports.specs.inner.Lines.{PutAt}
@@ -94,9 +95,9 @@ put_tens {place} {mid} {at} {m} {n} {b} fits l p e =
     (put_then p (put_byte mid m b (omega (arith, p.ends, one_more n l, put-length p))))
 
 -- A list that is put from the start of its place on is written ..
-pub told_wrote : {list place left : List ℕ} {end : ℕ} → PutAt place 0 list end left → Puts list place (Wrote end) left
+pub told_wrote : {list place left : List ℕ} {end : ℕ} → PutAt place 0 list end left → Puts list place (Ok end) left
 told_wrote {list} {place} {left} {end} p =
-    subst (λ (n : ℕ). Puts list place (Wrote n) left) (sym whole) (subst (Puts list place (Wrote (length list))) (sym leaves) (wrote (omega (arith, p.fits))))
+    subst (λ (n : ℕ). Puts list place (Ok n) left) (sym whole) (subst (Puts list place (Ok (length list))) (sym leaves) (wrote (omega (arith, p.fits))))
   where
     whole : end ≡ length list
     whole = omega (arith, p.ends)
@@ -107,5 +108,5 @@ told_wrote {list} {place} {left} {end} p =
         p.leaves ∙ ap (λ (n : ℕ). list ++ drop n place) from-the-start
 
 -- .. and of one that is longer than its place the length is told.
-pub told_short : {list place : List ℕ} {needed : ℕ} → needed ≡ length list → length place < needed → Puts list place (TooShort needed) place
-told_short {list} {place} e l = subst (λ (n : ℕ). Puts list place (TooShort n) place) (sym e) (short (omega (arith, e)))
+pub told_short : {list place : List ℕ} {needed : ℕ} → needed ≡ length list → length place < needed → Puts list place (Err (TooShort needed)) place
+told_short {list} {place} e l = subst (λ (n : ℕ). Puts list place (Err (TooShort n)) place) (sym e) (short (omega (arith, e)))

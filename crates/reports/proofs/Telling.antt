@@ -35,7 +35,8 @@ use Rattle.demands.proofs.Agree.{checked_grammar, call_number, not_formed}
 use Rattle.demands.proofs.Lasting.{lasts, lasts_holding, no_fault}
 use Rattle.earley.proofs.Plain.{one_kind}
 use Rattle.earley.proofs.Answers.{row_any}
-use Rattle.reports.specs.declared.Filled.{Filled}
+use Rattle.std.specs.Prelude.{Result}
+use Rattle.reports.specs.declared.Unfilled.{Unfilled}
 use Rattle.reports.specs.Answers.{filled_number, filled_count}
 use Rattle.reports.specs.Lists.{expected_tokens, latest_items, Reported, Lists}
 use Rattle.reports.specs.Sentences.{In, GoesOn, ExpectedTells}
@@ -44,13 +45,13 @@ use Rattle.reports.proofs.Latest.{items-same}
 use Rattle.reports.proofs.Held.{listed-held, held-listed}
 
 -- What was put is what is told.
-pub puts_list : {file : List ℕ} {s : State} {w : Words} {g : Grammar} {list : Grammar → State → Words → List ℕ} {l place out : List ℕ} {r : Filled} → Formed file s w g
+pub puts_list : {file : List ℕ} {s : State} {w : Words} {g : Grammar} {list : Grammar → State → Words → List ℕ} {l place out : List ℕ} {r : Result ℕ Unfilled} → Formed file s w g
     → l ≡ list g s (within w) → Puts l place r out → Lists file s w list place (filled_number r) (filled_count r) out
 puts_list {file} {s} {w} {list = list} formed is (Puts.short long) = Fills.short (subst (Reported file s w list) (sym is) (Reported.formed formed)) long
 puts_list {file} {s} {w} {list = list} formed is (Puts.wrote fits) = Fills.done (subst (Reported file s w list) (sym is) (Reported.formed formed)) fits
 
 -- So are the latest items, put in whatever words.
-pub puts_items : {file : List ℕ} {s : State} {w : Words} {g : Grammar} {from : ℕ} {place out : List ℕ} {r : Filled} (words : List Rule → Item → List ℕ) → Formed file s w g
+pub puts_items : {file : List ℕ} {s : State} {w : Words} {g : Grammar} {from : ℕ} {place out : List ℕ} {r : Result ℕ Unfilled} (words : List Rule → Item → List ℕ) → Formed file s w g
     → from ≡ get_or w.starts s.set 0 → Puts (flat (words g.rules) (items_from w.items from (s.items - from))) place r out
     → Lists file s w (λ h t v. flat (words h.rules) (latest_items t v)) place (filled_number r) (filled_count r) out
 puts_items {s = s} {w} {g} {from} words formed is puts =

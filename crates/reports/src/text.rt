@@ -1,17 +1,16 @@
 // Items as lines of text.
 ghost use Rattle.std.specs.Prelude.{◌≡◌, ◌++◌, ◌+◌, ◌-◌, ◌≤◌, length};
 ghost use Rattle.laws.specs.Records.{flat};
-ghost use Rattle.grammar.specs.inner.Decoded.{rules_in};
+ghost use Rattle.grammar.specs.inner.Decoded.{rules_of};
 ghost use Rattle.advance.specs.NewItems.{items_from};
 ghost use Rattle.reports.specs.Decimal.{decimal};
 ghost use Rattle.reports.specs.Lists.{line};
 ghost use Rattle.reports.specs.inner.Puts.{Puts, Listable};
 ghost use Rattle.reports.specs.inner.Lines.{most_line, PutAt, Listed, Shows, line_at, lines_of};
 
-use crate::Filled;
+use crate::Unfilled;
 use crate::decimal::{digits, put_decimal};
-use grammar::rules::{Rules, first, left, second};
-use item::wide;
+use grammar::rules::Rules;
 
 // What stands behind the left side, the first symbol, the second and the origin.
 const BECOMES: [u8; 5] = *b" ::= ";
@@ -35,37 +34,37 @@ struct Shown {
 }
 
 // What the line of the item at place `p` shows.
-fn show(rules: &Rules, count: usize, items: &[u32], p: usize) -> Shown
-    requires { Listed count items.now p }
-    ensures { Shows rules.now count items.now p result }
+fn show(rules: &Rules, items: &[u32], p: usize) -> Shown
+    requires { Listed rules.now.count items.now p }
+    ensures { Shows rules.now.words rules.now.count items.now p result }
 {
-    let rule = wide(item::rule(items, p));
+    let rule = item::rule(items, p) as usize;
     Shown {
-        left: left(rules, rule),
-        first: first(rules, rule),
-        second: second(rules, rule),
-        origin: wide(item::origin(items, p)),
+        left: rules.left(rule),
+        first: rules.first(rule),
+        second: rules.second(rule),
+        origin: item::origin(items, p) as usize,
     }
 }
 
 // How long the line of the item at place `p` is.
-fn line_length(rules: &Rules, count: usize, items: &[u32], p: usize) -> usize
-    requires { Listed count items.now p }
-    ensures { (result ≡ length (line_at rules.now count items.now p)) × (result ≤ most_line) }
+fn line_length(rules: &Rules, items: &[u32], p: usize) -> usize
+    requires { Listed rules.now.count items.now p }
+    ensures { (result ≡ length (line_at rules.now.words rules.now.count items.now p)) × (result ≤ most_line) }
 {
-    let shown = show(rules, count, items, p);
+    let shown = show(rules, items, p);
     let symbols = digits(shown.left) + digits(shown.first) + digits(shown.second);
     symbols + digits(shown.origin) + SIGNS
 }
 
 // How long the lines of the items at the places from `from` up to and without `to` are.
-fn text_length(rules: &Rules, count: usize, items: &[u32], from: usize, to: usize) -> usize
-    requires { Listable count items.now from to }
-    ensures { result ≡ length (lines_of rules.now count items.now from to) }
+fn text_length(rules: &Rules, items: &[u32], from: usize, to: usize) -> usize
+    requires { Listable rules.now.count items.now from to }
+    ensures { result ≡ length (lines_of rules.now.words rules.now.count items.now from to) }
 {
     let mut total = 0;
     for p in from..to {
-        total += line_length(rules, count, items, p);
+        total += line_length(rules, items, p);
     }
     total
 }
@@ -90,20 +89,13 @@ fn put_number(out: &mut [u8], at: usize, n: usize, sign: &[u8]) -> usize
 }
 
 // Puts the line of the item at place `p` at `at`; answers the place behind it.
-fn put_line(
-    rules: &Rules,
-    count: usize,
-    items: &[u32],
-    p: usize,
-    out: &mut [u8],
-    at: usize,
-) -> usize
-    requires { Listed count items.now p
-        × (at + length (line_at rules.now count items.now p) ≤ length out.old) }
-    ensures { PutAt out.old at (line_at rules.now count items.now p) result
+fn put_line(rules: &Rules, items: &[u32], p: usize, out: &mut [u8], at: usize) -> usize
+    requires { Listed rules.now.count items.now p
+        × (at + length (line_at rules.now.words rules.now.count items.now p) ≤ length out.old) }
+    ensures { PutAt out.old at (line_at rules.now.words rules.now.count items.now p) result
         out.new }
 {
-    let shown = show(rules, count, items, p);
+    let shown = show(rules, items, p);
     let first_at = put_number(out, at, shown.left, &BECOMES);
     let second_at = put_number(out, first_at, shown.first, &DOT);
     let origin_at = put_number(out, second_at, shown.second, &FROM);
@@ -111,22 +103,15 @@ fn put_line(
 }
 
 // Puts the lines of the items at the places from `from` up to and without `to`, one behind the other; answers how long they are.
-fn put_lines(
-    rules: &Rules,
-    count: usize,
-    items: &[u32],
-    from: usize,
-    to: usize,
-    out: &mut [u8],
-) -> usize
-    requires { Listable count items.now from to
-        × (length (lines_of rules.now count items.now from to) ≤ length out.old) }
-    ensures { PutAt out.old 0 (lines_of rules.now count items.now from to) result
+fn put_lines(rules: &Rules, items: &[u32], from: usize, to: usize, out: &mut [u8]) -> usize
+    requires { Listable rules.now.count items.now from to
+        × (length (lines_of rules.now.words rules.now.count items.now from to) ≤ length out.old) }
+    ensures { PutAt out.old 0 (lines_of rules.now.words rules.now.count items.now from to) result
         out.new }
 {
     let mut at = 0;
     for p in from..to {
-        at = put_line(rules, count, items, p, out, at);
+        at = put_line(rules, items, p, out, at);
     }
     at
 }
@@ -134,20 +119,19 @@ fn put_lines(
 // The items at the places from `from` up to and without `to`, a line each; nothing is written where the place is too short.
 pub fn list_text(
     rules: &Rules,
-    count: usize,
     items: &[u32],
     from: usize,
     to: usize,
     out: &mut [u8],
-) -> Filled
-    requires { Listable count items.now from to }
+) -> Result<usize, Unfilled>
+    requires { Listable rules.now.count items.now from to }
     ensures { Puts
-        (flat (line (rules_in rules.now count)) (items_from items.now from (to - from)))
+        (flat (line (rules_of rules.now)) (items_from items.now from (to - from)))
         out.old result out.new }
 {
-    let needed = text_length(rules, count, items, from, to);
+    let needed = text_length(rules, items, from, to);
     if out.len() < needed {
-        return Filled::TooShort(needed);
+        return Err(Unfilled::TooShort(needed));
     }
-    Filled::Wrote(put_lines(rules, count, items, from, to, out))
+    Ok(put_lines(rules, items, from, to, out))
 }

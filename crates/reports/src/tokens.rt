@@ -5,15 +5,7 @@ ghost use Rattle.bits.specs.Width.{row_words};
 ghost use Rattle.reports.specs.Lists.{held_below};
 ghost use Rattle.reports.specs.inner.Puts.{Puts, RowThere};
 
-use crate::Filled;
-
-// A symbol as a word of 16 bits.
-fn narrow(symbol: usize) -> u16
-    requires { symbol < word_bits * row_words }
-    ensures { result ≡ symbol }
-{
-    symbol as u16
-}
+use crate::Unfilled;
 
 // How many symbols below `end` row `e` holds.
 fn count_held(rows: &[u64], e: usize, end: usize) -> usize
@@ -41,20 +33,20 @@ fn write_held(rows: &[u64], e: usize, end: usize, out: &mut [u16])
         if !bits::has_at(rows, e, t) {
             continue;
         }
-        out[at] = narrow(t);
+        out[at] = t as u16;
         at += 1;
     }
 }
 
 // Lists the symbols below `end` that row `e` holds.
-pub fn list_tokens(rows: &[u64], e: usize, end: usize, out: &mut [u16]) -> Filled
+pub fn list_tokens(rows: &[u64], e: usize, end: usize, out: &mut [u16]) -> Result<usize, Unfilled>
     requires { RowThere rows.now e end }
     ensures { Puts (held_below (row_of row_words rows.now e) end) out.old result out.new }
 {
     let needed = count_held(rows, e, end);
     if out.len() < needed {
-        return Filled::TooShort(needed);
+        return Err(Unfilled::TooShort(needed));
     }
     write_held(rows, e, end, out);
-    Filled::Wrote(needed)
+    Ok(needed)
 }

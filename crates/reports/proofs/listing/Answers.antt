@@ -1,39 +1,29 @@
 -- `reports::listing` meets its contract.
+use mathlib.Core.Path.{refl}
 use native.Mathlib.Omega.{arith}
+use Rattle.std.proofs.lemmas.Result.{err_from_is_err_and}
 use Rattle.laws.specs.Fills.{Fills}
-use Rattle.parse.specs.Words.{words_of}
-use Rattle.recognizer.proofs.Readying.{readied_fault, readied_formed}
+use Rattle.parse.specs.Words.{seen}
+use Rattle.recognizer.proofs.Readying.{readied_fault, readied_for, readied_formed}
 use Rattle.reports.specs.Lists.{line}
 use Rattle.reports.proofs.Latest.{in_room, start-there, rules_listable}
 use Rattle.reports.proofs.Telling.{puts_items}
 use Rattle.reports.proofs.listing.Goals as goal
 
-pub returns-in-Refused : goal.returns-in-Refused
-returns-in-Refused c = record {
-  calls = Fills.refused (readied_fault _ _ _ _ _ c.ready.ensures _ c.in-Refused.is);
-}
+pub returns-in_err-ready : goal.returns-in_err-ready
+returns-in_err-ready c =
+    let p = err_from_is_err_and c.from_residual.result c.from_residual.ensures.1 in
+    record { calls = rw (p.1, p.2) (Fills.refused (readied_fault _ _ _ _ c.ready.ensures c.in_err-ready.was)) }
 
-pub offset_bounds-starts-e : goal.offset_bounds-starts-e
-offset_bounds-starts-e c =
-    let given = c.args in
-    let formed = readied_formed _ _ _ _ _ c.ready.ensures _ c.in-Formed.is in
-    omega (arith, in_room _ _ given.state (words_of given.items.now given.starts.now given.rows.now given.queue.now given.store.now) formed.well_formed)
+pub offset_bounds-view-state : goal.offset_bounds-view-state
+offset_bounds-view-state c =
+    omega (arith, in_room _ _ c.args.state (seen c.args.view.now) (readied_formed _ _ _ _ c.ready.ensures c.in_ok-ready.was).well_formed)
 
-pub bounds-starts-e : goal.bounds-starts-e
-bounds-starts-e c =
-    let given = c.args in
-    let formed = readied_formed _ _ _ _ _ c.ready.ensures _ c.in-Formed.is in
-    start-there _ _ given.state (words_of given.items.now given.starts.now given.rows.now given.queue.now given.store.now) formed.well_formed
+pub bounds-view-state : goal.bounds-view-state
+bounds-view-state c = start-there _ _ c.args.state (seen c.args.view.now) (readied_formed _ _ _ _ c.ready.ensures c.in_ok-ready.was).well_formed
 
 pub list_text-requires : goal.list_text-requires
-list_text-requires c =
-    let given = c.args in
-    let readied = c.ready in
-    rules_listable _ given.state (words_of given.items.now given.starts.now given.rows.now given.queue.now given.store.now) _ _ readied.ensures _ c.in-Formed.is c.wide-from.ensures
+list_text-requires c = rules_listable c.args.state (seen c.args.view.now) (readied_for _ _ _ _ c.ready.ensures c.in_ok-ready.was) refl
 
 pub returns : goal.returns
-returns c =
-    let readied = c.ready in
-    let formed = readied_formed _ _ _ _ _ readied.ensures _ c.in-Formed.is in record {
-      calls = puts_items line formed c.wide-from.ensures c.list_text.ensures;
-    }
+returns c = record { calls = puts_items line (readied_formed _ _ _ _ c.ready.ensures c.in_ok-ready.was) refl c.list_text.ensures }

@@ -1,15 +1,15 @@
 -- A list put into a place, or told to be too long for it.
-use Rattle.std.specs.Prelude.{List, ◌++◌, ℕ, ◌+◌, ◌*◌, ◌≤◌, ◌<◌, length, take, drop}
+use Rattle.std.specs.Prelude.{List, ◌++◌, ℕ, ◌+◌, ◌*◌, ◌≤◌, ◌<◌, length, take, drop, Result, Ok, Err}
 use Rattle.laws.specs.Bits.{word_bits}
 use Rattle.bits.specs.Width.{row_words}
 use Rattle.parse.specs.Words.{max_items}
 use Rattle.advance.specs.inner.Order.{Stored}
-use Rattle.reports.specs.declared.Filled.{Filled}
-use Rattle.reports.specs.declared.Filled.TheVariants.{Wrote, TooShort}
+use Rattle.reports.specs.declared.Unfilled.{Unfilled}
+use Rattle.reports.specs.declared.Unfilled.TheVariants.{TooShort}
 
-pub data Puts (list place : List ℕ) : Filled → List ℕ → Type 0 where
-  short : length place < length list → Puts list place (TooShort (length list)) place
-  wrote : length list ≤ length place → Puts list place (Wrote (length list)) (list ++ drop (length list) place)
+pub data Puts (list place : List ℕ) : Result ℕ Unfilled → List ℕ → Type 0 where
+  short : length place < length list → Puts list place (Err (TooShort (length list))) place
+  wrote : length list ≤ length place → Puts list place (Ok (length list)) (list ++ drop (length list) place)
 
 -- A place with other words from `at` on, as many as there are.
 abbrev pub written : List ℕ → ℕ → List ℕ → List ℕ

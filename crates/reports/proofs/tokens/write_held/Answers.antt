@@ -1,4 +1,4 @@
-use mathlib.Core.Path.{sym, ◌∙◌}
+use mathlib.Core.Path.{refl, sym, ◌∙◌}
 use native.Mathlib.Omega.{arith}
 use Rattle.laws.specs.Bits.{row_of}
 use Rattle.bits.specs.Width.{row_words}
@@ -10,12 +10,6 @@ loop-t-init c = listing-starts _ _ _
 
 pub has_at-requires : goal.has_at-requires
 has_at-requires c = let required = c.requires.0 in (required.there, omega (arith, required.narrow, c.loop-t-test.true))
-
-pub loop-t-preserved-then-not-has_at : goal.loop-t-preserved-then-not-has_at
-loop-t-preserved-then-not-has_at c = listing_passes _ _ _ _ _ _ (sym c.has_at.ensures ∙ c.if-not-has_at.true) c.loop-t-test.true c.loop-t.invariant
-
-pub narrow-requires : goal.narrow-requires
-narrow-requires c = let required = c.requires.0 in omega (arith, required.narrow, c.loop-t-test.true)
 
 pub offset_bounds-out-at : goal.offset_bounds-out-at
 offset_bounds-out-at c = let looped = c.loop-t in omega (arith, looped.invariant.counted.count_is, held_many (row_of row_words c.args.rows.now c.args.e) looped.t, c.requires.0.narrow, looped.invariant.counted.up_to)
@@ -34,7 +28,10 @@ loop-t-preserved c =
     let required = c.requires in
     let looped = c.loop-t in
     let held = sym c.has_at.ensures ∙ c.if-not-has_at.false in
-    listing-lists _ _ _ _ _ _ held c.loop-t-test.true looped.invariant (listing-room _ _ _ _ _ _ looped.invariant held c.loop-t-test.true required.1) _ c.narrow.ensures
+    listing-lists _ _ _ _ _ _ held c.loop-t-test.true looped.invariant (listing-room _ _ _ _ _ _ looped.invariant held c.loop-t-test.true required.1) _ refl
+
+pub loop-t-preserved-then-not-has_at : goal.loop-t-preserved-then-not-has_at
+loop-t-preserved-then-not-has_at c = listing_passes _ _ _ _ _ _ (sym c.has_at.ensures ∙ c.if-not-has_at.true) c.loop-t-test.true c.loop-t.invariant
 
 pub returns : goal.returns
 returns c = listing-ends _ _ _ _ _ _ c.loop-t.invariant c.loop-t-test.false
