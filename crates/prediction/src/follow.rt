@@ -2,27 +2,14 @@
 ghost use Rattle.std.specs.Prelude.{ℕ, ◌≤◌};
 ghost use Rattle.bits.specs.Width.{row_words};
 ghost use Rattle.grammar.specs.Accepted.{max_symbols, max_rules};
-ghost use Rattle.grammar.specs.inner.Decoded.{left_in, grammar_in};
+ghost use Rattle.grammar.specs.inner.Decoded.{grammar_in};
 ghost use Rattle.grammar.specs.Following.{Followers};
-ghost use Rattle.prediction.specs.inner.Tables.{AllWithin, last_in, Shape, Tells, Seeded, Beside, Across};
+ghost use Rattle.prediction.specs.inner.Tables.{AllWithin, Shape, Tells, Beside, Across};
 
-use crate::{Table, close, own, table as prediction};
-use bits::{WIDTH, add, has, join};
+use crate::{Table, close, seed, table as prediction};
+use bits::{WIDTH, has, join};
 use grammar::limits::SYMBOLS;
 use grammar::rules::{NONE, Rules};
-
-// Each symbol below `n` in its own row, and the left side of each rule in the row of the symbol that it ends with.
-fn ends(rules: &Rules, n: usize) -> Table
-    requires { (rules.now.count ≤ max_rules) × AllWithin rules.now.words n rules.now.count }
-    ensures { Seeded (last_in rules.now.words) (left_in rules.now.words) row_words n rules.now.count result }
-{
-    let mut table = own(n);
-    for r in 0..rules.count {
-        let x = rules.last(r);
-        table[x] = add(table[x], rules.left(r));
-    }
-    table
-}
 
 // For each rule of two symbols, in the first one's row what the second begins with.
 fn beside(rules: &Rules, begins: &Table, n: usize) -> Table
@@ -65,7 +52,8 @@ pub fn table(rules: &Rules, n: usize) -> Table
     ensures { (t : ℕ) → Followers (grammar_in rules.now.words n t rules.now.count) row_words result }
 {
     let begins = prediction(rules, n);
-    let ended = close(ends(rules, n), 0, n);
+    let ends = seed(rules.count, n, |r| rules.last(r), |r| rules.left(r));
+    let ended = close(ends, 0, n);
     let behind = beside(rules, &begins, n);
     across(&ended, &behind, n)
 }

@@ -4,9 +4,9 @@
 ghost use Rattle.std.specs.Prelude.{◌≡◌, ℕ, ◌≤◌, ◌<◌};
 ghost use Rattle.bits.specs.Width.{row_words};
 ghost use Rattle.grammar.specs.Accepted.{max_symbols, max_rules};
-ghost use Rattle.grammar.specs.inner.Decoded.{left_in, first_in, grammar_in};
+ghost use Rattle.grammar.specs.inner.Decoded.{grammar_in};
 ghost use Rattle.grammar.specs.Prediction.{Predicts};
-ghost use Rattle.prediction.specs.inner.Tables.{Within, Shape, Seeded, NotAbove, Closed, LowRows, Lone};
+ghost use Rattle.prediction.specs.inner.Tables.{Within, Shape, Symbols, Gives, Seeded, NotAbove, Closed, LowRows, Lone};
 
 pub mod follow;
 
@@ -29,15 +29,21 @@ fn own(n: usize) -> Table
     table
 }
 
-// And the first symbol of each rule in its left side's row.
-fn seed(rules: &Rules, n: usize) -> Table
-    requires { (rules.now.count ≤ max_rules) × Within rules.now.words n rules.now.count }
-    ensures { Seeded (left_in rules.now.words) (first_in rules.now.words) row_words n rules.now.count result }
+// And of each of `count` rules the symbol that `to` gives in the row of the one that `from` gives.
+fn seed<F: Fn(usize) -> usize, T: Fn(usize) -> usize>(
+    count: usize,
+    n: usize,
+    from: F,
+    to: T,
+) -> Table
+    requires few { n ≤ max_symbols }
+    requires symbols { Symbols (F.pre from) (F.post from) count × Symbols (T.pre to) (T.post to) count }
+    ensures { (a b : ℕ → ℕ) → Gives (F.post from) a count → Gives (T.post to) b count → Seeded a b row_words n count result }
 {
     let mut table = own(n);
-    for r in 0..rules.count {
-        let a = rules.left(r);
-        table[a] = add(table[a], rules.first(r));
+    for r in 0..count {
+        let x = from(r);
+        table[x] = add(table[x], to(r));
     }
     table
 }
@@ -77,5 +83,6 @@ pub fn table(rules: &Rules, n: usize) -> Table
     requires { (rules.now.count ≤ max_rules) × Within rules.now.words n rules.now.count }
     ensures { (t : ℕ) → Predicts (grammar_in rules.now.words n t rules.now.count) row_words result }
 {
-    close(seed(rules, n), lowest_left(rules, n), n)
+    let steps = seed(rules.count, n, |r| rules.left(r), |r| rules.first(r));
+    close(steps, lowest_left(rules, n), n)
 }

@@ -1,16 +1,14 @@
+use Rattle.std.proofs.Common.{arith}
 use Rattle.prediction.proofs.Cells.{seeded-rule}
-use native.Mathlib.Omega.{arith}
 use Rattle.prediction.proofs.seed.Goals as goal
 
 pub loop-r-init : goal.loop-r-init
-loop-r-init c = c.own-table.ensures _ _
+loop-r-init g c = λ a b _ _. c.own-table.ensures a b
 
 pub loop-r-preserved : goal.loop-r-preserved
-loop-r-preserved c =
-    let required = c.requires in
-    let rules-looped = c.loop-r in
-    let rule-entered = c.loop-r-test in
-    let left-read = c.left-a in
-    seeded-rule _ _ _ _ _ _ _ _ _ (omega arith) c.add.ensures rules-looped.invariant left-read.ensures.0
-    c.first.ensures.0 (omega (arith, required.1.few, required.1.left rules-looped.r rule-entered.true))
-    (omega (arith, required.1.few, required.1.first rules-looped.r rule-entered.true))
+loop-r-preserved g c =
+    let asked = c.requires.symbols in
+    let low = c.loop-r-test.true in
+    λ a b from to.
+    seeded-rule _ _ _ _ _ _ _ _ _ (omega arith) c.add.ensures (c.loop-r.invariant a b from to)
+    (from.is _ _ low c.from-x.ensures) (to.is _ _ low c.to.ensures) (asked.0.low _ _ low c.from-x.ensures) (asked.1.low _ _ low c.to.ensures)

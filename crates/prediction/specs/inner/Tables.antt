@@ -40,6 +40,15 @@ last_in words r = elim (eqb (second_in words r) none) [ true ↦ first_in words 
 pub record NotAbove (words : List ℕ) (count low : ℕ) : Type 0 where
   pub left : (r : ℕ) → r < count → low ≤ left_in words r
 
+-- What is asked of each of the first `count` rules may be asked, and is a symbol.
+pub record Symbols (pre : ℕ → Type 0) (post : ℕ → ℕ → Type 0) (count : ℕ) : Type 0 where
+  pub may : (r : ℕ) → r < count → pre r
+  pub low : (r x : ℕ) → r < count → post r x → x < max_symbols
+
+-- Of rule `r` it is `f r`.
+pub record Gives (post : ℕ → ℕ → Type 0) (f : ℕ → ℕ) (count : ℕ) : Type 0 where
+  pub is : (r x : ℕ) → r < count → post r x → x ≡ f r
+
 -- A symbol and itself; and of each rule the two symbols that it is asked for.
 pub data Step (from to : ℕ → ℕ) (n count : ℕ) : ℕ → ℕ → Type 0 where
   own : {x : ℕ} → x < n → Step from to n count x x
