@@ -196,7 +196,9 @@ fn pop(text: &[u8], items: &[u32], queue: &mut [u32], r: Replay, next: usize) ->
             answer: recorded.next,
             entries: left,
             pops: r.pops.wrapping_add(1),
-            different: r.different.wrapping_add(differs(entry, recorded.value) as u64),
+            different: r
+                .different
+                .wrapping_add(differs(entry, recorded.value) as u64),
         },
         None => r.refused(next, recorded.next),
     }
