@@ -1,13 +1,6 @@
 -- Steps 4 to 6 together.
-use mathlib.Core.Path.{◌≡◌, refl, sym, ap, ap₂, ◌∙◌}
-use mathlib.Core.Bool.{true, false}
-use mathlib.Core.List.{List, [], ◌∷◌, ◌++◌, append-nil}
-use Prim.Native.Nat.{ℕ, suc, ◌+◌, ◌-◌, ◌*◌, ◌/◌, ◌≤◌, ◌<◌}
+use Rattle.std.proofs.Common.{◌≡◌, refl, sym, ap, ap₂, ◌∙◌, true, false, List, [], ◌∷◌, ◌++◌, append-nil, ℕ, suc, ◌+◌, ◌-◌, ◌*◌, ◌/◌, ◌≤◌, ◌<◌, arith, length, get_or, take, ext_get_or, length-take-le, get_or-take, lt-ltb, le-ltb, eq-eqb, ne_eqb, Some, None}
 use native.Mathlib.Decide.{ℕ_discrete}
-use native.Mathlib.Omega.{arith}
-use lib.ListN.{length, get_or, take}
-use lib.Seq.{ext_get_or, length-take-le, get_or-take}
-use borrow.Author.Tests.{lt-ltb, le-ltb, eq-eqb, ne_eqb}
 use Rattle.laws.specs.Records as records
 use Rattle.bits.specs.Width.{row_words}
 use Rattle.item.specs.Item.{Item, item_words, item_at, flat}
@@ -18,7 +11,6 @@ use Rattle.parse.specs.declared.State.{State}
 use Rattle.parse.specs.inner.Parts.{Clear}
 use Rattle.parse.specs.Words.{Words, start_of, padded}
 use Rattle.parse.specs.WellFormed.{second_of}
-use Rattle.std.specs.Prelude.{Some, None}
 use Rattle.advance.specs.NewItems.{items_from, sorted, binary, new_items}
 use Rattle.advance.specs.inner.Order.{All}
 use Rattle.advance.specs.inner.Advances.{Follows, new_of, reach_of, kept_of, has_room, advance_answer, without_new, advance_words, Advances}

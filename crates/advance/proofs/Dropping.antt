@@ -1,12 +1,7 @@
 -- Of sorted items those with no second stand last.
-use mathlib.Core.Path.{◌≡◌, refl, sym, ap, ap₂, ◌∙◌, subst}
-use mathlib.Core.List.{List, [], ◌∷◌, ◌++◌}
-use Prim.Native.Nat.{ℕ, zero, suc, ◌+◌, ◌-◌, ◌*◌, ◌≤◌, ◌<◌}
+use Rattle.std.proofs.Common.{◌≡◌, refl, sym, ap, ap₂, ◌∙◌, subst, List, [], ◌∷◌, ◌++◌, ℕ, zero, suc, ◌+◌, ◌-◌, ◌*◌, ◌≤◌, ◌<◌, arith, length, get_or, take, ext_get_or, length-take-le, get_or-take, take-take, eq-eqb, ne_eqb}
 use native.Mathlib.Decide.{dec_lt}
-use native.Mathlib.Omega.{arith}
-use lib.ListN.{length, get_or, take}
-use lib.Seq.{ext_get_or, length-take-le, get_or-take, take-append-le, take-take}
-use borrow.Author.Tests.{eq-eqb, ne_eqb}
+use lib.Seq.{take-append-le}
 use Rattle.item.specs.Item.{Item, item_words, item_at, rule_at, flat}
 use Rattle.grammar.specs.Rules.{Rule, none}
 use Rattle.grammar.specs.inner.Decoded.{second_in, rules_in}

@@ -1,12 +1,7 @@
 -- Steps 5 and 6: the new items become the latest set.
-use mathlib.Core.Path.{◌≡◌, refl, sym, ap, ap₂, ◌∙◌}
-use mathlib.Core.Logic.{◌⊎◌, inl, inr}
-use mathlib.Core.List.{List, [], ◌∷◌, ◌++◌, append-nil}
-use Prim.Native.Nat.{ℕ, ◌+◌, ◌-◌, ◌*◌, ◌≤◌, ◌<◌}
+use Rattle.std.proofs.Common.{◌≡◌, refl, sym, ap, ap₂, ◌∙◌, ◌⊎◌, inl, inr, List, [], ◌∷◌, ◌++◌, append-nil, ℕ, ◌+◌, ◌-◌, ◌*◌, ◌≤◌, ◌<◌, arith, length, get_or, set, take, replicate, length-append, length-take, length-drop, ext_get_or, length-take-le, get_or-take, get_or-append-add}
 use native.Mathlib.Decide.{dec_lt}
-use native.Mathlib.Omega.{arith}
-use lib.ListN.{length, get_or, set, take, replicate, length-append, length-take, length-drop, length-replicate, get_or-append, get_or-eq_default}
-use lib.Seq.{ext_get_or, length-take-le, get_or-take, get_or-append-add}
+use lib.ListN.{length-replicate, get_or-append, get_or-eq_default}
 use Rattle.laws.specs.Bits.{row_of, with_row}
 use Rattle.laws.proofs.Bits.{union_wide}
 use Rattle.laws.proofs.Rows.{row_word, with_row_ext}

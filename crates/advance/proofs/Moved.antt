@@ -1,11 +1,8 @@
 -- The words behind a step: what steps 5 and 6 keep of them, and where the new set stands.
-use mathlib.Core.Path.{◌≡◌, refl, sym, ap, ap₂, ◌∙◌}
-use mathlib.Core.List.{List, [], ◌∷◌, ◌++◌}
-use Prim.Native.Nat.{ℕ, ◌+◌, ◌-◌, ◌*◌, ◌/◌, ◌≤◌, ◌<◌}
+use Rattle.std.proofs.Common.{◌≡◌, refl, sym, ap, ap₂, ◌∙◌, List, [], ◌∷◌, ◌++◌, ℕ, ◌+◌, ◌-◌, ◌*◌, ◌/◌, ◌≤◌, ◌<◌, arith, length, get_or, take, drop, replicate, length-append, length-take, length-take-le, get_or-take, get_or-append-add}
 use native.Mathlib.Decide.{dec_lt}
-use native.Mathlib.Omega.{arith}
-use lib.ListN.{length, get_or, take, drop, replicate, length-append, length-take, length-replicate, get_or-append, get_or-eq_default}
-use lib.Seq.{length-take-le, get_or-take, get_or-append-add, get_or_at}
+use lib.ListN.{length-replicate, get_or-append, get_or-eq_default}
+use lib.Seq.{get_or_at}
 use Rattle.laws.specs.Bits.{Holds, row_of}
 use Rattle.laws.proofs.Bits.{zeros_hold}
 use Rattle.laws.proofs.Rows.{row_word, row_words_lem}

@@ -1,10 +1,5 @@
 -- Step 6: the rows of the items' seconds are joined into the new set's row.
-use mathlib.Core.Path.{◌≡◌, refl, sym, ap, ap₂, ◌∙◌}
-use mathlib.Core.List.{List, [], ◌++◌, append_assoc}
-use Prim.Native.Nat.{ℕ, ◌+◌, ◌-◌, ◌*◌, ◌≤◌, ◌<◌}
-use native.Mathlib.Omega.{arith}
-use lib.ListN.{length, get_or, take, drop, replicate, length-append, length-take, length-drop}
-use lib.Seq.{length-take-le, take_at, drop_at}
+use Rattle.std.proofs.Common.{◌≡◌, refl, sym, ap, ap₂, ◌∙◌, List, [], ◌++◌, append_assoc, ℕ, ◌+◌, ◌-◌, ◌*◌, ◌≤◌, ◌<◌, arith, length, get_or, take, drop, replicate, length-append, length-take, length-drop, length-take-le, take_at, drop_at}
 use Rattle.laws.specs.Bits.{union, row_of, with_row}
 use Rattle.laws.proofs.Bits.{union_wide}
 use Rattle.laws.proofs.Rows.{row_word, with_row_ext}

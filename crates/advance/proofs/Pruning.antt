@@ -1,11 +1,5 @@
 -- Step 5: the greatest origin, the sets that are kept, and the new items moved behind them.
-use mathlib.Core.Path.{◌≡◌, refl, sym, ap, ap₂, ◌∙◌}
-use mathlib.Core.List.{List, ◌∷◌, ◌++◌, append_assoc}
-use Prim.Native.Nat.{ℕ, zero, suc, ◌+◌, ◌-◌, ◌*◌, ◌≤◌, ◌<◌, max}
-use native.Mathlib.Omega.{arith}
-use lib.ListN.{length, get_or, take, replicate, length-append}
-use lib.Seq.{length-take-le, take_at}
-use borrow.Author.Tests.{lt-ltb, le-ltb}
+use Rattle.std.proofs.Common.{◌≡◌, refl, sym, ap, ap₂, ◌∙◌, List, ◌∷◌, ◌++◌, append_assoc, ℕ, zero, suc, ◌+◌, ◌-◌, ◌*◌, ◌≤◌, ◌<◌, max, arith, length, get_or, take, replicate, length-append, length-take-le, take_at, lt-ltb, le-ltb}
 use Rattle.bits.specs.Width.{row_words}
 use Rattle.item.specs.Item.{Item, item_words, item_at, flat}
 use Rattle.item.proofs.Words.{flat-length}

@@ -1,12 +1,6 @@
 -- What a caller of steps 4 to 6 cites: they may be called on a well formed state, and leave one.
-use mathlib.Core.Path.{◌≡◌, refl, sym, ap, ap₂, ◌∙◌}
-use mathlib.Core.Bool.{Bool, true, false}
-use mathlib.Core.List.{List, [], ◌++◌, append-nil}
-use Prim.Native.Nat.{ℕ, zero, suc, ◌+◌, ◌-◌, ◌*◌, ◌/◌, ◌≤◌, ◌<◌}
+use Rattle.std.proofs.Common.{◌≡◌, refl, sym, ap, ap₂, ◌∙◌, Bool, true, false, List, [], ◌++◌, append-nil, ℕ, zero, suc, ◌+◌, ◌-◌, ◌*◌, ◌/◌, ◌≤◌, ◌<◌, arith, length, get_or, take, replicate, ltb-true, ltb-false, Option}
 use native.Mathlib.Decide.{dec_lt}
-use native.Mathlib.Omega.{arith}
-use lib.ListN.{length, get_or, take, replicate}
-use borrow.Author.Tests.{ltb-true, ltb-false}
 use Rattle.laws.specs.Bits.{Below}
 use Rattle.laws.specs.Records as records
 use Rattle.laws.proofs.Bits.{union-below}
@@ -22,7 +16,6 @@ use Rattle.parse.specs.inner.Parts.{Clear}
 use Rattle.parse.specs.Words.{Words, max_items, max_sets, padded}
 use Rattle.parse.specs.Heads.{Meets}
 use Rattle.parse.specs.WellFormed.{second_of, used_units, WellFormed}
-use Rattle.std.specs.Prelude.{Option}
 use Rattle.advance.specs.NewItems.{items_from, sorted, binary}
 use Rattle.advance.specs.inner.Order.{All, Stored}
 use Rattle.advance.specs.inner.Advances.{lent, new_of, reach_of, kept_of, has_room, advance_answer, without_new, advance_words, Advances}

@@ -1,7 +1,5 @@
 -- What an answer of push or pop tells.
-use Rattle.std.proofs.Common.{◌≡◌, ℕ, ◌+◌, ◌-◌, ◌≤◌, ◌<◌, List, Some, None, ap, arith}
-use lib.Dec.{ltb}
-use borrow.Author.Tests.{ltb-true, ltb-false}
+use Rattle.std.proofs.Common.{◌≡◌, ℕ, ◌+◌, ◌-◌, ◌≤◌, ◌<◌, List, Some, None, ap, arith, ltb, ltb-true, ltb-false}
 use Rattle.laws.proofs.Tests.{either_way}
 use Rattle.binary_heap.specs.Entry.{Entry}
 use Rattle.binary_heap.specs.Heap.{top}

@@ -1,11 +1,5 @@
 -- Row `k` of words that hold rows one behind the other is written anew, one word a turn.
-use mathlib.Core.Path.{◌≡◌, sym, ap, ◌∙◌}
-use mathlib.Core.Logic.{◌⊎◌, inl, inr, ⊎_elim}
-use mathlib.Core.List.{List}
-use Prim.Native.Nat.{ℕ, ◌+◌, ◌*◌, ◌≤◌, ◌<◌}
-use native.Mathlib.Omega.{arith}
-use lib.ListN.{length, get_or}
-use lib.Bits.{bit_or}
+use Rattle.std.proofs.Common.{◌≡◌, sym, ap, ◌∙◌, ◌⊎◌, inl, inr, ⊎_elim, List, ℕ, ◌+◌, ◌*◌, ◌≤◌, ◌<◌, arith, length, get_or, bit_or}
 use Rattle.laws.specs.Bits.{union, row_of, with_row}
 use Rattle.laws.proofs.Bits.{union_wide, union-word}
 use Rattle.laws.proofs.Rows.{row_wide, row_word, with_row_ext}

@@ -42,7 +42,6 @@ pub fn add(row: Row, symbol: usize) -> Row
 
 // The union of two rows.
 pub fn join(a: &Row, b: &Row) -> Row
-    requires { (length a.now ≡ row_words) × (length b.now ≡ row_words) }
     ensures { result ≡ union a.now b.now }
 {
     let mut to = *a;
@@ -52,7 +51,7 @@ pub fn join(a: &Row, b: &Row) -> Row
 
 // Row `k` of words that hold rows one behind the other becomes its union with `row`.
 pub fn join_at(rows: &mut [u64], k: usize, row: &Row)
-    requires { (row_words * k + row_words ≤ length rows.old) × (length row.now ≡ row_words) }
+    requires { row_words * k + row_words ≤ length rows.old }
     ensures { rows.new ≡ with_row row_words rows.old k
         (union (row_of row_words rows.old k) row.now) }
 {
@@ -63,7 +62,7 @@ pub fn join_at(rows: &mut [u64], k: usize, row: &Row)
 
 // Row `k` of words that hold rows one behind the other becomes `row`.
 pub fn put_at(rows: &mut [u64], k: usize, row: &Row)
-    requires { (row_words * k + row_words ≤ length rows.old) × (length row.now ≡ row_words) }
+    requires { row_words * k + row_words ≤ length rows.old }
     ensures { rows.new ≡ with_row row_words rows.old k row.now }
 {
     rows[WIDTH * k..WIDTH * k + WIDTH].copy_from_slice(row);

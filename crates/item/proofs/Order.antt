@@ -1,10 +1,6 @@
 -- The order of items by origin, then rule, is the order of one number, and so is total.
-use mathlib.Core.Path.{◌≡◌}
-use Prim.Native.Nat.{◌≤◌, ◌<◌}
-use mathlib.Core.Logic.{◌⊎◌, inl, inr}
+use Rattle.std.proofs.Common.{◌≡◌, ◌≤◌, ◌<◌, ◌⊎◌, inl, inr, arith, ltb}
 use native.Mathlib.Decide.{dec_lt}
-use native.Mathlib.Omega.{arith}
-use lib.Dec.{ltb}
 use Rattle.laws.proofs.Tests.{same_test}
 use Rattle.item.specs.Item.{Item, key_of}
 

@@ -1,12 +1,7 @@
 -- Items in words: what is read where items were stored.
-use mathlib.Core.Path.{◌≡◌, refl, sym, ap, ◌∙◌}
-use mathlib.Core.List.{List, [], ◌∷◌, ◌++◌}
-use Prim.Native.Nat.{ℕ, suc, ◌+◌, ◌*◌, ◌≤◌, ◌<◌}
-use native.Mathlib.Nat.{add-zero}
-use native.Mathlib.Numerals.{add-one}
-use native.Mathlib.Omega.{arith}
-use lib.ListN.{length, get_or, take, drop, set, length-append, length-set, get_or-append}
-use lib.Seq.{length-sets, get_or-set_same, get_or-set_other}
+use Rattle.std.proofs.Common.{◌≡◌, refl, sym, ap, ◌∙◌, List, [], ◌∷◌, ◌++◌, ℕ, suc, ◌+◌, ◌*◌, ◌≤◌, ◌<◌, add-zero, add-one, arith, length, get_or, take, drop, set, length-append, length-set, get_or-set_same, get_or-set_other}
+use lib.ListN.{get_or-append}
+use lib.Seq.{length-sets}
 use Rattle.laws.proofs.Records as records
 use Rattle.item.specs.Item.{Item, words_of, item_words, flat, item_at, origin_at, rule_at, handle_at, stored, key_of, key_at, HasPlace}
 

@@ -16,13 +16,6 @@ pub struct Item {
 // The words that an item takes.
 pub const ITEM_WORDS: usize = 3;
 
-// A word of a parse as a number.
-pub fn wide(word: u32) -> usize
-    ensures { result ≡ word }
-{
-    word as usize
-}
-
 // The origin of the item at place `p`.
 pub fn origin(items: &[u32], p: usize) -> u32
     requires { HasPlace items.now p }

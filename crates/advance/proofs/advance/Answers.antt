@@ -1,5 +1,5 @@
 -- `advance::advance` meets its contract.
-use native.Mathlib.Omega.{arith}
+use Rattle.std.proofs.Common.{arith}
 use Rattle.advance.proofs.Advancing.{reach_asks, clear_asks, reaches, refuses, next_asks, advances}
 use Rattle.advance.proofs.advance.Goals as goal
 

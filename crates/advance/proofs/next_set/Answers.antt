@@ -1,5 +1,5 @@
 -- `advance::next_set` meets its contract.
-use native.Mathlib.Omega.{arith}
+use Rattle.std.proofs.Common.{arith}
 use Rattle.advance.proofs.Following.{end_fits, follows_asks, follows}
 use Rattle.advance.proofs.next_set.Goals as goal
 

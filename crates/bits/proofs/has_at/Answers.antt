@@ -1,11 +1,8 @@
 -- `bits::has_at` meets its contract. The word read is the row's own word of that number.
 use Rattle.bits.specs.Width.{row_words}
-use lib.Dec.{eqb}
+use Rattle.std.proofs.Common.{eqb, sym, ap, ℕ, ◌/◌, ◌%◌, arith}
 use Rattle.laws.specs.Bits.{bit}
 use Rattle.laws.proofs.Rows.{row_word}
-use mathlib.Core.Path.{sym, ap}
-use Prim.Native.Nat.{ℕ, ◌/◌, ◌%◌}
-use native.Mathlib.Omega.{arith}
 use Rattle.bits.proofs.has_at.Goals as goal
 
 pub returns : goal.returns

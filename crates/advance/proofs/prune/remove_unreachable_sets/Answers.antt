@@ -1,5 +1,5 @@
 -- `advance::prune::remove_unreachable_sets` meets its contract.
-use mathlib.Core.Path.{refl}
+use Rattle.std.proofs.Common.{refl}
 use Rattle.advance.proofs.Pruning.{all-kept, base_below, sets_dropped}
 use Rattle.advance.proofs.prune.remove_unreachable_sets.Goals as goal
 

@@ -1,7 +1,5 @@
-use mathlib.Core.Path.{◌≡◌, ap, ◌∙◌}
+use Rattle.std.proofs.Common.{◌≡◌, ap, ◌∙◌, ◌-◌, arith}
 use Rattle.advance.specs.NewItems.{items_from}
-use Prim.Native.Nat.{◌-◌}
-use native.Mathlib.Omega.{arith}
 use Rattle.item.specs.Item.{item_at}
 use Rattle.grammar.specs.inner.Decoded.{rules_of}
 use Rattle.parse.specs.WellFormed.{second_of}

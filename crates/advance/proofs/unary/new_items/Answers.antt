@@ -1,8 +1,5 @@
 -- `advance::unary::new_items` meets its contract.
-use mathlib.Core.Path.{ap, ◌∙◌}
-use mathlib.Core.List.{List}
-use Prim.Native.Nat.{◌+◌}
-use lib.ListN.{length}
+use Rattle.std.proofs.Common.{ap, ◌∙◌, List, ◌+◌, length}
 use Rattle.item.specs.Item.{Item}
 use Rattle.advance.proofs.Dropping.{sorted_asks, sorted-new, sorted-ending}
 use Rattle.advance.proofs.unary.new_items.Goals as goal

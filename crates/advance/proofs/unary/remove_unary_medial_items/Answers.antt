@@ -1,6 +1,5 @@
 -- `advance::unary::remove_unary_medial_items` meets its contract.
-use mathlib.Core.Path.{◌∙◌}
-use native.Mathlib.Omega.{arith}
+use Rattle.std.proofs.Common.{◌∙◌, arith}
 use Rattle.advance.proofs.Dropping.{cut-ending, cut-count}
 use Rattle.advance.proofs.unary.remove_unary_medial_items.Goals as goal
 
