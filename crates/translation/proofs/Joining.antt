@@ -17,7 +17,7 @@ use Rattle.std.specs.Prelude.{Result, Ok, Err}
 use Rattle.translation.specs.declared.list.Full.{Full}
 use Rattle.translation.specs.inner.Lists.{Lists}
 use Rattle.translation.proofs.Words.{lists_on, lists-stops, lists-nothing}
-use Rattle.translation.proofs.Placing.{new-first, places-count}
+use Rattle.translation.proofs.Placing.{new-first}
 
 -- Listing has come to `now`: whatever lists the rest there lists `total` from the beginning.
 pub record Onward (before total now rest : List Rule) : Type 0 where
@@ -143,38 +143,37 @@ module _ (keep empty : ℕ → Bool) (all : List WrittenRule) (from : ℕ) where
         (onward_begins [] _ _ (ap (λ (l : List WrittenRule). splits keep empty l from) (sym h)));
   }
 
-  module _ {now : List Rule} {rest more : List WrittenRule} {r : WrittenRule} {fresh : ℕ} (p : Parting now rest fresh) (e : rest ≡ r ∷ more) {k : ℕ} (room : List ℕ)
-      (el : take k room ≡ places keep r.right) (few : k ≤ longest) (long : length room ≡ longest) where
-    new-here : all_new keep rest ≡ k - 2 + all_new keep more
-    new-here = let n = ap (all_new keep) e ∙ new-first keep r more in let c = places-count room el few long in omega arith
+  module _ {now : List Rule} {rest more : List WrittenRule} {r : WrittenRule} {fresh : ℕ} (p : Parting now rest fresh) (e : rest ≡ r ∷ more) {held : List ℕ} (el : held ≡ places keep r.right) where
+    new-here : all_new keep rest ≡ length held - 2 + all_new keep more
+    new-here = let n = ap (all_new keep) e ∙ new-first keep r more in let c = ap length el in omega arith
 
     -- The new symbols of the next rule are few.
-    pub parting-low : fresh + (k - 2) ≤ 512
+    pub parting-low : fresh + (length held - 2) ≤ 512
     parting-low = let m = new-here in let low = p.low in omega arith
 
     splits-here : {a : ℕ} → a ≡ number keep r.left
-        → splits keep empty rest fresh ≡ split (number keep) empty a (take k room) fresh ++ splits keep empty more (fresh + (k - 2))
+        → splits keep empty rest fresh ≡ split (number keep) empty a held fresh ++ splits keep empty more (fresh + (length held - 2))
     unfolding splits
     splits-here {a} ea =
-        let fewer : new_symbols (places keep r.right) ≡ k - 2 = ap (λ (c : ℕ). c - 2) (places-count room el few long) in
+        let fewer : new_symbols (places keep r.right) ≡ length held - 2 = sym (ap (λ (l : List ℕ). length l - 2) el) in
         ap (λ (l : List WrittenRule). splits keep empty l fresh) e
         ∙ ap₂ (λ (b : ℕ) (l : List ℕ). split (number keep) empty b l fresh ++ splits keep empty more (fresh + new_symbols (places keep r.right))) (sym ea) (sym el)
-        ∙ ap (λ (j : ℕ). split (number keep) empty a (take k room) fresh ++ splits keep empty more (fresh + j)) fewer
+        ∙ ap (λ (j : ℕ). split (number keep) empty a held fresh ++ splits keep empty more (fresh + j)) fewer
 
     -- A rule more.
-    pub parting_on : {T : Type 0} {u : T} {after : List Rule} {a s : ℕ} → a ≡ number keep r.left → s ≡ k - 2
-        → Lists {T = T} {E = Full} now (Ok u) after (split (number keep) empty a (take k room) fresh) → Parting after more (fresh + s)
+    pub parting_on : {T : Type 0} {u : T} {after : List Rule} {a s : ℕ} → a ≡ number keep r.left → s ≡ length held - 2
+        → Lists {T = T} {E = Full} now (Ok u) after (split (number keep) empty a held fresh) → Parting after more (fresh + s)
     parting_on {after = after} {a} {s} ea es q = subst (λ (j : ℕ). Parting after more (fresh + j)) (sym es) (record {
       low = let m = new-here in let low = p.low in omega arith;
-      listed = onward_on _ (split (number keep) empty a (take k room) fresh) (splits keep empty more (fresh + (k - 2))) (splits-here ea) p.listed q;
+      listed = onward_on _ (split (number keep) empty a held fresh) (splits keep empty more (fresh + (length held - 2))) (splits-here ea) p.listed q;
     })
 
     -- The list is too long.
-    pub parting_stops : {T : Type 0} {f : Full} {after : List Rule} {a : ℕ} → a ≡ number keep r.left → Lists {T = T} {E = Full} now (Err f) after (split (number keep) empty a (take k room) fresh)
+    pub parting_stops : {T : Type 0} {f : Full} {after : List Rule} {a : ℕ} → a ≡ number keep r.left → Lists {T = T} {E = Full} now (Err f) after (split (number keep) empty a held fresh)
         → max_rules ≤ length (listing [] (splits keep empty all from))
     parting_stops {f = f} {after} {a} ea q =
         let whole : Lists {T = Unit {0}} {E = Full} [] (Err f) after (splits keep empty all from) =
-        onward_stops _ (split (number keep) empty a (take k room) fresh) (splits keep empty more (fresh + (k - 2))) (splits-here ea) p.listed q in
+        onward_stops _ (split (number keep) empty a held fresh) (splits keep empty more (fresh + (length held - 2))) (splits-here ea) p.listed q in
         whole.full
 
   -- The end: the list is that of all rules.

@@ -91,15 +91,12 @@ pub counted-begins : (keep : ℕ → Bool) (all : List WrittenRule) → length a
 counted-begins keep all h = record { same = omega arith; low = omega arith }
 
 -- The same by the places that were read.
-pub places-count : {k : ℕ} {l : List ℕ} (room : List ℕ) → take k room ≡ l → k ≤ longest → length room ≡ longest → length l ≡ k
-places-count {k} {l} room el few long = sym (ap length el) ∙ length-take-le k room (omega arith)
-
-pub counted_on : (keep : ℕ → Bool) (all : List WrittenRule) {rest more : List WrittenRule} {r : WrittenRule} {total k n : ℕ} (room : List ℕ) → Counted keep all rest total → rest ≡ r ∷ more
-    → take k room ≡ places keep r.right → k ≤ longest → length room ≡ longest → n ≡ k - 2 → Counted keep all more (total + n)
-counted_on keep all {rest} {more} {r} {total} {k} {n} room c e el few long en =
+pub counted_on : (keep : ℕ → Bool) (all : List WrittenRule) {rest more : List WrittenRule} {r : WrittenRule} {total n : ℕ} (held : List ℕ) → Counted keep all rest total → rest ≡ r ∷ more
+    → held ≡ places keep r.right → length held ≤ longest → n ≡ length held - 2 → Counted keep all more (total + n)
+counted_on keep all {rest} {more} {r} {total} {n} held c e el few en =
     let same : total + (new_symbols (places keep r.right) + all_new keep more) ≡ all_new keep all =
     ap (λ (j : ℕ). total + j) (sym (new-first keep r more) ∙ sym (ap (all_new keep) e)) ∙ c.same in
-    let count = places-count room el few long in
+    let count = ap length el in
     let l = ap length e in
     let low = c.low in
     record { same = omega arith; low = omega arith }

@@ -88,7 +88,7 @@ fn rules_stand(written: &[u8]) -> bool
     ensures { Decides result (RulesStand written.now written_header (count_in written.now)) }
 {
     let mut at = HEADER;
-    for rule in 0..rule_count(written) {
+    for _rule in 0..rule_count(written) {
         if !rule_stands(written, at) {
             return false;
         }

@@ -1,5 +1,5 @@
 // Symbols that stay: their numbers, the places of a right side, and how many new symbols all rules need.
-ghost use Rattle.std.specs.Prelude.{◌≡◌, ◌-◌, ◌*◌, ◌≤◌, length as length_of, take};
+ghost use Rattle.std.specs.Prelude.{◌≡◌, ◌-◌, ◌*◌, ◌≤◌, length as length_of};
 ghost use Rattle.written.specs.Form as form;
 ghost use Rattle.written.specs.Translation as translation;
 ghost use Rattle.translation.specs.inner.Marks.{most_symbols, marked};
@@ -19,18 +19,18 @@ pub fn number(keep: &Marks, x: usize) -> usize
 // Room for the places of a right side.
 pub type Places = [u16; LONGEST];
 
-// The places of a rule, in their order. How many there are.
-pub fn places(rule: &WrittenRule<'_>, keep: &Marks, out: &mut Places) -> usize
-    ensures { (take result out.new ≡ translation.places (marked keep.now) rule.now.right) × (result ≤ form.longest) }
+// The places of a rule, in their order.
+pub fn places<'a>(rule: &WrittenRule<'_>, keep: &Marks, room: &'a mut Places) -> &'a [u16]
+    ensures { (result.now ≡ translation.places (marked keep.now) rule.now.right) × (length_of result.now ≤ form.longest) }
 {
     let mut k = 0;
     for x in rule.right() {
         if keep[x as usize] {
-            out[k] = x;
+            room[k] = x;
             k += 1;
         }
     }
-    k
+    &room[..k]
 }
 
 // How many new symbols all rules need.
@@ -40,7 +40,7 @@ pub fn count_new(written: &Written<'_>, keep: &Marks) -> usize
     let mut room = [0; LONGEST];
     let mut total = 0;
     for rule in written.rules() {
-        total += places(&rule, keep, &mut room).saturating_sub(2);
+        total += places(&rule, keep, &mut room).len().saturating_sub(2);
     }
     total
 }

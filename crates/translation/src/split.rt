@@ -87,10 +87,10 @@ pub fn list(written: &Written<'_>, tests: &Tests<'_>, from: usize) -> Result<Rul
     let mut room = [0; LONGEST];
     let mut fresh = from;
     for rule in written.rules() {
-        let k = places(&rule, tests.keep, &mut room);
+        let held = places(&rule, tests.keep, &mut room);
         let a = number(tests.keep, rule.left() as usize);
-        split(&mut list, tests, a, &room[..k], fresh)?;
-        fresh += k.saturating_sub(2);
+        split(&mut list, tests, a, held, fresh)?;
+        fresh += held.len().saturating_sub(2);
     }
     Ok(list)
 }

@@ -85,7 +85,7 @@ fn put_levels(file: &mut [u8], at: usize, rules: &Rules, from: usize, to: usize)
     let mut left = [false; SYMBOLS];
     mark_within(&mut left, from, to);
     let mut here = at;
-    for round in from..to {
+    for _round in from..to {
         let named = named_by(rules, &left);
         here = put_level(file, here, rules, &left, &named, from, to);
         keep_named(&mut left, &named);

@@ -5,4 +5,4 @@ use Rattle.written.specs.Form.{written_header, count_in}
 use Rattle.translation.proofs.form.rules_stand.Given as goal
 
 abbrev pub invariant-loop-rule : goal.invariant-loop-rule
-invariant-loop-rule l = Walked l.written written_header (count_in l.written) l.at (count_in l.written - l.rule)
+invariant-loop-rule l = Walked l.written written_header (count_in l.written) l.at (count_in l.written - l._rule)

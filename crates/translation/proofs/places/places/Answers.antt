@@ -1,5 +1,5 @@
 use Rattle.translation.proofs.Placing.{placing_gone, placing-kept, placing-ends}
-use Rattle.std.proofs.Common.{arith}
+use Rattle.std.proofs.Common.{arith, length-take}
 use Rattle.translation.proofs.places.places.Goals as goal
 
 pub loop-x-preserved-then-keep-x : goal.loop-x-preserved-then-keep-x
@@ -9,4 +9,7 @@ pub loop-x-preserved : goal.loop-x-preserved
 loop-x-preserved c = placing_gone _ _ _ c.loop-x.invariant c.in-Some.ensures.steps c.if-keep-x.false
 
 pub returns : goal.returns
-returns c = (placing-ends _ _ _ c.loop-x.invariant c.in-None.ensures.steps.0, omega (arith, c.loop-x.invariant.few))
+returns c = (
+  placing-ends _ _ _ c.loop-x.invariant c.in-None.ensures.steps.0,
+  omega (arith, c.loop-x.invariant.few, length-take c.loop-x.k c.loop-x.room),
+)

@@ -5,4 +5,4 @@ use Rattle.written.specs.Translation.{places}
 use Rattle.translation.proofs.places.places.Given as goal
 
 abbrev pub invariant-loop-x : goal.invariant-loop-x
-invariant-loop-x l = Placing (marked l.keep) (places (marked l.keep) l.rule.right) l.x-iterator l.out l.k
+invariant-loop-x l = Placing (marked l.keep) (places (marked l.keep) l.rule.right) l.x-iterator l.room l.k

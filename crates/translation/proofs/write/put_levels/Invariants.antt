@@ -10,4 +10,4 @@ use Rattle.translation.proofs.write.put_levels.Given as goal
 
 abbrev pub invariant-loop-round : goal.invariant-loop-round
 invariant-loop-round l =
-    Levels l.rules.words l.rules.count l.from l.to l.initial.file l.at (flat bytes_of_rule (blocks (rules_in l.rules.words l.rules.count) (ordered (l.to - l.from) (rules_in l.rules.words l.rules.count) (up_from l.from (l.to - l.from))))) l.file l.left l.here (l.to - l.round)
+    Levels l.rules.words l.rules.count l.from l.to l.initial.file l.at (flat bytes_of_rule (blocks (rules_in l.rules.words l.rules.count) (ordered (l.to - l.from) (rules_in l.rules.words l.rules.count) (up_from l.from (l.to - l.from))))) l.file l.left l.here (l.to - l._round)
