@@ -1,11 +1,6 @@
 -- The answers: which is due, and what is promised of the file.
-use mathlib.Core.Path.{◌≡◌, sym, ap, ap₂, subst, ◌∙◌}
-use mathlib.Core.Bool.{Bool, true, false}
-use mathlib.Core.List.{List, [], ◌∷◌, ◌++◌}
-use Prim.Native.Nat.{ℕ, suc, ◌+◌, ◌-◌, ◌*◌, ◌≤◌, ◌<◌}
-use native.Mathlib.Omega.{arith}
-use lib.ListN.{length, take, drop}
-use lib.Seq.{sets, sets-eq, take_at}
+use Rattle.std.proofs.Common.{◌≡◌, sym, ap, ap₂, subst, ◌∙◌, Bool, true, false, List, [], ◌∷◌, ◌++◌, ℕ, suc, ◌+◌, ◌-◌, ◌*◌, ◌≤◌, ◌<◌, arith, length, take, drop, take_at}
+use lib.Seq.{sets, sets-eq}
 use Rattle.grammar.specs.Rules.{Rule, Grammar, rule_count}
 use Rattle.grammar.specs.Accepted.{max_symbols, max_rules}
 use Rattle.grammar.specs.File.{header_bytes, rule_bytes}

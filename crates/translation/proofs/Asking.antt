@@ -1,11 +1,6 @@
 -- From marks of all nonterminals to what is told of every one, and from one that is not marked to the refusal.
-use mathlib.Core.Path.{◌≡◌, subst}
-use mathlib.Core.Bool.{Bool, true, false}
-use mathlib.Core.List.{List, [], ◌∷◌}
-use mathlib.Core.Logic.{◌⊎◌, inl, inr, ⊎_elim}
-use Prim.Native.Nat.{ℕ, zero, suc, ◌+◌, ◌-◌, ◌≤◌, ◌<◌}
+use Rattle.std.proofs.Common.{◌≡◌, subst, Bool, true, false, List, [], ◌∷◌, ◌⊎◌, inl, inr, ⊎_elim, ℕ, zero, suc, ◌+◌, ◌-◌, ◌≤◌, ◌<◌, arith}
 use native.Mathlib.Decide.{dec_lt}
-use native.Mathlib.Omega.{arith}
 use Rattle.laws.specs.Decides.{Decides}
 use Rattle.laws.proofs.Tests.{either_way}
 use Rattle.laws.proofs.Decides.{false_true}

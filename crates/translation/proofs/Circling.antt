@@ -1,14 +1,8 @@
 -- What a rule leads to, in place; and that what is left when no symbol can be dropped has one that derives itself.
-use mathlib.Core.Path.{◌≡◌, refl, sym, ap, subst, ◌∙◌}
-use mathlib.Core.Bool.{Bool, true, false, not}
+use Rattle.std.proofs.Common.{◌≡◌, refl, sym, ap, subst, ◌∙◌, Bool, true, false, not, List, [], ◌∷◌, ◌++◌, ◌⊎◌, inl, inr, ⊎_elim, ℕ, zero, suc, ◌+◌, ◌<◌, arith, length, get_or, set, replicate, length-set, eqb, ne_eqb}
 use Rattle.std.specs.List.{filter}
-use mathlib.Core.List.{List, [], ◌∷◌, ◌++◌, cons≢nil}
-use mathlib.Core.Logic.{◌⊎◌, inl, inr, ⊎_elim}
-use Prim.Native.Nat.{ℕ, zero, suc, ◌+◌, ◌<◌}
-use native.Mathlib.Omega.{arith}
-use lib.ListN.{length, get_or, set, replicate, length-set, length-replicate}
-use lib.Dec.{eqb}
-use borrow.Author.Tests.{ne_eqb}
+use mathlib.Core.List.{cons≢nil}
+use lib.ListN.{length-replicate}
 use Rattle.laws.specs.Counts.{once}
 use Rattle.laws.specs.Decides.{Decides}
 use Rattle.laws.proofs.Tests.{either_way}

@@ -1,14 +1,8 @@
 -- Held symbols: those are dropped that no held one leads to. Who derives itself is never dropped; and of those that are left when none can be
 -- dropped one derives itself.
-use mathlib.Core.Path.{◌≡◌, refl, sym, ap, subst, ◌∙◌}
-use mathlib.Core.Bool.{Bool, true, false}
-use mathlib.Core.List.{List, [], ◌∷◌}
-use mathlib.Core.Logic.{◌⊎◌, inl, inr, ⊎_elim}
-use Prim.Native.Nat.{ℕ, zero, suc, ◌+◌, ◌≤◌, ◌<◌}
+use Rattle.std.proofs.Common.{◌≡◌, refl, sym, ap, subst, ◌∙◌, Bool, true, false, List, [], ◌∷◌, ◌⊎◌, inl, inr, ⊎_elim, ℕ, zero, suc, ◌+◌, ◌≤◌, ◌<◌, arith, length, set, replicate, length-set, get_or-set_other}
 use native.Mathlib.Decide.{dec_lt, ℕ_discrete}
-use native.Mathlib.Omega.{arith}
-use lib.ListN.{length, set, replicate, length-set, length-replicate, get_or-replicate, get_or-eq_default}
-use lib.Seq.{get_or-set_other}
+use lib.ListN.{length-replicate, get_or-replicate, get_or-eq_default}
 use Rattle.laws.specs.Counts.{once, count}
 use Rattle.laws.specs.Decides.{Decides}
 use Rattle.laws.proofs.Decides.{false_true, true_false}
@@ -44,18 +38,6 @@ pub record Dropping (before led held : List Bool) (some : Bool) (i : ℕ) : Type
   pub fewer : some ≡ true → held_in held < held_in before
   pub none : some ≡ false → held ≡ before
   pub all : some ≡ false → (a : ℕ) → a < i → marked before a ≡ true → marked led a ≡ true
-
-pub dropping_begins : (before led : List Bool) → length before ≡ most_symbols → Dropping before led before false 0
-dropping_begins before led h = record {
-  few = omega arith;
-  long = h;
-  same = λ a l. refl;
-  kept = λ a m k. m;
-  no_more = omega arith;
-  fewer = λ e. absurd (false_true e);
-  none = λ e. refl;
-  all = λ e a l. absurd (omega arith);
-}
 
 module _ (before led held : List Bool) (some : Bool) (i : ℕ) (d : Dropping before led held some i) (more : i < most_symbols) where
   -- One that is led to, or is not held, is passed.
@@ -110,36 +92,6 @@ marked-below l a m = elim (dec_lt a (length l)) [
   | yes h ↦ h
   | no g ↦ absurd (false_true (sym (get_or-eq_default l false {n = a} (omega arith)) ∙ m))
 ]
-
-pub dropping_ends : (before led held : List Bool) (some : Bool) (i : ℕ) → length before ≡ most_symbols → Dropping before led held some i → most_symbols ≤ i → Dropped before led held some
-dropping_ends before led held some i long d h = record {
-  long = d.long;
-  kept = d.kept;
-  fewer = d.fewer;
-  none = d.none;
-  all = λ e a m. d.all e a (let b = marked-below before a m in omega arith) m;
-}
-
--- None of the first `i` is held.
-pub record NoneHeld (held : List Bool) (i : ℕ) : Type 0 where
-  pub none : (a : ℕ) → a < i → marked held a ≡ false
-
-pub none_begins : (held : List Bool) → NoneHeld held 0
-none_begins held = record { none = λ a h. absurd (omega arith) }
-
-pub none_more : (held : List Bool) (i : ℕ) → NoneHeld held i → marked held i ≡ false → NoneHeld held (i + 1)
-none_more held i n m = record {
-  none = λ a h. elim (ℕ_discrete a i) [
-    | yes s ↦ subst (λ (x : ℕ). marked held x ≡ false) (sym s) m
-    | no x ↦ n.none a (lower a h x)
-  ];
-}
-  where
-    lower : (a : ℕ) → a < i + 1 → (a ≡ i → ⊥) → a < i
-    lower a l x = omega arith
-
-pub none_ends : (held : List Bool) (i : ℕ) → length held ≡ most_symbols → NoneHeld held i → most_symbols ≤ i → SomeHeld held → ⊥
-none_ends held i long n h s = true_false (sym s.holds ∙ n.none s.symbol (let b = marked-below held s.symbol s.holds in omega arith))
 
 -- Who leads to itself is held.
 pub record Holding (w : Written) (held : List Bool) : Type 0 where

@@ -1,9 +1,6 @@
 -- Marks that have grown as far as they can are exact: which symbols may be empty, which derive a token string, which a nonempty one.
-use mathlib.Core.Path.{◌≡◌, refl, sym, ap, ap₂, subst, ◌∙◌}
-use mathlib.Core.Bool.{Bool, true, false, ◌&&◌, not}
-use mathlib.Core.List.{List, [], ◌∷◌, ◌++◌, cons≢nil}
-use Prim.Native.Nat.{ℕ, ◌<◌}
-use lib.ListN.{get_or, replicate}
+use Rattle.std.proofs.Common.{◌≡◌, refl, sym, ap, ap₂, subst, ◌∙◌, Bool, true, false, ◌&&◌, not, List, [], ◌∷◌, ◌++◌, ℕ, ◌<◌, get_or, replicate}
+use mathlib.Core.List.{cons≢nil}
 use Rattle.laws.proofs.Tests.{either_way}
 use Rattle.laws.proofs.Decides.{true_false, false_true}
 use Rattle.written.specs.Lists.{In, Each}

@@ -1,11 +1,5 @@
 -- Marks that grow by walks over the rules: each walk that marks something leaves fewer unmarked, and one that does not leaves no rule that fires.
-use mathlib.Core.Path.{◌≡◌, refl, sym, ap, subst, ◌∙◌}
-use mathlib.Core.Bool.{Bool, true, false, ◌&&◌, not}
-use mathlib.Core.List.{List, [], ◌∷◌}
-use mathlib.Core.Logic.{⊎_elim}
-use Prim.Native.Nat.{ℕ, ◌≤◌, ◌<◌}
-use native.Mathlib.Omega.{arith}
-use lib.ListN.{length, set, length-set}
+use Rattle.std.proofs.Common.{◌≡◌, refl, sym, ap, subst, ◌∙◌, Bool, true, false, ◌&&◌, not, List, [], ◌∷◌, ⊎_elim, ℕ, ◌≤◌, ◌<◌, arith, length, set, length-set}
 use borrow.Author.Tests.{not-true}
 use Rattle.laws.proofs.Tests.{either_way, both_true}
 use Rattle.laws.proofs.Decides.{false_true, true_false}

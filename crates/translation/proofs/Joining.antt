@@ -1,19 +1,11 @@
 -- The rules of written rules, listed one after the other.
-use mathlib.Core.Path.{◌≡◌, refl, sym, ap, ap₂, subst, ◌∙◌}
-use mathlib.Core.Bool.{Bool, ◌&&◌}
-use mathlib.Core.List.{List, [], ◌∷◌, ◌++◌}
-use Prim.Native.Nat.{ℕ, suc, ◌+◌, ◌-◌, ◌≤◌, ◌<◌}
-use native.Mathlib.Numerals.{add-one}
-use native.Mathlib.Omega.{arith}
-use lib.ListN.{length, get_or, take, drop}
-use lib.Seq.{drop-cons, drop-length}
+use Rattle.std.proofs.Common.{◌≡◌, refl, sym, ap, ap₂, subst, ◌∙◌, Bool, ◌&&◌, List, [], ◌∷◌, ◌++◌, ℕ, suc, ◌+◌, ◌-◌, ◌≤◌, ◌<◌, add-one, arith, length, get_or, drop, drop-cons, Result, Ok, Err}
+use lib.Seq.{drop-length}
 use Rattle.grammar.specs.Rules.{Rule, none}
 use Rattle.grammar.specs.Accepted.{max_rules}
 use Rattle.written.specs.Written.{WrittenRule}
-use Rattle.written.specs.Form.{longest}
 use Rattle.written.specs.Split.{rule, pair, joined, split}
 use Rattle.written.specs.Translation.{number, places, new_symbols, all_new, splits, listing}
-use Rattle.std.specs.Prelude.{Result, Ok, Err}
 use Rattle.translation.specs.declared.list.Full.{Full}
 use Rattle.translation.specs.inner.Lists.{Lists}
 use Rattle.translation.proofs.Words.{lists_on, lists-stops, lists-nothing}
@@ -136,20 +128,9 @@ module _ (keep empty : ℕ → Bool) (all : List WrittenRule) (from : ℕ) where
     pub low : fresh + all_new keep rest ≤ 512
     pub listed : Onward [] (splits keep empty all from) now (splits keep empty rest fresh)
 
-  pub parting-begins : {now : List Rule} {rest : List WrittenRule} → from + all_new keep all ≤ 512 → now ≡ [] → rest ≡ all → Parting now rest from
-  parting-begins {now} {rest} low e h = record {
-    low = subst (λ (l : List WrittenRule). from + all_new keep l ≤ 512) (sym h) low;
-    listed = subst (λ (l : List Rule). Onward [] (splits keep empty all from) l (splits keep empty rest from)) (sym e)
-        (onward_begins [] _ _ (ap (λ (l : List WrittenRule). splits keep empty l from) (sym h)));
-  }
-
   module _ {now : List Rule} {rest more : List WrittenRule} {r : WrittenRule} {fresh : ℕ} (p : Parting now rest fresh) (e : rest ≡ r ∷ more) {held : List ℕ} (el : held ≡ places keep r.right) where
     new-here : all_new keep rest ≡ length held - 2 + all_new keep more
     new-here = let n = ap (all_new keep) e ∙ new-first keep r more in let c = ap length el in omega arith
-
-    -- The new symbols of the next rule are few.
-    pub parting-low : fresh + (length held - 2) ≤ 512
-    parting-low = let m = new-here in let low = p.low in omega arith
 
     splits-here : {a : ℕ} → a ≡ number keep r.left
         → splits keep empty rest fresh ≡ split (number keep) empty a held fresh ++ splits keep empty more (fresh + (length held - 2))

@@ -1,17 +1,9 @@
 -- Numbers and places, one symbol after the other; and how many new symbols the rules need.
-use mathlib.Core.Path.{◌≡◌, refl, sym, ap, ◌∙◌}
-use mathlib.Core.Bool.{Bool, true, false}
-use mathlib.Core.List.{List, [], ◌∷◌, ◌++◌, append_assoc, append-nil}
-use Prim.Native.Nat.{ℕ, zero, suc, ◌+◌, ◌-◌, ◌*◌, ◌≤◌, ◌<◌}
-use native.Mathlib.Numerals.{add-one}
-use native.Mathlib.Omega.{arith}
-use lib.ListN.{length, take, set, get_or}
+use Rattle.std.proofs.Common.{◌≡◌, refl, sym, ap, ◌∙◌, Bool, true, false, List, [], ◌∷◌, ◌++◌, append_assoc, append-nil, ℕ, zero, suc, ◌+◌, ◌-◌, ◌*◌, ◌≤◌, ◌<◌, add-one, arith, length, take, set, get_or, length-append, take-suc, take-suc-set}
 use Rattle.std.specs.List.{filter}
-use Rattle.std.proofs.Common.{length-append}
 use Rattle.std.proofs.lemmas.List.Elements.{filter-append}
 use Rattle.laws.proofs.Tests.{either_way}
 use Rattle.translation.specs.inner.Marks.{marked}
-use lib.Seq.{take-suc, take-suc-set, length-take-le}
 use Rattle.written.specs.Written.{WrittenRule}
 use Rattle.written.specs.Form.{longest}
 use Rattle.written.specs.Split.{given}
@@ -86,9 +78,6 @@ new-first keep r rules = refl
 new_none : (keep : ℕ → Bool) → all_new keep [] ≡ 0
 unfolding all_new
 new_none keep = refl
-
-pub counted-begins : (keep : ℕ → Bool) (all : List WrittenRule) → length all < 65536 → Counted keep all all 0
-counted-begins keep all h = record { same = omega arith; low = omega arith }
 
 -- The same by the places that were read.
 pub counted_on : (keep : ℕ → Bool) (all : List WrittenRule) {rest more : List WrittenRule} {r : WrittenRule} {total n : ℕ} (held : List ℕ) → Counted keep all rest total → rest ≡ r ∷ more

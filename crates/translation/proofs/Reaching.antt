@@ -1,11 +1,6 @@
 -- Marks of what is reachable: a walk marks only that, and one that marks nothing leaves every symbol on the right of a marked left side marked.
-use mathlib.Core.Path.{◌≡◌, refl, sym, ap, subst, ◌∙◌}
-use mathlib.Core.Bool.{Bool, true, false}
-use mathlib.Core.List.{List, [], ◌∷◌}
-use mathlib.Core.Logic.{⊎_elim}
-use Prim.Native.Nat.{ℕ, ◌≤◌, ◌<◌}
-use native.Mathlib.Omega.{arith}
-use lib.ListN.{length, set, replicate, length-set, length-replicate}
+use Rattle.std.proofs.Common.{◌≡◌, refl, sym, ap, subst, ◌∙◌, Bool, true, false, List, [], ◌∷◌, ⊎_elim, ℕ, ◌≤◌, ◌<◌, arith, length, set, replicate, length-set}
+use lib.ListN.{length-replicate}
 use Rattle.laws.proofs.Tests.{either_way}
 use Rattle.laws.proofs.Decides.{false_true, true_false}
 use Rattle.grammar.proofs.Marks.{mark_kept, mark_new, mark_old}
@@ -48,16 +43,6 @@ step_rests s r e m = sym (reaching-rests s r (ap (marked s.marks) (sym e) ∙ m)
 
 pub step_marks : (s : Turn) (r : WrittenRule) (t : Turn) {a : ℕ} → a ≡ r.left → marked s.marks a ≡ true → t ≡ marking s r.right → t ≡ reaching s r
 step_marks s r t e m h = h ∙ sym (reaching_on s r (ap (marked s.marks) (sym e) ∙ m))
-
--- Marking keeps the number of marks.
-marking-keeps : (l : List ℕ) (s : Turn) → length (marking s l).marks ≡ length s.marks
-marking-keeps [] s = ap (λ (t : Turn). length t.marks) (nothing-marked s)
-marking-keeps (x ∷ l) s = either_way (marked s.marks x)
-    (λ e. ap (λ (t : Turn). length t.marks) (marking-there s x l e) ∙ marking-keeps l s)
-    (λ e. ap (λ (t : Turn). length t.marks) (marking-new s x l e) ∙ marking-keeps l (turn (set s.marks x true) true) ∙ length-set s.marks x true)
-
-pub marking-long : (l : List ℕ) (s t : Turn) → t ≡ marking s l → length s.marks ≡ most_symbols → length t.marks ≡ most_symbols
-marking-long l s t e h = ap (λ (u : Turn). length u.marks) e ∙ marking-keeps l s ∙ h
 
 -- Symbol by symbol: what the symbols that are left make of the marks so far is what all make of those at the beginning.
 pub record MarkingTo (total : Turn) (rest : List ℕ) (s : Turn) : Type 0 where

@@ -1,15 +1,8 @@
 -- Left sides: which are left, which are named, and their rules put level after level.
-use mathlib.Core.Path.{◌≡◌, refl, sym, ap, ap₂, subst, ◌∙◌}
-use mathlib.Core.Bool.{Bool, true, false, ◌&&◌, ◌||◌, not}
-use mathlib.Core.List.{List, [], ◌∷◌, ◌++◌, append_assoc}
-use Prim.Native.Nat.{ℕ, suc, ◌+◌, ◌-◌, ◌≤◌, ◌<◌}
-use native.Mathlib.Decide.{dec_lt, ℕ_discrete}
-use native.Mathlib.Numerals.{add-one}
-use native.Mathlib.Omega.{arith}
-use lib.ListN.{length, set, replicate, length-set, length-replicate, get_or-eq_default}
-use lib.Seq.{get_or-set_same, get_or-set_other, set_out, sets}
-use lib.Dec.{eqb}
-use borrow.Author.Tests.{eq-eqb, ne_eqb}
+use Rattle.std.proofs.Common.{◌≡◌, refl, sym, ap, ap₂, subst, ◌∙◌, Bool, true, false, ◌&&◌, ◌||◌, not, List, [], ◌∷◌, ◌++◌, append_assoc, ℕ, suc, ◌+◌, ◌-◌, ◌≤◌, ◌<◌, add-one, arith, length, set, replicate, length-set, get_or-set_same, get_or-set_other, eqb, eq-eqb, ne_eqb}
+use native.Mathlib.Decide.{ℕ_discrete}
+use lib.ListN.{length-replicate}
+use lib.Seq.{sets}
 use Rattle.laws.specs.Records.{flat}
 use Rattle.laws.proofs.Tests.{either_way}
 use Rattle.laws.proofs.Records.{flat_append}
@@ -35,16 +28,6 @@ use Rattle.translation.proofs.Marked.{none_marked}
 use Rattle.translation.proofs.Words.{behind-next}
 use Rattle.translation.proofs.Putting.{Putting, putting_begins, putting_same, putting_on, putting_room, putting_ends}
 
--- Past the marks nothing is marked.
-past_marks : (marks : List Bool) (a : ℕ) → length marks ≡ max_symbols → max_symbols ≤ a → marked marks a ≡ false
-past_marks marks a l h = let past : length marks ≤ a = omega arith in get_or-eq_default marks false past
-
-pub not_marked : (marks : List Bool) (a : ℕ) → length marks ≡ max_symbols → (a < max_symbols → ⊥) → false ≡ marked marks a
-not_marked marks a l h = sym (past_marks marks a l (omega arith))
-
-pub mark_past : (marks : List Bool) (a : ℕ) → length marks ≡ max_symbols → max_symbols ≤ a → marks ≡ set marks a true
-mark_past marks a l h = let past : length marks ≤ a = omega arith in sym (set_out marks a true past)
-
 -- Of what is left the named are kept, up to `a`.
 pub record Keeping (before named left : List Bool) (a : ℕ) : Type 0 where
   pub first : length before ≡ max_symbols
@@ -52,65 +35,9 @@ pub record Keeping (before named left : List Bool) (a : ℕ) : Type 0 where
   pub done : (b : ℕ) → b < a → marked left b ≡ (marked before b && marked named b)
   pub next : (b : ℕ) → a ≤ b → marked left b ≡ marked before b
 
-pub keeping_begins : (before named : List Bool) → length before ≡ max_symbols → Keeping before named before 0
-keeping_begins before named l = record { first = l; long = l; done = λ b h. absurd (omega arith); next = λ b h. refl }
-
-and_true : (a b : Bool) → b ≡ true → a ≡ (a && b)
-and_true true b e = sym e
-and_true false b e = refl
-
 and_false : (a b : Bool) → b ≡ false → false ≡ (a && b)
 and_false true b e = sym e
 and_false false b e = refl
-
-pub keeping_named : (before named left : List Bool) (a : ℕ) → Keeping before named left a → marked named a ≡ true → Keeping before named left (a + 1)
-keeping_named before named left a k e = record {
-  first = k.first;
-  long = k.long;
-  done = λ b h. elim (dec_lt b a) [
-    | yes l ↦ k.done b l
-    | no g ↦ k.next b (at_least b g) ∙ and_true (marked before b) (marked named b) (ap (marked named) (same b h g) ∙ e)
-  ];
-  next = λ b h. k.next b (omega arith);
-}
-  where
-    at_least : (b : ℕ) → (b < a → ⊥) → a ≤ b
-    at_least b g = omega arith
-
-    same : (b : ℕ) → b < a + 1 → (b < a → ⊥) → b ≡ a
-    same b h g = omega arith
-
-pub keeping_not : (before named left : List Bool) (a : ℕ) → Keeping before named left a → a < max_symbols → marked named a ≡ false → Keeping before named (set left a false) (a + 1)
-keeping_not before named left a k low e = record {
-  first = k.first;
-  long = length-set left a false ∙ k.long;
-  done = λ b h. elim (dec_lt b a) [
-    | yes l ↦ get_or-set_other left a b false false (λ (s : b ≡ a). omega arith) ∙ k.done b l
-    | no g ↦
-        ap (marked (set left a false)) (same b h g)
-        ∙ get_or-set_same left a false false inside
-        ∙ and_false (marked before b) (marked named b) (ap (marked named) (same b h g) ∙ e)
-  ];
-  next = λ b h. get_or-set_other left a b false false (λ (s : b ≡ a). omega arith) ∙ k.next b (omega arith);
-}
-  where
-    inside : a < length left
-    inside = omega (arith, k.long)
-
-    same : (b : ℕ) → b < a + 1 → (b < a → ⊥) → b ≡ a
-    same b h g = omega arith
-
-pub keeping_ends : (before named left : List Bool) (a : ℕ) → Keeping before named left a → max_symbols ≤ a → KeptNamed before named left
-keeping_ends before named left a k h = record {
-  long = k.long;
-  right = λ b. elim (dec_lt b a) [
-    | yes l ↦ k.done b l
-    | no g ↦ past_marks left b k.long (at_least b g) ∙ sym (ap (λ (t : Bool). t && marked named b) (past_marks before b k.first (at_least b g)))
-  ];
-}
-  where
-    at_least : (b : ℕ) → (b < a → ⊥) → max_symbols ≤ b
-    at_least b g = omega arith
 
 -- The rules before `r` have marked what they name, and the rules from `r` on name the rest.
 pub record Naming (words : List ℕ) (count : ℕ) (left marks : List Bool) (r : ℕ) : Type 0 where
@@ -214,11 +141,6 @@ module _ (words : List ℕ) (count a : ℕ) (before : List ℕ) (at : ℕ) where
   pub record Side (now : List ℕ) (here r : ℕ) : Type 0 where
     pub few : r ≤ count
     pub putting : Putting before at (flat bytes_of_rule (rules_of (rules_in words count) a)) now here (those r)
-
-  pub side_begins : at + length (flat bytes_of_rule (rules_of (rules_in words count) a)) ≤ length before → Side before at 0
-  side_begins h =
-      let e : count ≡ count - 0 = omega arith in
-      record { few = omega arith; putting = putting_begins before at _ _ (ap (λ (k : ℕ). flat bytes_of_rule (rules_of (rules_behind words 0 k) a)) e) h }
 
   next-rules : (r : ℕ) → r < count → rules_behind words r (count - r) ≡ rule_in words r ∷ rules_behind words (r + 1) (count - (r + 1))
   next-rules r h =

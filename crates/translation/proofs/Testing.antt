@@ -1,11 +1,9 @@
 -- Tests of right sides: what they tell.
-use Rattle.std.proofs.Common.{◌≡◌, refl, sym, ap₂, ◌∙◌, Bool, true, ◌&&◌, List, [], ◌∷◌, ℕ, ◌<◌, ltb}
+use Rattle.std.proofs.Common.{◌≡◌, refl, sym, ap₂, ◌∙◌, Bool, true, ◌&&◌, List, [], ◌∷◌, ℕ, ◌<◌, ltb, ⊎_elim, ltb-true, lt-ltb}
 use Rattle.std.specs.List.{list_all, list_any}
-use mathlib.Core.Logic.{⊎_elim}
 use Rattle.laws.proofs.Tests.{both_true}
 use Rattle.laws.proofs.Decides.{false_true}
 use Rattle.laws.specs.Decides.{Decides}
-use borrow.Author.Tests.{ltb-true, lt-ltb}
 use Rattle.written.specs.Form.{symbols_at}
 use Rattle.written.proofs.Lists.{each_map}
 use Rattle.translation.specs.inner.Symbols.{AllBelow}

@@ -1,34 +1,13 @@
 -- Rules in words: searched, and one more stored behind the others.
-use mathlib.Core.Path.{◌≡◌, refl, sym, ap, ap₂, ◌∙◌}
-use mathlib.Core.Bool.{Bool, true, false, ◌&&◌, ◌||◌}
-use mathlib.Core.List.{List, [], ◌∷◌, ◌++◌}
-use Prim.Native.Nat.{ℕ, zero, suc, ◌+◌, ◌-◌, ◌≤◌, ◌<◌}
-use native.Mathlib.Omega.{arith}
-use lib.ListN.{length, length-append}
-use lib.Dec.{eqb}
-use borrow.Author.Tests.{eq-eqb, ne_eqb}
+use Rattle.std.proofs.Common.{◌≡◌, refl, sym, ap, ◌∙◌, Bool, true, false, ◌||◌, List, [], ◌∷◌, ◌++◌, ℕ, zero, suc, ◌+◌, ◌-◌, ◌≤◌, ◌<◌, arith, length, length-append, Result, Ok, Err, IfOk, IfErr}
 use Rattle.laws.proofs.Decides.{true_false, false_true}
-use Rattle.grammar.specs.Rules.{Rule, none}
+use Rattle.grammar.specs.Rules.{Rule}
 use Rattle.grammar.specs.Accepted.{max_rules}
 use Rattle.grammar.specs.inner.Decoded.{rules_behind, rules_in}
-use Rattle.written.specs.Split.{rule, given, pair}
+use Rattle.written.specs.Split.{given}
 use Rattle.written.specs.Translation.{equal, has_rule, listing}
 use Rattle.written.proofs.Listing.{adding-there, adding-new, listing_grows, listing-append, or_first}
-use Rattle.std.specs.Prelude.{Result, Ok, Err, IfOk, IfErr}
 use Rattle.translation.specs.inner.Lists.{rule_in, Lists}
-
--- A test that fails at the left side, or at the first symbol; or goes by the second.
-pub equal_not_left : (q : Rule) (a b c x : ℕ) → x ≡ q.left → (x ≡ a → ⊥) → false ≡ equal q (rule a b c)
-equal_not_left q a b c x e n = sym (ap (λ (t : Bool). t && (eqb q.first b && eqb q.second c)) (ap (λ (y : ℕ). eqb y a) (sym e) ∙ ne_eqb x a n))
-
-pub equal_not_first : (q : Rule) (a b c x y : ℕ) → x ≡ q.left → x ≡ a → y ≡ q.first → (y ≡ b → ⊥) → false ≡ equal q (rule a b c)
-equal_not_first q a b c x y e p f n =
-    sym (ap₂ (λ (s t : Bool). s && (t && eqb q.second c)) (ap (λ (z : ℕ). eqb z a) (sym e) ∙ eq-eqb x a p) (ap (λ (z : ℕ). eqb z b) (sym f) ∙ ne_eqb y b n))
-
-pub equal-second : (q : Rule) (a b c x y z : ℕ) → x ≡ q.left → x ≡ a → y ≡ q.first → y ≡ b → z ≡ q.second → eqb z c ≡ equal q (rule a b c)
-equal-second q a b c x y z e p f r g =
-    ap (λ (k : ℕ). eqb k c) g
-    ∙ sym (ap₂ (λ (s t : Bool). s && (t && eqb q.second c)) (ap (λ (k : ℕ). eqb k a) (sym e) ∙ eq-eqb x a p) (ap (λ (k : ℕ). eqb k b) (sym f) ∙ eq-eqb y b r))
 
 -- The search: the rules from `r` on decide.
 pub record Seeking (words : List ℕ) (count : ℕ) (q : Rule) (r : ℕ) : Type 0 where
@@ -39,9 +18,6 @@ pub behind-next : (words : List ℕ) (r k : ℕ) → 0 < k → rules_behind word
 unfolding rules_behind
 behind-next words r zero h = absurd (omega arith)
 behind-next words r (suc k) h = let e : k ≡ suc k - 1 = omega arith in ap (λ (n : ℕ). rule_in words r ∷ rules_behind words (r + 1) n) e
-
-pub seek_begins : (words : List ℕ) (count : ℕ) (q : Rule) → Seeking words count q 0
-seek_begins words count q = let e : count - 0 ≡ count = omega arith in record { few = omega arith; same = ap (λ (k : ℕ). has_rule (rules_behind words 0 k) q) e }
 
 module _ (words : List ℕ) (count : ℕ) (q : Rule) (r : ℕ) (s : Seeking words count q r) (more : r < count) {answer : Bool} (is : answer ≡ equal (rule_in words r) q) where
   first-rule : (equal (rule_in words r) q || has_rule (rules_behind words (r + 1) (count - r - 1)) q) ≡ has_rule (rules_in words count) q
@@ -124,8 +100,3 @@ pub lists-given : {T E : Type 0} {r : Result T E} (before after : List Rule) (ye
 unfolding given
 lists-given before after true l e p = p
 lists-given before after false l e p = absurd (false_true e)
-
--- The rules of a pair are these.
-pub pair-parts : (a b c : ℕ) (b-empty c-empty : Bool) → pair a b c b-empty c-empty ≡ (rule a b c ∷ []) ++ (given c-empty (rule a b none ∷ []) ++ given b-empty (rule a c none ∷ []))
-unfolding pair
-pair-parts a b c b-empty c-empty = refl

@@ -40,7 +40,8 @@ fn mark_led(rule: &WrittenRule<'_>, empty: &Marks, led: &mut Marks, k: usize)
 
 // Marks the symbols that a held one leads to, and no others.
 fn led_by(written: &Written<'_>, empty: &Marks, held: &Marks, led: &mut Marks)
-    ensures walked { led.new ≡ walk (circles.leads (marked empty.now) (marked held.now)) (replicate most_symbols false) (written_of written.now).rules }
+    ensures walked { led.new
+        ≡ walk (circles.leads (marked empty.now) (marked held.now)) (replicate most_symbols false) (written_of written.now).rules }
     ensures low { Each LowRule (written_of written.now).rules }
 {
     *led = [false; MOST];
@@ -65,7 +66,7 @@ fn drop_others(held: &mut Marks, led: &Marks) -> bool
     some
 }
 
-// Of the symbols held, all at first, those are kept to which one held leads. What is left when none can be dropped has a symbol that leads to itself.
+// Of the symbols held, all at first, those are kept to which one held leads. Of those left when none can be dropped one leads to itself.
 pub fn circular(written: &Written<'_>, empty: &Marks, held: &mut Marks, led: &mut Marks) -> bool
     requires { MarksAre (MayBeEmpty (written_of written.now)) empty.now }
     ensures { Decides result (Circular (written_of written.now)) }

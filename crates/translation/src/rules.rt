@@ -45,6 +45,7 @@ impl<'a> Iterator for Symbols<'a> {
 
     ghost remaining = { item_count (λ s. s) };
 
+    // Places are counted by hand here and in the rules' `next` alone: the specs name a symbol and a rule by its place in the bytes.
     fn next(&mut self) -> Option<u16> {
         if self.left == 0 {
             return None;

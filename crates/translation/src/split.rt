@@ -78,10 +78,10 @@ fn split(
 // The list of rules, where new symbols are numbered from `from` on.
 pub fn list(written: &Written<'_>, tests: &Tests<'_>, from: usize) -> Result<RuleList, Full>
     requires { from + translation.all_new (marked tests.now.keep.now) (form.written_of written.now).rules ≤ 512 }
-    ensures listed { IfOk result (λ list. listed list.rules ≡ translation.listing [] (translation.splits (marked tests.now.keep.now) (marked tests.now.empty.now)
-        (form.written_of written.now).rules from)) }
-    ensures full { IfErr result (λ _. max_rules ≤ length_of (translation.listing [] (translation.splits (marked tests.now.keep.now) (marked tests.now.empty.now)
-        (form.written_of written.now).rules from))) }
+    ensures listed { IfOk result (λ list. listed list.rules
+        ≡ translation.listing [] (translation.splits (marked tests.now.keep.now) (marked tests.now.empty.now) (form.written_of written.now).rules from)) }
+    ensures full { IfErr result (λ _. max_rules ≤ length_of
+        (translation.listing [] (translation.splits (marked tests.now.keep.now) (marked tests.now.empty.now) (form.written_of written.now).rules from))) }
 {
     let mut list = RuleList::new();
     let mut room = [0; LONGEST];

@@ -1,6 +1,5 @@
 -- `translation::circular::filled` meets its contract.
-use Rattle.std.proofs.Common.{ℕ, ◌∙◌, rules, tests}
-use mathlib.Core.Bool.{not}
+use Rattle.std.proofs.Common.{ℕ, ◌∙◌, rules, tests, not}
 use Rattle.std.proofs.lemmas.Iterator.Consumers.{YieldsList-from_first, YieldsList-from_filter, count_from_yields_List}
 use Rattle.translation.specs.inner.Marks.{marked}
 use Rattle.translation.proofs.Circling.{filled-count}

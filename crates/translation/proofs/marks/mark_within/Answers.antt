@@ -1,6 +1,5 @@
 -- `translation::marks::mark_within` meets its contract.
-use Rattle.std.proofs.Common.{arith, rules, ap, ◌∙◌, replicate}
-use mathlib.Core.Bool.{true}
+use Rattle.std.proofs.Common.{arith, rules, ap, ◌∙◌, replicate, true}
 use Rattle.std.proofs.lemmas.List.{length-take-le, length-drop}
 use Rattle.translation.proofs.Marked.{only-filled}
 use Rattle.translation.proofs.marks.mark_within.Goals as goal

@@ -9,18 +9,10 @@ use Rattle.translation.proofs.split.join.Goals.{then-head_empty, else-head_empty
 pub loop-i-init : goal.loop-i-init
 loop-i-init c = joining_begins _ _ _ _ _ _ (omega arith) c.number-head.ensures.0 (omega (arith, c.number-head.ensures.1, c.type_inv.held 0)) refl
 
-pub pair-requires : goal.pair-requires
-pair-requires c =
-    let j = c.loop-i.invariant in
-    (omega (arith, j.next, j.inside), j.low, omega (arith, c.number.ensures.1, c.type_inv.held c.loop-i.i))
-
 pub returns-in_err-pair : goal.returns-in_err-pair
 returns-in_err-pair c =
     let p = err_from_is_err_and c.from_residual.result c.from_residual.ensures.1 in
     rw (p.1) (joining_stops _ _ _ _ _ _ c.loop-i.invariant c.number.ensures.0 refl (omega arith) c.in_err-pair.ensures)
-
-pub overflow_add-fresh : goal.overflow_add-fresh
-overflow_add-fresh c = omega (arith, c.loop-i.invariant.next, c.loop-i.invariant.inside)
 
 pub loop-i-preserved : goal.loop-i-preserved
 loop-i-preserved c =
@@ -31,9 +23,6 @@ loop-i-preserved c =
       | else-head_empty w ↦ w.head_empty-is ∙ w.if-head_empty.false ∙ sym (ap (λ (b : Bool). b && marked c.args.tests.now.empty.now (get_or c.args.held.now c.loop-i.i 0)) w.if-head_empty.false)
     ])
     c.in_ok-pair.ensures
-
-pub pair-requires-2 : goal.pair-requires-2
-pair-requires-2 c = (c.requires.0, c.loop-i.invariant.low, omega (arith, c.number-2.ensures.1, c.type_inv.held (length c.args.held.now - 1)))
 
 pub returns : goal.returns
 returns c =

@@ -1,27 +1,14 @@
-use Rattle.std.proofs.Common.{arith, ap, ◌∙◌}
+use Rattle.std.proofs.Common.{ap, ◌∙◌}
 use Rattle.std.proofs.lemmas.Result.{err_from_is_err_and}
 use Rattle.written.specs.Translation.{number}
-use Rattle.translation.proofs.Joining.{parting-begins, parting-low, parting_on, parting_stops, parting-ends}
+use Rattle.translation.proofs.Joining.{parting_on, parting_stops, parting-ends}
 use Rattle.translation.proofs.split.list.Goals as goal
-
-pub loop-rule-init : goal.loop-rule-init
-loop-rule-init c = parting-begins _ _ _ _ c.requires c.new-list.ensures (c.into_iter-rule-iterator.ensures.into_iter_gives ∙ c.rules-rule-items.ensures.rules)
-
-pub split-requires : goal.split-requires
-split-requires c =
-    let low = parting-low _ _ _ _ c.loop-rule.invariant c.in-Some.ensures.steps c.places-held.ensures.0 in
-    (omega (arith, c.number-a.ensures.1), omega (arith, low, c.places-held.ensures.1))
 
 pub returns-in_err-split-clause-full : goal.returns-in_err-split-clause-full
 returns-in_err-split-clause-full c =
     let p = err_from_is_err_and c.from_residual.result c.from_residual.ensures.1 in
     rw (p.1)
     (parting_stops _ _ _ _ c.loop-rule.invariant c.in-Some.ensures.steps c.places-held.ensures.0 (c.number-a.ensures.0 ∙ ap (number _) c.left.ensures) c.in_err-split.ensures)
-
-pub overflow_add-fresh : goal.overflow_add-fresh
-overflow_add-fresh c =
-    let low = parting-low _ _ _ _ c.loop-rule.invariant c.in-Some.ensures.steps c.places-held.ensures.0 in
-    omega (arith, low, c.saturating_sub-fresh.ensures)
 
 pub loop-rule-preserved : goal.loop-rule-preserved
 loop-rule-preserved c =

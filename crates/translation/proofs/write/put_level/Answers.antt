@@ -1,11 +1,6 @@
-use Rattle.std.proofs.Common.{refl}
 use Rattle.translation.proofs.Siding.{level_gone, level_named, level_room, level_on, level_ends}
-use Rattle.translation.proofs.Putting.{putting_begins}
 use Rattle.translation.proofs.write.put_level.Goals as goal
 use Rattle.translation.proofs.write.put_level.Goals.{then-is_marked+then-not-is_marked, else-is_marked, else-is_marked-via-then-is_marked+else-not-is_marked, else-is_marked-via-else-is_marked}
-
-pub loop-a-init : goal.loop-a-init
-loop-a-init c = record { putting = putting_begins _ _ _ _ refl c.requires.1 }
 
 pub put_rules_of-here-requires : goal.put_rules_of-here-requires
 put_rules_of-here-requires c = (

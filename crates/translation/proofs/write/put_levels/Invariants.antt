@@ -1,5 +1,5 @@
 -- `translation::write::put_levels` meets its contract. The invariant: the bytes put so far and those of the levels to come are all.
-use Prim.Native.Nat.{◌-◌}
+use Rattle.std.proofs.Common.{◌-◌}
 use Rattle.laws.specs.Records.{flat}
 use Rattle.grammar.specs.inner.Decoded.{rules_in}
 use Rattle.written.specs.Order.{ordered}

@@ -1,11 +1,8 @@
 use Rattle.std.proofs.Common.{arith}
-use Rattle.translation.proofs.Siding.{side_begins, side_other, side_room, side_on, side_ends}
+use Rattle.translation.proofs.Siding.{side_other, side_room, side_on, side_ends}
 use Rattle.translation.proofs.Putting.{puts_rule}
 use Rattle.translation.proofs.write.put_rules_of.Goals as goal
 use Rattle.translation.proofs.write.put_rules_of.Goals.{then-left-a, else-left-a}
-
-pub loop-r-init : goal.loop-r-init
-loop-r-init c = side_begins _ _ _ _ _ c.requires.1
 
 pub put_rule-requires : goal.put_rule-requires
 put_rule-requires c = (
