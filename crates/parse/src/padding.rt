@@ -72,6 +72,7 @@ pub fn is_spare<W: Word>(words: &[W], from: usize) -> bool
     ensures { Decides result (Spare W.SPARE words.now from) }
 {
     let mut i = from;
+    // No count: a step passes a block, or one word.
     while i < words.len() {
         if words.len() - i >= BLOCK && is_spare_block(words, i) {
             i += BLOCK;

@@ -81,6 +81,7 @@ fn complete_position(
         queued: 0,
         used: state.used,
     };
+    // No `?` while the pass is there: behind such an exit nothing would be known of the slices that it was lent.
     let completed = match pass.scan_all(kinds, state.set) {
         Ok(()) => pass.complete_all_sums_entirely(),
         Err(full) => Err(full),
@@ -116,7 +117,7 @@ fn give_up(items: &mut [u32], queue: &mut [u32], store: &mut [u16], stored: usiz
     unwrite(store, used);
 }
 
-// A position: steps 1 to 6, or the refusal that they meet, which leaves state and words as they were.
+// A position: steps 1 to 6, or the refusal that they meet, which leaves state and words as they were. Slices by themselves, as they are cut.
 pub fn step(
     grammar: &Grammar,
     table: &Table,

@@ -7,7 +7,7 @@ ghost use Rattle.reports.specs.inner.Puts.{Puts, RowThere};
 
 use crate::Unfilled;
 
-// How many symbols below `end` row `e` holds.
+// How many symbols below `end` row `e` holds. It is known before the first is written, since a place that is too short stays as it was.
 fn count_held(rows: &[u64], e: usize, end: usize) -> usize
     requires { RowThere rows.now e end }
     ensures { result ≡ length (held_below (row_of row_words rows.now e) end) }
