@@ -50,7 +50,7 @@ impl Units {
     }
 }
 
-// The two halves of a value, a unit each.
+// The two halves of a value, a unit each. The library splits a u32 into bytes alone, which is no plainer.
 fn low(x: u32) -> u16
     ensures { result ≡ U.low x }
 {

@@ -67,6 +67,7 @@ fn put(out: &mut [u32], at: usize, word: u32) -> usize
 }
 
 // The k-th tree under h. A Product's last factor is walked by the loop, so that chains of them take no stack.
+// A struct of `out`, `at` and `limit` is no plainer: the words are first counted over another place.
 #[cycle(walk_product_walk_sum)]
 pub fn walk_sum(
     store: &[u16],
