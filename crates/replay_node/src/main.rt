@@ -12,8 +12,6 @@
 // and the halves of the position behind, and those of the place.
 #![tactic(auto)]
 
-ghost use Rattle.std.specs.Prelude.{◌≤◌, IfOk, length};
-
 mod words;
 
 use node::{NoNode, Node, Unwritten, Walked};
@@ -166,14 +164,15 @@ fn tell(rt: &impl Print, words: [u32; WORDS]) -> io::Result<()> {
     rt.write_all(&line_of(words))
 }
 
-// Answers one request on the first `count` units, and how many units the store has from then on.
-fn answer(rt: &impl Print, store: &mut [u16], count: usize, request: Request) -> io::Result<usize>
-    requires { count ≤ length store.old }
-    ensures { IfOk result (λ units. units ≤ length store.new) }
-{
+// Answers one request on the first `count` units, and how many units the store has from then on. Where these are more than there are, it has all
+// that there are from then on, and the request is passed over.
+fn answer(rt: &impl Print, store: &mut [u16], count: usize, request: Request) -> io::Result<usize> {
+    if store.len() < count {
+        return Ok(store.len());
+    }
     let units = &mut store[..count];
     match request {
-        Request::Resize(wanted) => return Ok(wanted.min(store.len())),
+        Request::Resize(wanted) => return Ok(wanted),
         Request::Fill { from, to, unit } => fill(units, from, to, unit),
         Request::Write(p, node) => tell(rt, written(node::write(units, p, node)))?,
         Request::Read(p) => tell(rt, found(node::read(units, p)))?,
