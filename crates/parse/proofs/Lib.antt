@@ -2,6 +2,7 @@
 pub mod Capacities
 pub mod Placing
 pub mod Passing
+pub mod Searching
 pub mod Clearing
 pub mod Padded
 pub mod Fitting

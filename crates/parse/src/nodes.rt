@@ -63,12 +63,7 @@ fn handles_marked(items: &[u32], held: usize, heads: &Heads) -> bool
     requires { (item_words * held ≤ length items.now) × (length heads.now ≡ head_words) }
     ensures { Decides result (HandlesMarked items.now held heads.now) }
 {
-    for p in 0..held {
-        if !is_marked(heads, item::handle(items, p) as usize) {
-            return false;
-        }
-    }
-    true
+    (0..held).all(|p| is_marked(heads, item::handle(items, p) as usize))
 }
 
 // Whether units read to their end, and the handles of the first `held` items are heads of nodes met on that way.

@@ -25,12 +25,7 @@ fn row_below(symbols: usize, rows: &[u64], k: usize) -> bool
     requires { row_words * k + row_words ≤ length rows.now }
     ensures { Decides result (Below symbols (row_of row_words rows.now k)) }
 {
-    for i in 0..WIDTH {
-        if !word_below(symbols, i, rows[WIDTH * k + i]) {
-            return false;
-        }
-    }
-    true
+    (0..WIDTH).all(|i| word_below(symbols, i, rows[WIDTH * k + i]))
 }
 
 // Whether no row up to row `e` has one.
@@ -38,10 +33,5 @@ pub fn rows_below(symbols: usize, e: usize, rows: &[u64]) -> bool
     requires { row_words * e + row_words ≤ length rows.now }
     ensures { Decides result (RowsBelow symbols rows.now e) }
 {
-    for k in 0..e + 1 {
-        if !row_below(symbols, rows, k) {
-            return false;
-        }
-    }
-    true
+    (0..e + 1).all(|k| row_below(symbols, rows, k))
 }

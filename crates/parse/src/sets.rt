@@ -52,12 +52,7 @@ fn all_fit(rules: &Rules, items: &[u32], k: usize, from: usize, to: usize) -> bo
     requires { (rules.now.count ≤ max_rules) × (item_words * to ≤ length items.now) }
     ensures { Decides result (AllFit (rules_of rules.now) items.now k from to) }
 {
-    for p in from..to {
-        if !item_fits(rules, items, k, p) {
-            return false;
-        }
-    }
-    true
+    (from..to).all(|p| item_fits(rules, items, k, p))
 }
 
 // Whether they rise strictly by (second, rule, origin), whatever the number of rules that theirs are among.

@@ -1,22 +1,17 @@
-use mathlib.Core.Path.{ap}
-use mathlib.Core.Bool.{not}
-use native.Mathlib.Omega.{arith}
-use Rattle.laws.proofs.Decides.{says_yes_lem, part_fails, passes}
-use Rattle.parse.specs.inner.Parts.{HandlesMarked}
-use Rattle.parse.proofs.Marking.{mark_told}
-use Rattle.parse.proofs.Passing.{none_passed, one_passed}
+-- `nodes::handles_marked` meets its contract.
+use Rattle.std.proofs.Common.{rules, tests, refl, ℕ, arith}
+use Rattle.std.proofs.lemmas.Iterator.{cases_from_all, YieldsList-from_range}
+use Rattle.laws.specs.Bits.{Holds}
+use Rattle.item.specs.Item.{handle_at}
+use Rattle.laws.proofs.Decides.{decides_map}
+use Rattle.laws.proofs.Bits.{holds_true, holds_false}
+use Rattle.parse.proofs.Searching.{all_decides}
 use Rattle.parse.proofs.nodes.handles_marked.Goals as goal
 
-pub loop-p-init : goal.loop-p-init
-loop-p-init c = none_passed _ _
-
-pub returns-then-not-is_marked : goal.returns-then-not-is_marked
-returns-then-not-is_marked c =
-    let looped = c.loop-p in
-    part_fails (mark_told _ _ _ c.is_marked.ensures c.handle.ensures) (ap not c.if-not-is_marked.true) (λ (h : HandlesMarked _ _ _). h.each looped.p c.loop-p-test.true)
-
-pub loop-p-preserved : goal.loop-p-preserved
-loop-p-preserved c = one_passed _ _ _ c.loop-p.invariant (passes (mark_told _ _ _ c.is_marked.ensures c.handle.ensures) (ap not c.if-not-is_marked.false))
-
 pub returns : goal.returns
-returns c = says_yes_lem (record { each = λ p l. c.loop-p.invariant.each p (omega arith) (omega arith) })
+returns c =
+    let marked = λ (p : ℕ). Holds c.args.heads.now (handle_at c.args.items.now p) in
+    decides_map (λ h. record { each = λ p l. h p (omega arith) l }) (λ h p low l. h.each p l)
+    (all_decides marked _ 0 c.args.held
+    (cases_from_all _ _ _ marked (λ p. marked p → ⊥) c.all.ensures.ran (YieldsList-from_range 0 c.args.held _ refl refl)
+    (λ x r k. search (rules, tests, holds_true)) (λ x r k. search (rules, tests, holds_false))))

@@ -1,19 +1,16 @@
-use mathlib.Core.Path.{ap}
-use mathlib.Core.Bool.{not}
-use native.Mathlib.Omega.{arith}
-use Rattle.parse.specs.inner.Parts.{AllFit}
-use Rattle.laws.proofs.Decides.{says_yes_lem, part_fails, passes}
-use Rattle.parse.proofs.Passing.{none_passed, one_passed}
+-- `sets::all_fit` meets its contract.
+use Rattle.std.proofs.Common.{rules, tests, refl, ℕ}
+use Rattle.std.proofs.lemmas.Iterator.{cases_from_all, YieldsList-from_range}
+use Rattle.grammar.specs.inner.Decoded.{rules_of}
+use Rattle.item.specs.Item.{item_at}
+use Rattle.laws.proofs.Decides.{decides_map}
+use Rattle.parse.specs.WellFormed.{Fits}
+use Rattle.parse.proofs.Searching.{all_decides}
 use Rattle.parse.proofs.sets.all_fit.Goals as goal
 
-pub loop-p-init : goal.loop-p-init
-loop-p-init c = none_passed _ _
-
-pub returns-then-not-item_fits : goal.returns-then-not-item_fits
-returns-then-not-item_fits c = part_fails c.item_fits.ensures (ap not c.if-not-item_fits.true) (λ (h : AllFit _ _ _ _ _). h.each _ c.loop-p.invariant.low c.loop-p-test.true)
-
-pub loop-p-preserved : goal.loop-p-preserved
-loop-p-preserved c = one_passed _ _ _ c.loop-p.invariant (passes c.item_fits.ensures (ap not c.if-not-item_fits.false))
-
 pub returns : goal.returns
-returns c = says_yes_lem (record { each = λ p a b. c.loop-p.invariant.each p a (omega arith) })
+returns c =
+    let fits = λ (p : ℕ). Fits (rules_of c.args.rules.now) c.args.k (item_at c.args.items.now p) in
+    decides_map (λ h. record { each = h }) (λ h. h.each)
+    (all_decides fits _ c.args.from c.args.to
+    (cases_from_all _ _ _ fits (λ p. fits p → ⊥) c.all.ensures.ran (YieldsList-from_range c.args.from c.args.to _ refl refl) (λ x r k. search (rules, tests)) (λ x r k. search (rules, tests))))
