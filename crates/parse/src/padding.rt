@@ -91,6 +91,7 @@ pub fn clear<W: Word>(words: &mut [W], from: usize, to: usize)
     requires { (from ≤ length words.old) × (to ≤ length words.old) × Spare W.SPARE words.old to }
     ensures { words.new ≡ topped W.SPARE (length words.old) (take from words.old) }
 {
+    // No fill of a slice: `from` may stand behind `to`, and then nothing is cleared.
     for i in from..to {
         words[i] = W::SPARE;
     }

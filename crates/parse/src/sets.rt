@@ -16,12 +16,7 @@ fn never_falls(starts: &[u32], e: usize) -> bool
     requires { e + 2 ≤ length starts.now }
     ensures { Decides result (NeverFalls starts.now e) }
 {
-    for k in 0..e + 1 {
-        if starts[k] > starts[k + 1] {
-            return false;
-        }
-    }
-    true
+    (0..e + 1).all(|k| starts[k] <= starts[k + 1])
 }
 
 // Whether the starts are those of `state`.
@@ -61,6 +56,7 @@ fn rises(rules: &Rules, items: &[u32], from: usize, to: usize) -> bool
     ensures { (count : ℕ) → Among items.now from to count
         → Decides result (Rises (rules_in rules.now.words count) items.now from to) }
 {
+    // As `all` over the range its proof did not close: the contract speaks of every number of rules.
     for p in from..to.saturating_sub(1) {
         if !precedes(rules, items, p, p + 1) {
             return false;
@@ -84,6 +80,7 @@ pub fn sets_fit(rules: &Rules, e: usize, items: &[u32], starts: &[u32]) -> bool
     ensures { Decides result
         (SetsFit (rules_of rules.now) items.now starts.now e) }
 {
+    // As `all` over the range its proof did not close: what the closure asks of the starts was not found.
     for k in 0..e + 1 {
         if !set_fits(rules, items, k, starts[k] as usize, starts[k + 1] as usize) {
             return false;
