@@ -11,8 +11,8 @@ use Rattle.laws.proofs.Decides.{true_false, false_true, says_no, says-eqb, decid
 use Rattle.demands.specs.Histories.{History}
 use Rattle.agreement.specs.Compared.{Read, Plain}
 use Rattle.agreement.proofs.Agreeing.{engines_agree}
-use Rattle.compare.specs.declared.beginnings.Parting.{Parting}
-use Rattle.compare.specs.declared.beginnings.Parting.TheVariants.{Nowhere}
+use Rattle.std.specs.Prelude.{Option, None}
+use Rattle.compare.specs.declared.beginnings.Engine.{Engine}
 use Rattle.compare.specs.Engines.{Follows, Reads, MainSays}
 use Rattle.compare.specs.Compares.{NoRoom, Compares}
 use Rattle.compare.specs.Text.{Lines}
@@ -55,7 +55,7 @@ not_itself true e = false_true e
 not_itself false e = true_false e
 
 -- The engines part nowhere.
-pub part-nowhere : {file ts : List ℕ} {agreed stopped : ℕ} {parting : Parting} → Compares file ts agreed stopped parting → parting ≡ Nowhere
+pub part-nowhere : {file ts : List ℕ} {agreed stopped : ℕ} {parting : Option Engine} → Compares file ts agreed stopped parting → parting ≡ None
 part-nowhere (Compares.all below whole) = refl
 part-nowhere (Compares.no_room below fits main full) = refl
 part-nowhere (Compares.parting {yes = said} below fits main room plain) = absurd (not_itself said (same_answers main room plain))
@@ -64,10 +64,9 @@ answer-agrees : {file rest text : List ℕ} → Answered file rest text → Agre
 answer-agrees (Answered.refused fault written) = AgreesIn.refused written
 answer-agrees (Answered.too_many checked many written) = AgreesIn.too_many written
 answer-agrees {text = text} (Answered.compared checked few c) =
-    AgreesIn.agreeing (subst (λ (p : Parting). Lines c.agreed c.stopped p text) (part-nowhere c.compares) c.lines)
+    AgreesIn.agreeing (subst (λ (p : Option Engine). Lines c.agreed c.stopped p text) (part-nowhere c.compares) c.lines)
 
 -- So no parting is told.
 pub written-agrees : {bytes rest text : List ℕ} → Written bytes rest text → AgreesIn text
-written-agrees (Written.malformed judged written) = AgreesIn.refused written
-written-agrees (Written.broken judged written) = AgreesIn.refused written
+written-agrees (Written.refused judged written) = AgreesIn.refused written
 written-agrees (Written.answered judged answered) = answer-agrees answered

@@ -1,8 +1,8 @@
 -- The lines on a comparison. A character is its ASCII code.
-use Rattle.std.specs.Prelude.{List, [], ◌∷◌, ◌++◌, ℕ}
+use Rattle.std.specs.Prelude.{List, [], ◌∷◌, ◌++◌, ℕ, Option, Some, None}
 use Rattle.programs.specs.Text.{Line, stopped_head}
-use Rattle.compare.specs.declared.beginnings.Parting.{Parting}
-use Rattle.compare.specs.declared.beginnings.Parting.TheVariants.{Nowhere, MainYes, PlainYes}
+use Rattle.compare.specs.declared.beginnings.Engine.{Engine}
+use Rattle.compare.specs.declared.beginnings.Engine.TheVariants as engine
 
 -- Room for the lines on a parting.
 abbrev pub parting_room : ℕ
@@ -29,13 +29,13 @@ abbrev pub plain_yes_lines : List ℕ
 plain_yes_lines = 109 ∷ 97 ∷ 105 ∷ 110 ∷ 32 ∷ 110 ∷ 111 ∷ 10 ∷ 112 ∷ 108 ∷ 97 ∷ 105 ∷ 110 ∷ 32 ∷ 121 ∷ 101 ∷ 115 ∷ 10 ∷ []
 
 -- A text, and behind it the lines on a parting on the beginning of so many tokens.
-pub data Parts (before : List ℕ) (tokens : ℕ) : Parting → List ℕ → Type 0 where
-  nowhere : Parts before tokens Nowhere (before ++ none_line)
-  main_yes : {behind : List ℕ} → Line before disagreement_head tokens behind → Parts before tokens MainYes (behind ++ main_yes_lines)
-  plain_yes : {behind : List ℕ} → Line before disagreement_head tokens behind → Parts before tokens PlainYes (behind ++ plain_yes_lines)
+pub data Parts (before : List ℕ) (tokens : ℕ) : Option Engine → List ℕ → Type 0 where
+  nowhere : Parts before tokens None (before ++ none_line)
+  main_yes : {behind : List ℕ} → Line before disagreement_head tokens behind → Parts before tokens (Some engine.Main) (behind ++ main_yes_lines)
+  plain_yes : {behind : List ℕ} → Line before disagreement_head tokens behind → Parts before tokens (Some engine.Plain) (behind ++ plain_yes_lines)
 
 -- All lines, one behind the other.
-pub data Lines (agreed stopped : ℕ) (parting : Parting) : List ℕ → Type 0 where
+pub data Lines (agreed stopped : ℕ) (parting : Option Engine) : List ℕ → Type 0 where
   lines :
       {first second whole : List ℕ} → Line [] compared_head agreed first → Line first stopped_head stopped second → Parts second agreed parting whole
       → Lines agreed stopped parting whole

@@ -1,13 +1,13 @@
 -- What is written of the bytes that came for a grammar and of those behind it.
-use Rattle.std.specs.Prelude.{List, [], ℕ, ◌≤◌, ◌<◌, length, take}
+use Rattle.std.specs.Prelude.{List, [], ℕ, ◌≤◌, ◌<◌, length, take, Option, None, Ok, Err}
+use Rattle.grammar.specs.declared.Fault.{Fault}
+use Rattle.grammar.specs.Answers.{fault_number}
 use Rattle.grammar.specs.File.{grammar_of}
 use Rattle.demands.specs.Calls.{FileFault, Checked}
-use Rattle.programs.specs.declared.header.Header.TheVariants.{Malformed, Broken, Length}
 use Rattle.programs.specs.Header.{Judged}
 use Rattle.programs.specs.Tokens.{tokens_of}
 use Rattle.programs.specs.Text.{grammar_head, Line}
-use Rattle.compare.specs.declared.beginnings.Parting.{Parting}
-use Rattle.compare.specs.declared.beginnings.Parting.TheVariants.{Nowhere}
+use Rattle.compare.specs.declared.beginnings.Engine.{Engine}
 use Rattle.compare.specs.Compares.{Compares}
 use Rattle.compare.specs.Text.{tokens_head, Lines}
 
@@ -19,7 +19,7 @@ token_bytes = 64
 pub record ComparesBytes (file rest text : List ℕ) : Type 0 where
   pub agreed : ℕ
   pub stopped : ℕ
-  pub parting : Parting
+  pub parting : Option Engine
   pub compares : Compares file (tokens_of rest) agreed stopped parting
   pub lines : Lines agreed stopped parting text
 
@@ -32,16 +32,15 @@ pub data Answered (file rest text : List ℕ) : Type 0 where
 -- How many bytes are read behind the grammar: none where it is refused for the bytes that came.
 pub data ReadBehind (bytes : List ℕ) : ℕ → Type 0 where
   none : ReadBehind bytes 0
-  some : {l count : ℕ} → Judged bytes (Length l) → ReadBehind bytes count
+  some : {l count : ℕ} → Judged bytes (Ok l) → ReadBehind bytes count
 
 -- All that is ever written: the line on a grammar that is refused for the bytes that came, or what is answered for the L bytes of the file.
 pub data Written (bytes rest text : List ℕ) : Type 0 where
-  malformed : Judged bytes Malformed → Line [] grammar_head 1 text → Written bytes rest text
-  broken : Judged bytes Broken → Line [] grammar_head 2 text → Written bytes rest text
-  answered : {l : ℕ} → Judged bytes (Length l) → Answered (take l bytes) rest text → Written bytes rest text
+  refused : {why : Fault} → Judged bytes (Err why) → Line [] grammar_head (fault_number why) text → Written bytes rest text
+  answered : {l : ℕ} → Judged bytes (Ok l) → Answered (take l bytes) rest text → Written bytes rest text
 
 -- It never tells a parting: it is a refusal's line, or the lines that end in "disagreement none".
 pub data AgreesIn (text : List ℕ) : Type 0 where
   refused : {number : ℕ} → Line [] grammar_head number text → AgreesIn text
   too_many : Line [] tokens_head 22 text → AgreesIn text
-  agreeing : {agreed stopped : ℕ} → Lines agreed stopped Nowhere text → AgreesIn text
+  agreeing : {agreed stopped : ℕ} → Lines agreed stopped None text → AgreesIn text

@@ -15,11 +15,11 @@ ghost use Rattle.compare.specs.Writes.{token_bytes, ComparesBytes, Answered, Rea
 
 use beginnings::compare;
 use engines::TOKENS;
-use grammar::Checked;
-use programs::header::{Header, LONGEST, judged, read_grammar};
+use programs::header::{LONGEST, judged, read_grammar};
 use programs::reading::read_full;
 use programs::text::{ROOM, refusal};
 use programs::tokens::decode;
+use recognizer::Refusal;
 use std::io::Read;
 
 // One byte more than the most tokens have, so that more are seen.
@@ -31,9 +31,8 @@ fn read_tokens<R: Read>(from: &mut R, bytes: &[u8], rest: &mut [u8]) -> usize
     ensures far { ReadBehind bytes.now result }
 {
     match judged(bytes) {
-        Header::Malformed => 0,
-        Header::Broken => 0,
-        Header::Length(_) => read_full(from, rest),
+        Ok(_) => read_full(from, rest),
+        Err(_) => 0,
     }
 }
 
@@ -54,10 +53,8 @@ fn check_and_compare(file: &[u8], rest: &[u8], out: &mut [u8]) -> usize
     ensures place { IsPrefixLen result out.new }
     ensures text { Answered file.now rest.now (take result out.new) }
 {
-    match grammar::check(file) {
-        Checked::Malformed => return refusal(out, 1),
-        Checked::Broken => return refusal(out, 2),
-        Checked::Accepted => {}
+    if let Err(fault) = grammar::check(file) {
+        return refusal(out, Refusal::from(fault).number() as usize);
     }
     if 2 * TOKENS < rest.len() {
         return text::too_many(out);
@@ -73,9 +70,8 @@ fn answer(bytes: &[u8], rest: &[u8], out: &mut [u8]) -> usize
     ensures agreement { AgreesIn (take result out.new) }
 {
     match judged(bytes) {
-        Header::Malformed => refusal(out, 1),
-        Header::Broken => refusal(out, 2),
-        Header::Length(length) => check_and_compare(&bytes[..length], rest, out),
+        Ok(length) => check_and_compare(&bytes[..length], rest, out),
+        Err(fault) => refusal(out, Refusal::from(fault).number() as usize),
     }
 }
 

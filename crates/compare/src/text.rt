@@ -2,11 +2,11 @@
 ghost use Rattle.std.specs.Prelude.{[], ◌+◌, ◌≤◌, length, take};
 ghost use Rattle.io.specs.Counts.{IsPrefixLen};
 ghost use Rattle.programs.specs.Text.{Line, text_room};
+ghost use Rattle.recognizer.specs.Answers.{stop_number};
 ghost use Rattle.compare.specs.Text.{tokens_head, parting_room, Parts, Lines};
 
-use crate::beginnings::{Compared, Parting};
+use crate::beginnings::{Compared, Engine};
 use programs::text::{STOPPED, put, put_line};
-use programs::wide;
 
 // The heads of the lines.
 const COMPARED: [u8; 9] = *b"compared ";
@@ -22,22 +22,19 @@ const MAIN_YES: [u8; 18] = *b"main yes\nplain no\n";
 
 const PLAIN_YES: [u8; 18] = *b"main no\nplain yes\n";
 
-// The lines on a parting, on the beginning of so many tokens.
-fn put_parting(out: &mut [u8], at: usize, tokens: usize, parting: Parting) -> usize
+// The lines on the engine that says yes where they part, on the beginning of so many tokens.
+fn put_parting(out: &mut [u8], at: usize, tokens: usize, parting: Option<Engine>) -> usize
     requires { at + parting_room ≤ length out.old }
     ensures place { result ≤ at + parting_room }
     ensures text { Parts (take at out.old) tokens parting (take result out.new) }
 {
-    match parting {
-        Parting::Nowhere => put(out, at, &NONE),
-        Parting::MainYes => {
-            let behind = put_line(out, at, &DISAGREEMENT, tokens);
-            put(out, behind, &MAIN_YES)
-        }
-        Parting::PlainYes => {
-            let behind = put_line(out, at, &DISAGREEMENT, tokens);
-            put(out, behind, &PLAIN_YES)
-        }
+    let Some(engine) = parting else {
+        return put(out, at, &NONE);
+    };
+    let behind = put_line(out, at, &DISAGREEMENT, tokens);
+    match engine {
+        Engine::Main => put(out, behind, &MAIN_YES),
+        Engine::Plain => put(out, behind, &PLAIN_YES),
     }
 }
 
@@ -45,12 +42,12 @@ fn put_parting(out: &mut [u8], at: usize, tokens: usize, parting: Parting) -> us
 pub fn report(out: &mut [u8], compared: Compared) -> usize
     requires { text_room ≤ length out.old }
     ensures place { IsPrefixLen result out.new }
-    ensures text { Lines compared.agreed compared.stopped compared.parting (take result out.new) }
+    ensures text { Lines compared.agreed (stop_number compared.stopped) compared.parting (take result out.new) }
 {
+    let stopped = compared.stopped.map_or(0, |why| why.number() as usize);
     let first = put_line(out, 0, &COMPARED, compared.agreed);
-    let second = put_line(out, first, &STOPPED, wide(compared.stopped));
-    let parting = compared.parting;
-    put_parting(out, second, compared.agreed, parting)
+    let second = put_line(out, first, &STOPPED, stopped);
+    put_parting(out, second, compared.agreed, compared.parting)
 }
 
 // The line on too many tokens.

@@ -21,7 +21,6 @@ use Rattle.demands.proofs.Singles.{call_some}
 use Rattle.demands.proofs.Ways.{is_no_token}
 use Rattle.programs.specs.Tokens.{foreign, tokens_of}
 use Rattle.driver.specs.Parts.{part_bytes, part_tokens}
-use Rattle.driver.specs.Writes.{RunsPart}
 use Rattle.programs.proofs.Decoding.{halves}
 
 -- One position more, or a refusal, is at most one more taken.
@@ -111,10 +110,6 @@ runs_lone bytes faultless (done ready) lone = (ready_whole bytes ready).five lon
 pub runs_same :
     {file : List ℕ} {s : State} {w : Words} {e : Ended} (ts part : List ℕ) → ts ≡ part → Runs file s w (plain ts) e → Runs file s w (plain part) e
 runs_same {file} {s} {w} {e} ts part same r = subst (λ (l : List ℕ). Runs file s w (plain l) e) same r
-
--- A run over a part.
-pub runs-part : {file : List ℕ} {s : State} {w : Words} {e : Ended} (part : List ℕ) → Runs file s w (plain (tokens_of part)) e → length part ≤ part_bytes → RunsPart file s w e
-runs-part part runs few = record { part = part; few = few; runs = runs }
 
 -- It takes no more tokens than a part has.
 pub part-few : {file : List ℕ} {s : State} {w : Words} {e : Ended} (part : List ℕ) → Runs file s w (plain (tokens_of part)) e → length part ≤ part_bytes → e.taken ≤ part_tokens

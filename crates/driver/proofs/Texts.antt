@@ -1,15 +1,11 @@
 -- The driver's lines, one behind the other.
-use mathlib.Core.Path.{◌≡◌, sym, ap, subst, ◌∙◌}
+use mathlib.Core.Path.{◌≡◌, subst}
 use mathlib.Core.Bool.{Bool}
 use mathlib.Core.List.{List, [], ◌++◌}
 use Prim.Native.Nat.{ℕ}
 use Rattle.programs.specs.Text.{Line, stopped_head}
 use Rattle.driver.specs.Text.{Report, read_head, set_head, finished_line}
 use Rattle.driver.specs.Text.Report.{lines}
-
--- A text ends with the line on a sentence that a test chose.
-pub ends_with : (before text : List ℕ) (yes chosen : Bool) → yes ≡ chosen → text ≡ before ++ finished_line chosen → text ≡ before ++ finished_line yes
-ends_with before text whether chosen is ends = ends ∙ ap (λ (b : Bool). before ++ finished_line b) (sym is)
 
 -- Four lines one behind the other are a report.
 pub a_report :

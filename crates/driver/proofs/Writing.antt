@@ -1,44 +1,43 @@
 -- What the driver writes, put together from what its calls answer.
-use mathlib.Core.Path.{◌≡◌, refl, subst}
+use mathlib.Core.Path.{◌≡◌, refl, ap, subst, ◌∙◌}
 use mathlib.Core.Bool.{Bool}
 use mathlib.Core.List.{List, []}
 use Prim.Native.Nat.{ℕ}
 use Rattle.parse.specs.declared.State.{State}
 use Rattle.parse.specs.Words.{Words}
-use Rattle.recognizer.specs.declared.Answer.{Answer}
-use Rattle.recognizer.specs.declared.Answer.TheVariants.{Done, Refused}
 use Rattle.recognizer.specs.declared.Refusal.{Refusal}
 use Rattle.recognizer.specs.declared.Ran.{Ran}
-use Rattle.recognizer.specs.declared.Whether.{Whether}
-use Rattle.recognizer.specs.Answers.{refusal_number, number_of, state_of, outcome_of, ended_of, finished_number, says_yes, says_handle}
-use Rattle.demands.specs.Calls.{Starts, Finishes}
-use Rattle.recognizer.proofs.Turning.{number-some}
+use Rattle.std.specs.Prelude.{Err}
+use Rattle.grammar.specs.declared.Fault.{Fault}
+use Rattle.grammar.specs.declared.Fault.TheVariants.{Malformed, Broken}
+use Rattle.grammar.specs.Answers.{fault_number}
+use Rattle.recognizer.specs.Answers.{fault_refusal, refusal_number, stop_number, outcome_of, ended_of}
+use Rattle.demands.specs.Calls.{Starts}
+use Rattle.recognizer.proofs.Answered.{number-some}
 use Rattle.programs.specs.Text.{grammar_head, Line}
 use Rattle.driver.specs.Text.{Report}
 use Rattle.driver.specs.Writes.{RunsOver, SaysFinished, Followed, Recognized}
 
--- What finished says, once its case is known.
-pub says_by : {file : List ℕ} {s : State} {w : Words} {r c : Whether} → Finishes file s w (finished_number r) (says_yes r) (says_handle r) → r ≡ c → SaysFinished file s w (says_yes c)
-says_by {file} {s} {w} {r} finishes is = subst (λ (x : Whether). SaysFinished file s w (says_yes x)) is (record { number = finished_number r; handle = says_handle r; finishes = finishes })
-
 module _ {file : List ℕ} {s : State} {w v : Words} where
   -- The lines on a run.
-  pub followed : (r : Ran) {end : State} {number : ℕ} {yes : Bool} {text : List ℕ} → RunsOver file s w (ended_of r v) → end ≡ state_of r.answer → SaysFinished file end v yes
-      → number ≡ number_of r.answer → Report r.taken number yes end.set text → Followed file s w text
-  followed r {end} {number} {yes} {text} read is says same lines = record {
+  pub followed : (r : Ran) {number : ℕ} {yes : Bool} {text : List ℕ} → RunsOver file s w (ended_of r v) → SaysFinished file r.state v yes
+      → number ≡ stop_number r.stopped → Report r.taken number yes r.state.set text → Followed file s w text
+  followed r {number} {yes} {text} read says same text-is = record {
     ended = ended_of r v;
     read = read;
     yes = yes;
-    says = subst (λ (x : State). SaysFinished file x v yes) is says;
-    lines = subst (λ (n : ℕ). Report r.taken n yes (state_of r.answer).set text) same (subst (λ (x : State). Report r.taken number yes x.set text) is lines);
+    says = says;
+    lines = subst (λ (n : ℕ). Report r.taken n yes r.state.set text) same text-is;
   }
 
-  -- The lines of a parse that was started, ..
-  pub started-lines : {a : Answer} {now : State} {text : List ℕ} → Starts file s w (outcome_of a v) → a ≡ Done now → Followed file now v text → Recognized file w text
-  started-lines {text = text} starts is lines = Recognized.followed (subst (λ (x : Answer). Starts file s w (outcome_of x v)) is starts) refl lines
+  -- The line on a parse that was not started.
+  pub refused-line : (why : Refusal) {n : ℕ} {text : List ℕ} → Starts file s w (outcome_of s (Err why) v) → n ≡ refusal_number why → Line [] grammar_head n text → Recognized file w text
+  refused-line why {text = text} starts same put = Recognized.refused starts (number-some why) (subst (λ (k : ℕ). Line [] grammar_head k text) same put)
 
-  -- .. and of one that was not.
-  pub refused-line : {a : Answer} {why : Refusal} {old : State} {n : ℕ} {text : List ℕ} → Starts file s w (outcome_of a v) → a ≡ Refused why old → n ≡ refusal_number why
-      → Line [] grammar_head n text → Recognized file w text
-  refused-line {why = why} {text = text} starts is same line =
-      Recognized.refused (subst (λ (x : Answer). Starts file s w (outcome_of x v)) is starts) (number-some why) (subst (λ (k : ℕ). Line [] grammar_head k text) same line)
+-- The line on a file that is no grammar.
+fault-number : (fault : Fault) → refusal_number (fault_refusal fault) ≡ fault_number fault
+fault-number Malformed = refl
+fault-number Broken = refl
+
+pub fault-line : (fault : Fault) {why : Refusal} {n : ℕ} {text : List ℕ} → why ≡ fault_refusal fault → n ≡ refusal_number why → Line [] grammar_head n text → Line [] grammar_head (fault_number fault) text
+fault-line fault {text = text} is same put = subst (λ (k : ℕ). Line [] grammar_head k text) (same ∙ ap refusal_number is ∙ fault-number fault) put

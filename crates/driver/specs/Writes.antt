@@ -1,12 +1,13 @@
 -- What the driver writes of the bytes that came for a grammar. What it reads behind them is whatever the system gave it: some list of bytes.
-use Rattle.std.specs.Prelude.{◌≡◌, Bool, List, [], ℕ, ◌≤◌, length, take}
+use Rattle.std.specs.Prelude.{◌≡◌, Bool, List, [], ℕ, ◌≤◌, length, take, Ok, Err}
+use Rattle.grammar.specs.declared.Fault.{Fault}
+use Rattle.grammar.specs.Answers.{fault_number}
 use Rattle.node.specs.Writing.{usable_units}
 use Rattle.parse.specs.declared.State.{State}
 use Rattle.parse.specs.Words.{Words, max_items, max_queued, item_room, set_room, queue_room, store_room}
 use Rattle.demands.specs.Steps.{Outcome, Ended}
 use Rattle.earley.specs.Positions.{plain}
 use Rattle.demands.specs.Calls.{Starts, Runs, Finishes}
-use Rattle.programs.specs.declared.header.Header.TheVariants.{Malformed, Broken, Length}
 use Rattle.programs.specs.Header.{Judged}
 use Rattle.programs.specs.Tokens.{tokens_of}
 use Rattle.programs.specs.Text.{grammar_head, Line}
@@ -59,6 +60,5 @@ pub record Answered (file text : List ℕ) : Type 0 where
 
 -- All that is ever written: the line on a grammar that is refused for the bytes that came, or what is answered for the L bytes of the file.
 pub data Written (bytes text : List ℕ) : Type 0 where
-  malformed : Judged bytes Malformed → Line [] grammar_head 1 text → Written bytes text
-  broken : Judged bytes Broken → Line [] grammar_head 2 text → Written bytes text
-  answered : {l : ℕ} → Judged bytes (Length l) → Answered (take l bytes) text → Written bytes text
+  refused : {why : Fault} → Judged bytes (Err why) → Line [] grammar_head (fault_number why) text → Written bytes text
+  answered : {l : ℕ} → Judged bytes (Ok l) → Answered (take l bytes) text → Written bytes text

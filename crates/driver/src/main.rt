@@ -4,17 +4,16 @@
 mod text;
 mod tokens;
 
-ghost use Rattle.std.specs.Prelude.{◌≤◌, length as length_of, take};
+ghost use Rattle.std.specs.Prelude.{◌≡◌, ◌≤◌, length as length_of, take};
 ghost use Rattle.io.specs.Counts.{IsPrefixLen};
-ghost use Rattle.parse.specs.Words.{words_of};
+ghost use Rattle.parse.specs.Words.{words_in, seen, Kept};
 ghost use Rattle.programs.specs.Text.{text_room};
 ghost use Rattle.driver.specs.Writes.{SaysFinished, Followed, Recognized, Answered, Written};
 
-use parse::State;
-use programs::header::{Header, LONGEST, judged, read_grammar};
+use parse::{State, View, Words};
+use programs::header::{LONGEST, judged, read_grammar};
 use programs::text::{ROOM, refusal};
-use programs::wide;
-use recognizer::{Answer, Whether, number_of, refusal_number, state_of};
+use recognizer::Refusal;
 use std::io::Read;
 use tokens::read_tokens;
 
@@ -33,23 +32,10 @@ const QUEUE: usize = binary_heap::entry::ENTRY_WORDS * parse::room::QUEUED;
 const STORE: usize = parse::room::UNITS;
 
 // Whether a parse is finished. A refused report says no.
-fn is_finished(
-    file: &[u8],
-    state: State,
-    items: &[u32],
-    starts: &[u32],
-    rows: &[u64],
-    queue: &[u32],
-    store: &[u16],
-) -> bool
-    ensures { SaysFinished file.now state
-        (words_of items.now starts.now rows.now queue.now store.now) result }
+fn is_finished(file: &[u8], state: State, view: &View<'_>) -> bool
+    ensures { SaysFinished file.now state (seen view.now) result }
 {
-    match recognizer::finished(file, state, items, starts, rows, queue, store) {
-        Whether::Yes(_) => true,
-        Whether::No => false,
-        Whether::Refused(_) => false,
-    }
+    matches!(recognizer::finished(file, state, view), Ok(Some(_)))
 }
 
 // Reads the tokens of a parse and writes the lines on what came of them; answers how long they are.
@@ -57,51 +43,35 @@ fn follow<R: Read>(
     from: &mut R,
     file: &[u8],
     state: State,
-    items: &mut [u32],
-    starts: &mut [u32],
-    rows: &mut [u64],
-    queue: &mut [u32],
-    store: &mut [u16],
+    words: &mut Words<'_>,
     out: &mut [u8],
 ) -> usize
     requires { text_room ≤ length_of out.old }
     ensures place { IsPrefixLen result out.new }
-    ensures text { Followed file.now state
-        (words_of items.old starts.old rows.old queue.old store.old)
-        (take result out.new) }
+    ensures text { Followed file.now state (words_in words.old) (take result out.new) }
+    ensures kept { Kept words.old words.new }
 {
-    let ran = read_tokens(from, file, state, items, starts, rows, queue, store);
-    let answer = ran.answer;
-    let end = state_of(answer);
-    let yes = is_finished(file, end, items, starts, rows, queue, store);
-    text::report(out, ran.taken, wide(number_of(answer)), yes, end.set)
+    let ran = read_tokens(from, file, state, words);
+    let yes = is_finished(file, ran.state, &words.view());
+    let stopped = ran.stopped.map_or(0, |why| why.number() as usize);
+    text::report(out, ran.taken, stopped, yes, ran.state.set)
 }
 
 // Starts a parse and follows it; answers how long the lines are.
-fn recognize<R: Read>(
-    from: &mut R,
-    file: &[u8],
-    items: &mut [u32],
-    starts: &mut [u32],
-    rows: &mut [u64],
-    queue: &mut [u32],
-    store: &mut [u16],
-    out: &mut [u8],
-) -> usize
+fn recognize<R: Read>(from: &mut R, file: &[u8], words: &mut Words<'_>, out: &mut [u8]) -> usize
     requires { text_room ≤ length_of out.old }
     ensures place { IsPrefixLen result out.new }
-    ensures text { Recognized file.now
-        (words_of items.old starts.old rows.old queue.old store.old)
-        (take result out.new) }
+    ensures text { Recognized file.now (words_in words.old) (take result out.new) }
+    ensures kept { Kept words.old words.new }
 {
     let fresh = State {
         set: 0,
         items: 0,
         used: 0,
     };
-    match recognizer::start(file, fresh, items, starts, rows, queue, store) {
-        Answer::Done(state) => follow(from, file, state, items, starts, rows, queue, store, out),
-        Answer::Refused(why, _) => refusal(out, wide(refusal_number(why))),
+    match recognizer::start(file, fresh, words) {
+        Ok(state) => follow(from, file, state, words, out),
+        Err(why) => refusal(out, why.number() as usize),
     }
 }
 
@@ -116,16 +86,14 @@ fn recognize_whole<R: Read>(from: &mut R, file: &[u8], out: &mut [u8]) -> usize
     let mut rows = [0u64; ROWS];
     let mut queue = [0u32; QUEUE];
     let mut store = [0u16; STORE];
-    recognize(
-        from,
-        file,
-        &mut items,
-        &mut starts,
-        &mut rows,
-        &mut queue,
-        &mut store,
-        out,
-    )
+    let mut words = Words {
+        items: &mut items,
+        starts: &mut starts,
+        rows: &mut rows,
+        queue: &mut queue,
+        store: &mut store,
+    };
+    recognize(from, file, &mut words, out)
 }
 
 // Writes what comes of the grammar in the bytes that came, and of the tokens behind it; answers how long that is.
@@ -135,9 +103,8 @@ fn answer<R: Read>(from: &mut R, bytes: &[u8], out: &mut [u8]) -> usize
     ensures text { Written bytes.now (take result out.new) }
 {
     match judged(bytes) {
-        Header::Malformed => refusal(out, 1),
-        Header::Broken => refusal(out, 2),
-        Header::Length(length) => recognize_whole(from, &bytes[..length], out),
+        Ok(length) => recognize_whole(from, &bytes[..length], out),
+        Err(fault) => refusal(out, Refusal::from(fault).number() as usize),
     }
 }
 

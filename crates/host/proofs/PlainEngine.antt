@@ -8,48 +8,48 @@ use native.Mathlib.Omega.{arith}
 use Rattle.laws.proofs.Decides.{false_true}
 use Rattle.grammar.specs.Sentences.{Sentence}
 use Rattle.grammar.specs.File.{grammar_of}
-use Rattle.plain.specs.declared.Refusal.TheVariants.{Malformed, Broken, NoToken, TooMany}
+use Rattle.std.specs.Prelude.{Bool, true, false, Result, Ok, Err}
+use Rattle.laws.specs.Counts.{once}
+use Rattle.plain.specs.declared.Refusal.{Refusal}
+use Rattle.plain.specs.declared.Refusal.TheVariants.{Malformed, Broken, NoToken, TooMany, TooShort}
 use Rattle.plain.specs.declared.Told.{Told}
-use Rattle.plain.specs.declared.Told.TheVariants.{Yes, No, TooShort, Refused}
 use Rattle.plain.specs.Calls.{Tables, Tells}
-use Rattle.plain.specs.Answers.{told_number, told_count, says_yes}
+use Rattle.plain.specs.Answers.{refusal_number, told_number, told_count, says_yes}
 use Rattle.plain.proofs.Telling.{tables_agree}
 use Rattle.host.specs.PlainEngine.{yes_or, PlainIn}
 
+-- A refusal has a number.
+refused-some : (why : Refusal) → refusal_number why ≡ 0 → ⊥
+refused-some Malformed e = omega (arith, e)
+refused-some Broken e = omega (arith, e)
+refused-some NoToken e = omega (arith, e)
+refused-some TooMany e = omega (arith, e)
+refused-some (TooShort words) e = omega (arith, e)
+
 -- The word of each case: a yes or a no, which tells of sentences what the engine does; or the word as it was.
 module _ (word : ℕ) where
-  word-bit : (r : Told) → told_number r ≡ 0 → yes_or word r ≤ 1
-  word-bit (Yes words) zero = omega arith
-  word-bit (No words) zero = omega arith
-  word-bit (TooShort words) zero = absurd (omega (arith, zero))
-  word-bit (Refused Malformed) zero = absurd (omega (arith, zero))
-  word-bit (Refused Broken) zero = absurd (omega (arith, zero))
-  word-bit (Refused NoToken) zero = absurd (omega (arith, zero))
-  word-bit (Refused TooMany) zero = absurd (omega (arith, zero))
+  word-bit : (r : Result Told Refusal) → told_number r ≡ 0 → yes_or word r ≤ 1
+  word-bit (Ok told) zero = bit told.yes
+    where
+      bit : (b : Bool) → once b ≤ 1
+      bit true = omega arith
+      bit false = omega arith
+  word-bit (Err why) zero = absurd (refused-some why zero)
 
-  word-tells : (file ts : List ℕ) (r : Told) → Tells (grammar_of file) ts (told_number r) (says_yes r) → told_number r ≡ 0 → (yes_or word r ≡ 1) ↔ Sentence (grammar_of file) ts
-  word-tells file ts (Yes words) t zero = ((λ e. (t.sentence zero).0 refl), (λ d. refl))
-  word-tells file ts (No words) t zero = ((λ e. absurd (omega (arith, e))), (λ d. absurd (false_true ((t.sentence zero).1 d))))
-  word-tells file ts (TooShort words) t zero = absurd (omega (arith, zero))
-  word-tells file ts (Refused Malformed) t zero = absurd (omega (arith, zero))
-  word-tells file ts (Refused Broken) t zero = absurd (omega (arith, zero))
-  word-tells file ts (Refused NoToken) t zero = absurd (omega (arith, zero))
-  word-tells file ts (Refused TooMany) t zero = absurd (omega (arith, zero))
+  word-tells : (file ts : List ℕ) (r : Result Told Refusal) → Tells (grammar_of file) ts (told_number r) (says_yes r) → told_number r ≡ 0 → (yes_or word r ≡ 1) ↔ Sentence (grammar_of file) ts
+  word-tells file ts (Ok told) t zero = by told.yes (t.sentence zero)
+    where
+      by : (b : Bool) → (b ≡ true) ↔ Sentence (grammar_of file) ts → (once b ≡ 1) ↔ Sentence (grammar_of file) ts
+      by true s = ((λ e. s.0 refl), (λ d. refl))
+      by false s = ((λ e. absurd (omega (arith, e))), (λ d. absurd (false_true (s.1 d))))
+  word-tells file ts (Err why) t zero = absurd (refused-some why zero)
 
-  word_kept : (r : Told) → (told_number r ≡ 0 → ⊥) → yes_or word r ≡ word
-  word_kept (Yes words) some = absurd (some refl)
-  word_kept (No words) some = absurd (some refl)
-  word_kept (TooShort words) some = refl
-  word_kept (Refused why) some = refl
-
--- What the words hold, once the case is known.
-pub case_known : (word : ℕ) {r known : Told} {number yes count : ℕ} → r ≡ known → (number ≡ told_number known) × ((yes ≡ yes_or word known) × (count ≡ told_count known))
-    → (number ≡ told_number r) × ((yes ≡ yes_or word r) × (count ≡ told_count r))
-case_known word {number = number} {yes = yes-word} {count = count} is told =
-    subst (λ (c : Told). (number ≡ told_number c) × ((yes-word ≡ yes_or word c) × (count ≡ told_count c))) (sym is) told
+  word_kept : (r : Result Told Refusal) → (told_number r ≡ 0 → ⊥) → yes_or word r ≡ word
+  word_kept (Ok told) some = absurd (some refl)
+  word_kept (Err why) some = refl
 
 -- The answer in the host's words is that answer.
-pub plain_told : {file ts before after : List ℕ} {word number yes count : ℕ} (r : Told) → Tables file ts before (told_number r) (told_count r) after
+pub plain_told : {file ts before after : List ℕ} {word number yes count : ℕ} (r : Result Told Refusal) → Tables file ts before (told_number r) (told_count r) after
     → Tells (grammar_of file) ts (told_number r) (says_yes r) → number ≡ told_number r → yes ≡ yes_or word r → count ≡ told_count r
     → PlainIn file ts before after word number yes count
 plain_told {file} {ts} {before} {after} {word} r tables tells n y c = record {

@@ -11,11 +11,6 @@ pub data FinishesIn (file : List ℕ) (s : State) (w : Words) : ℕ → ℕ → 
   yes : {n handle : ℕ} → Finishes file s w n true handle → FinishesIn file s w n 1 handle
   no : {n handle : ℕ} → Finishes file s w n false handle → FinishesIn file s w n 0 handle
 
--- The word of an answer.
-unfoldable pub yes_word : Bool → ℕ
-yes_word true = 1
-yes_word false = 0
-
 -- What the word says.
 abbrev pub says_in : ℕ → Bool
 says_in word = eqb word 1

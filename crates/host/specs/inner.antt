@@ -1,3 +1,2 @@
--- What only inner contracts cite: the place of the latest set, and records out of plain words.
-pub mod Parts
+-- What only inner contracts cite: records out of plain words.
 pub mod Records

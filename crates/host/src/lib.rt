@@ -28,12 +28,13 @@ mod records;
 mod translating;
 
 use crate::nodes::{node_of, numbers_of};
-use crate::parse_words::{first_word, narrow, tell, tell_count, tell_whether};
+use crate::parse_words::{narrow, state, tell, tell_count, tell_run, tell_whether};
 use crate::records::{SET_WORDS, fill, prepare};
 use crate::translating::tell_translated;
-use grammar::Checked;
+use item::ITEM_WORDS;
 use node::{NoNode, Unwritten};
-use parse::State;
+use parse::{View, Words};
+use recognizer::Refusal;
 use reports::Record;
 
 // Checks a grammar file.
@@ -41,9 +42,8 @@ pub fn brinesaddle_check(file: &[u8]) -> u32
     ensures { Verdict file.now result }
 {
     match grammar::check(file) {
-        Checked::Accepted => 0,
-        Checked::Malformed => 1,
-        Checked::Broken => 2,
+        Ok(()) => 0,
+        Err(fault) => Refusal::from(fault).number(),
     }
 }
 
@@ -64,12 +64,14 @@ pub fn brinesaddle_start(
         (outcome_in result set.new held.new used.new
         (words_of items.new starts.new rows.new queue.new store.new)) }
 {
-    let state = State {
-        set: *set,
-        items: *held,
-        used: *used,
+    let mut words = Words {
+        items,
+        starts,
+        rows,
+        queue,
+        store,
     };
-    let answer = recognizer::start(file, state, items, starts, rows, queue, store);
+    let answer = recognizer::start(file, state(*set, *held, *used), &mut words);
     tell(answer, set, held, used)
 }
 
@@ -93,12 +95,14 @@ pub fn brinesaddle_token(
     ensures sentences { PositionTells file.now (state_in set.old held.old used.old)
         (words_of items.old starts.old rows.old queue.old store.old) (t ∷ []) result }
 {
-    let state = State {
-        set: *set,
-        items: *held,
-        used: *used,
+    let mut words = Words {
+        items,
+        starts,
+        rows,
+        queue,
+        store,
     };
-    let answer = recognizer::token(file, state, items, starts, rows, queue, store, narrow(t));
+    let answer = recognizer::token(file, state(*set, *held, *used), &mut words, narrow(t));
     tell(answer, set, held, used)
 }
 
@@ -129,15 +133,15 @@ pub fn brinesaddle_run(
         (words_of items.new starts.new rows.new queue.new store.new)
         taken.new) }
 {
-    let state = State {
-        set: *set,
-        items: *held,
-        used: *used,
+    let mut words = Words {
+        items,
+        starts,
+        rows,
+        queue,
+        store,
     };
-    let ran = recognizer::run(file, state, items, starts, rows, queue, store, tokens);
-    *taken = ran.taken;
-    let answer = ran.answer;
-    tell(answer, set, held, used)
+    let ran = recognizer::run(file, state(*set, *held, *used), &mut words, tokens);
+    tell_run(ran, set, held, used, taken)
 }
 
 // Reads one position, of one kind of token or of several, strictly rising.
@@ -162,12 +166,14 @@ pub fn brinesaddle_kinds(
         (words_of items.old starts.old rows.old queue.old store.old)
         kinds.now result }
 {
-    let state = State {
-        set: *set,
-        items: *held,
-        used: *used,
+    let mut words = Words {
+        items,
+        starts,
+        rows,
+        queue,
+        store,
     };
-    let answer = recognizer::kinds(file, state, items, starts, rows, queue, store, kinds);
+    let answer = recognizer::kinds(file, state(*set, *held, *used), &mut words, kinds);
     tell(answer, set, held, used)
 }
 
@@ -198,15 +204,15 @@ pub fn brinesaddle_run_kinds(
         (words_of items.new starts.new rows.new queue.new store.new)
         taken.new) }
 {
-    let state = State {
-        set: *set,
-        items: *held,
-        used: *used,
+    let mut words = Words {
+        items,
+        starts,
+        rows,
+        queue,
+        store,
     };
-    let ran = recognizer::run_kinds(file, state, items, starts, rows, queue, store, positions);
-    *taken = ran.taken;
-    let answer = ran.answer;
-    tell(answer, set, held, used)
+    let ran = recognizer::run_kinds(file, state(*set, *held, *used), &mut words, positions);
+    tell_run(ran, set, held, used, taken)
 }
 
 // Whether the positions so far spell a sentence: 1 or 0 in `yes`, and the start symbol's node in `handle`, all ones where it is 0.
@@ -230,12 +236,14 @@ pub fn brinesaddle_finished(
         (words_of items.now starts.now rows.now queue.now store.now) result
         (says_in yes.new) }
 {
-    let state = State {
-        set,
-        items: held,
-        used,
+    let view = View {
+        items,
+        starts,
+        rows,
+        queue,
+        store,
     };
-    let whether = recognizer::finished(file, state, items, starts, rows, queue, store);
+    let whether = recognizer::finished(file, state(set, held, used), &view);
     tell_whether(whether, yes, handle)
 }
 
@@ -257,17 +265,25 @@ pub fn brinesaddle_latest_set(
         (words_of items.now starts.now rows.now queue.now store.now) result
         first.new count.new }
 {
-    let state = State {
-        set,
-        items: held,
-        used,
+    let view = View {
+        items,
+        starts,
+        rows,
+        queue,
+        store,
     };
-    let mut number = 0;
-    let part = recognizer::latest_set(file, state, items, starts, rows, queue, store, &mut number);
-    let words = part.len();
-    *count = words;
-    *first = first_word(number, held, words);
-    number
+    match recognizer::latest_set(file, state(set, held, used), &view) {
+        Ok(part) => {
+            *count = part.len();
+            *first = ITEM_WORDS * held - part.len();
+            0
+        }
+        Err(why) => {
+            *count = 0;
+            *first = 0;
+            why.number()
+        }
+    }
 }
 
 // What could stand next: the ordinary tokens that the latest row holds, rising.
@@ -291,12 +307,14 @@ pub fn brinesaddle_expected(
         (words_of items.now starts.now rows.now queue.now store.now) result
         (take count.new tokens.new) }
 {
-    let state = State {
-        set,
-        items: held,
-        used,
+    let view = View {
+        items,
+        starts,
+        rows,
+        queue,
+        store,
     };
-    let filled = reports::expected(file, state, items, starts, rows, queue, store, tokens);
+    let filled = reports::expected(file, state(set, held, used), &view, tokens);
     tell_count(filled, count)
 }
 
@@ -318,12 +336,14 @@ pub fn brinesaddle_listing(
         (words_of items.now starts.now rows.now queue.now store.now) latest_text
         text.old result count.new text.new }
 {
-    let state = State {
-        set,
-        items: held,
-        used,
+    let view = View {
+        items,
+        starts,
+        rows,
+        queue,
+        store,
     };
-    let filled = reports::listing(file, state, items, starts, rows, queue, store, text);
+    let filled = reports::listing(file, state(set, held, used), &view, text);
     tell_count(filled, count)
 }
 
@@ -345,12 +365,14 @@ pub fn brinesaddle_latest_words(
         (words_of items.now starts.now rows.now queue.now store.now) latest_words
         words.old result count.new words.new }
 {
-    let state = State {
-        set,
-        items: held,
-        used,
+    let view = View {
+        items,
+        starts,
+        rows,
+        queue,
+        store,
     };
-    let filled = reports::latest_words(file, state, items, starts, rows, queue, store, words);
+    let filled = reports::latest_words(file, state(set, held, used), &view, words);
     tell_count(filled, count)
 }
 
@@ -372,23 +394,21 @@ pub fn brinesaddle_latest_records(
         (words_of items.now starts.now rows.now queue.now store.now) latest_records
         records.old result count.new records.new }
 {
-    let mut words = [0; SET_WORDS];
-    let told = prepare(
-        file,
-        set,
-        held,
-        used,
+    let view = View {
         items,
         starts,
         rows,
         queue,
         store,
-        records.len(),
-        &mut words,
-        count,
-    );
-    fill(&words, told.fill, records);
-    told.number
+    };
+    let mut words = [0; SET_WORDS];
+    match prepare(file, state(set, held, used), &view, records.len(), &mut words, count) {
+        Ok(n) => {
+            fill(&words, n, records);
+            0
+        }
+        Err(number) => number,
+    }
 }
 
 // Writes a node at p. The node is five numbers: its kind, and its values.

@@ -15,32 +15,27 @@ fn refusal_number(why: Refusal) -> u32
         Refusal::Broken => 2,
         Refusal::NoToken => 5,
         Refusal::TooMany => 22,
+        Refusal::TooShort(_) => TOO_SHORT,
     }
 }
 
 // Puts yes or no and the count of words into the host's words, and answers the number; a refusal leaves yes or no as it was.
-fn tell_plain(told: Told, yes: &mut u32, count: &mut usize) -> u32
+fn tell_plain(told: Result<Told, Refusal>, yes: &mut u32, count: &mut usize) -> u32
     ensures number { result ≡ told_number told }
     ensures yes { yes.new ≡ yes_or yes.old told }
     ensures count { count.new ≡ told_count told }
 {
     match told {
-        Told::Yes(words) => {
-            *yes = 1;
-            *count = words;
+        Ok(done) => {
+            *yes = u32::from(done.yes);
+            *count = done.words;
             0
         }
-        Told::No(words) => {
-            *yes = 0;
-            *count = words;
-            0
-        }
-        Told::TooShort(words) => {
-            *count = words;
-            TOO_SHORT
-        }
-        Told::Refused(why) => {
-            *count = 0;
+        Err(why) => {
+            *count = match why {
+                Refusal::TooShort(needed) => needed,
+                _ => 0,
+            };
             refusal_number(why)
         }
     }
@@ -57,6 +52,5 @@ pub fn brinesaddle_plain(
     ensures { PlainIn file.now tokens.now table.old table.new yes.old result
         yes.new count.new }
 {
-    let told = plain::plain(file, tokens, table);
-    tell_plain(told, yes, count)
+    tell_plain(plain::plain(file, tokens, table), yes, count)
 }

@@ -1,27 +1,17 @@
 -- `compare::answer` meets its contract: a line or the lines, by what the bytes that came say.
-use mathlib.Core.Path.{sym}
-use lib.Seq.{length-take-le}
-use Rattle.programs.proofs.Headers.{judged_same, whole-fits}
 use Rattle.compare.specs.Writes.{Written}
-use Rattle.compare.proofs.Writing.{written}
+use Rattle.compare.proofs.Writing.{fault-line}
+use Rattle.compare.proofs.Agreeing.{written-agrees}
 use Rattle.compare.proofs.answer.Goals as goal
 
-pub slice_bounds-check_and_compare-end : goal.slice_bounds-check_and_compare-end
-slice_bounds-check_and_compare-end c =
-    let given = c.args in
-    sym (length-take-le _ given.bytes.now (whole-fits _ (judged_same c.in-Length.is c.judged.ensures)))
+pub returns-in-Ok-clause-text : goal.returns-in-Ok-clause-text
+returns-in-Ok-clause-text c = Written.answered c.in-Ok.ensures c.check_and_compare.ensures.text
 
-pub returns-in-Malformed : goal.returns-in-Malformed
-returns-in-Malformed c =
-    let all = written (Written.malformed (judged_same c.in-Malformed.is c.judged.ensures) c.refusal.ensures.text) in
-    record { place = c.refusal.ensures.place; text = all.0; agreement = all.1 }
+pub returns-in-Ok-clause-agreement : goal.returns-in-Ok-clause-agreement
+returns-in-Ok-clause-agreement c = written-agrees (Written.answered c.in-Ok.ensures c.check_and_compare.ensures.text)
 
-pub returns-in-Broken : goal.returns-in-Broken
-returns-in-Broken c =
-    let all = written (Written.broken (judged_same c.in-Broken.is c.judged.ensures) c.refusal-in-Broken.ensures.text) in
-    record { place = c.refusal-in-Broken.ensures.place; text = all.0; agreement = all.1 }
+pub returns-in-Err-clause-text : goal.returns-in-Err-clause-text
+returns-in-Err-clause-text c = Written.refused c.in-Err.ensures (fault-line c.in-Err.fault c.from.ensures c.number.ensures c.refusal.ensures.text)
 
-pub returns-in-Length : goal.returns-in-Length
-returns-in-Length c =
-    let all = written (Written.answered (judged_same c.in-Length.is c.judged.ensures) c.check_and_compare.ensures.text) in
-    record { place = c.check_and_compare.ensures.place; text = all.0; agreement = all.1 }
+pub returns-in-Err-clause-agreement : goal.returns-in-Err-clause-agreement
+returns-in-Err-clause-agreement c = written-agrees {rest = c.args.rest.now} (Written.refused c.in-Err.ensures (fault-line c.in-Err.fault c.from.ensures c.number.ensures c.refusal.ensures.text))

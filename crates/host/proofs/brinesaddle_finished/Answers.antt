@@ -1,11 +1,11 @@
 -- `brinesaddle_finished` meets its contract: what the call beneath says, in the host's words.
-use Rattle.host.proofs.Telling.{finishes_told, finishes_in_means}
+use Rattle.recognizer.specs.Answers.{says_yes}
+use Rattle.host.proofs.Telling.{in_a_word, finishes_in_tells}
 use Rattle.host.proofs.brinesaddle_finished.Goals as goal
 
-pub returns : goal.returns
-returns c =
-    let said = c.finished-whether in
-    let t = c.tell_whether.ensures in
-    let all =
-    finishes_in_means (finishes_told said.result said.ensures.calls t.number t.yes t.handle) in
-    record { calls = all.0; sentences = all.1 }
+pub returns-clause-calls : goal.returns-clause-calls
+returns-clause-calls c =
+    rw (c.tell_whether.ensures.number, c.tell_whether.ensures.yes, c.tell_whether.ensures.handle, ← c.state.ensures) (in_a_word (says_yes c.finished-whether.result) c.finished-whether.ensures.calls)
+
+pub returns-clause-sentences : goal.returns-clause-sentences
+returns-clause-sentences c = finishes_in_tells (returns-clause-calls c)

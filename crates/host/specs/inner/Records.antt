@@ -1,5 +1,5 @@
 -- Records out of plain words, and the place that they are put into.
-use Rattle.std.specs.Prelude.{◌≡◌, List, [], ◌∷◌, ◌++◌, ℕ, zero, suc, ◌+◌, ◌*◌, ◌≤◌, length, get_or, drop}
+use Rattle.std.specs.Prelude.{◌≡◌, List, [], ◌∷◌, ◌++◌, ℕ, zero, suc, ◌+◌, ◌*◌, ◌≤◌, length, get_or, drop, Result, Ok, Err}
 use Rattle.parse.specs.declared.State.{State}
 use Rattle.parse.specs.Words.{Words, max_items}
 use Rattle.reports.specs.declared.Record.{Record}
@@ -31,6 +31,15 @@ records_in words (suc n) = records_in words n ++ (record_at words n ∷ [])
 -- A place with those in front.
 abbrev pub filled : List ℕ → ℕ → List Record → List Record
 filled words n place = records_in words n ++ drop n place
+
+-- What is left to do: the number to answer, and how many records to fill.
+abbrev pub refused_by : Result ℕ ℕ → ℕ
+refused_by (Ok n) = 0
+refused_by (Err number) = number
+
+abbrev pub left_of : Result ℕ ℕ → ℕ
+left_of (Ok n) = n
+left_of (Err number) = 0
 
 -- There are words for `n` records, and places.
 pub record Fillable (n : ℕ) (words : List ℕ) (place : List Record) : Type 0 where

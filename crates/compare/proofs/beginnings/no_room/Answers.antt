@@ -1,17 +1,7 @@
--- `compare::beginnings::no_room` meets its contract: one refusal after the other.
-use native.Mathlib.Omega.{arith}
-use Rattle.compare.specs.Compares.{NoRoom}
-use Rattle.compare.proofs.Comparing.{room-yes, room-last}
+-- `compare::beginnings::no_room` meets its contract: a yes names one of the four.
+use Rattle.laws.proofs.Decides.{says_yes_lem}
+use Rattle.compare.proofs.Comparing.{room_one}
 use Rattle.compare.proofs.beginnings.no_room.Goals as goal
 
-pub returns-then-number-eq-ITEMS_FULL : goal.returns-then-number-eq-ITEMS_FULL
-returns-then-number-eq-ITEMS_FULL c = room-yes 7 NoRoom.items (omega arith)
-
-pub returns-then-number-eq-QUEUE_FULL : goal.returns-then-number-eq-QUEUE_FULL
-returns-then-number-eq-QUEUE_FULL c = room-yes 8 NoRoom.queue (omega arith)
-
-pub returns-then-number-eq-SETS_FULL : goal.returns-then-number-eq-SETS_FULL
-returns-then-number-eq-SETS_FULL c = room-yes 9 NoRoom.sets (omega arith)
-
-pub returns : goal.returns
-returns c = room-last _ (λ e. omega arith) (λ e. omega arith) (λ e. omega arith)
+pub returns-in-ItemsFull : goal.returns-in-ItemsFull
+returns-in-ItemsFull c = rw c.in-Some.is (says_yes_lem (room_one c.in-Some.why c.in-ItemsFull.is))
