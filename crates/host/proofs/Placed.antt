@@ -1,17 +1,15 @@
 -- The part that the set report tells, by the place of its first word and the number of its words.
-use mathlib.Core.Path.{◌≡◌, refl, sym, subst, ◌∙◌}
+use mathlib.Core.Path.{◌≡◌, refl, sym, subst}
 use mathlib.Core.List.{List}
 use Prim.Native.Nat.{ℕ, ◌-◌, ◌*◌, ◌≤◌}
 use native.Mathlib.Omega.{arith}
-use borrow.Author.Tests.{ne_eqb}
 use lib.ListN.{length, drop, length-take, length-drop}
 use Rattle.item.specs.Item.{item_words}
 use Rattle.grammar.specs.Rules.{Grammar}
 use Rattle.parse.specs.declared.State.{State}
-use Rattle.parse.specs.Words.{Words, within, start_of, item_room}
+use Rattle.parse.specs.Words.{Words, within, start_of, item_room, max_items}
 use Rattle.demands.specs.Steps.{latest_part}
 use Rattle.demands.specs.Calls.{FileFault, CallFault, Formed, Reports}
-use Rattle.host.specs.inner.Parts.{PartFits, first_word}
 use Rattle.host.specs.Reports.{ReportsIn}
 
 -- A fault has a number that is not 0.
@@ -42,26 +40,24 @@ module _ {file : List ℕ} {s : State} {w : Words} {g : Grammar} (f : Formed fil
         begins,
       )
 
--- The first word where refused, and where done.
-first-refused : {n : ℕ} (held words : ℕ) → (n ≡ 0 → ⊥) → first_word n held words ≡ 0
-unfolding first_word
-first-refused {n} held words some = rw (first_word, ne_eqb n 0 some) refl
-
-first_done : (held words : ℕ) → first_word 0 held words ≡ item_words * held - words
-unfolding first_word
-first_done held words = refl
-
 module _ {file : List ℕ} {s : State} {w : Words} where
-  pub part-fits : {n : ℕ} {part : List ℕ} → Reports file s w n part → PartFits n s.items (length part)
-  part-fits (Reports.refused fault) = record { few = λ e. absurd (call_some fault e); within_items = λ e. absurd (call_some fault e) }
-  part-fits (Reports.done f) = record { few = λ _. omega (arith, few f); within_items = λ _. omega (arith, long f) }
+  -- The items of a report are within capacity, and the part is no longer than they are.
+  pub few_items : {part : List ℕ} → Reports file s w 0 part → s.items ≤ max_items
+  few_items (Reports.refused fault) = absurd (call_some fault refl)
+  few_items (Reports.done f) = omega (arith, few f)
 
-  pub reports_in : {n first : ℕ} {part : List ℕ} → Reports file s w n part → first ≡ first_word n s.items (length part)
-      → ReportsIn file s w n first (length part)
-  reports_in {n} (Reports.refused fault) e =
-      subst (λ (first : ℕ). ReportsIn file s w n first 0) (sym (e ∙ first-refused s.items 0 (call_some fault))) (ReportsIn.refused fault)
-  reports_in {first = first} (Reports.done f) e =
-      subst (λ (count : ℕ). ReportsIn file s w 0 first count) (sym (long f))
-      (subst (λ (x : ℕ). ReportsIn file s w 0 x (item_words * (s.items - start_of (within w) s.set)))
-      (sym (e ∙ first_done s.items (length (latest_part s (within w))) ∙ omega (arith, begins f, long f)))
-      (ReportsIn.done f))
+  pub within_items : {part : List ℕ} → Reports file s w 0 part → length part ≤ item_words * s.items
+  within_items (Reports.refused fault) = absurd (call_some fault refl)
+  within_items (Reports.done f) = omega (arith, long f)
+
+  -- The part ends where the items do.
+  pub reports_in : {part : List ℕ} → Reports file s w 0 part → ReportsIn file s w 0 (item_words * s.items - length part) (length part)
+  reports_in (Reports.refused fault) = absurd (call_some fault refl)
+  reports_in (Reports.done f) =
+      subst (λ (count : ℕ). ReportsIn file s w 0 (item_words * s.items - count) count) (sym (long f))
+      (subst (λ (x : ℕ). ReportsIn file s w 0 x (item_words * (s.items - start_of (within w) s.set))) (omega (arith, begins f)) (ReportsIn.done f))
+
+  -- A refused one tells place 0.
+  pub refused_in : {n : ℕ} {part : List ℕ} → Reports file s w n part → (n ≡ 0 → ⊥) → ReportsIn file s w n 0 0
+  refused_in (Reports.refused fault) some = ReportsIn.refused fault
+  refused_in (Reports.done f) some = absurd (some refl)

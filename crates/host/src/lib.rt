@@ -28,7 +28,7 @@ mod records;
 mod translating;
 
 use crate::nodes::{node_of, numbers_of};
-use crate::parse_words::{narrow, state, tell, tell_count, tell_run, tell_whether};
+use crate::parse_words::{state, tell, tell_count, tell_run, tell_whether, wide_token};
 use crate::records::{SET_WORDS, fill, prepare};
 use crate::translating::tell_translated;
 use item::ITEM_WORDS;
@@ -102,7 +102,7 @@ pub fn brinesaddle_token(
         queue,
         store,
     };
-    let answer = recognizer::token(file, state(*set, *held, *used), &mut words, narrow(t));
+    let answer = wide_token(file, state(*set, *held, *used), &mut words, t);
     tell(answer, set, held, used)
 }
 
@@ -402,7 +402,14 @@ pub fn brinesaddle_latest_records(
         store,
     };
     let mut words = [0; SET_WORDS];
-    match prepare(file, state(set, held, used), &view, records.len(), &mut words, count) {
+    match prepare(
+        file,
+        state(set, held, used),
+        &view,
+        records.len(),
+        &mut words,
+        count,
+    ) {
         Ok(n) => {
             fill(&words, n, records);
             0

@@ -1,11 +1,14 @@
 // A parse's answers in the host's words.
-ghost use Rattle.std.specs.Prelude.{◌≡◌, min};
+ghost use Rattle.std.specs.Prelude.{◌≡◌, [], ◌∷◌, min};
 ghost use Rattle.laws.specs.Counts.{once};
+ghost use Rattle.parse.specs.Words.{Kept, words_in};
+ghost use Rattle.demands.specs.Calls.{Takes};
+ghost use Rattle.demands.specs.Sentences.{PositionTells};
 ghost use Rattle.host.specs.Answers.{state_in};
 ghost use Rattle.reports.specs.Answers.{filled_number, filled_count};
-ghost use Rattle.recognizer.specs.Answers.{number_of, stop_number, state_of, says_yes, says_handle};
+ghost use Rattle.recognizer.specs.Answers.{number_of, stop_number, state_of, outcome_of, says_yes, says_handle};
 
-use parse::State;
+use parse::{State, Words};
 use recognizer::{Ran, Refusal};
 use reports::Unfilled;
 
@@ -21,10 +24,24 @@ pub fn state(set: usize, held: usize, used: usize) -> State
 }
 
 // The token that stands for a number at the door. No grammar has as many tokens, so that numbers past a u16 may share one.
-pub fn narrow(t: u32) -> u16
+fn narrow(t: u32) -> u16
     ensures { result ≡ min t 65535 }
 {
     u16::try_from(t).unwrap_or(65535)
+}
+
+// Reads one token. Every number is a token here.
+pub fn wide_token(
+    file: &[u8],
+    state: State,
+    words: &mut Words<'_>,
+    t: u32,
+) -> Result<State, Refusal>
+    ensures kept { Kept words.old words.new }
+    ensures calls { Takes file.now state (words_in words.old) (t ∷ []) (outcome_of state result (words_in words.new)) }
+    ensures sentences { PositionTells file.now state (words_in words.old) (t ∷ []) (number_of result) }
+{
+    recognizer::token(file, state, words, narrow(t))
 }
 
 // Puts the state of an answer into the host's words, and answers its number. A refusal leaves the words.
@@ -71,11 +88,7 @@ pub fn tell_run(
 const NO_HANDLE: u32 = 0xFFFF_FFFF;
 
 // Puts what finished says into the host's words, and answers its number.
-pub fn tell_whether(
-    whether: Result<Option<u32>, Refusal>,
-    yes: &mut u32,
-    handle: &mut u32,
-) -> u32
+pub fn tell_whether(whether: Result<Option<u32>, Refusal>, yes: &mut u32, handle: &mut u32) -> u32
     ensures number { result ≡ number_of whether }
     ensures yes { yes.new ≡ once (says_yes whether) }
     ensures handle { handle.new ≡ says_handle whether }

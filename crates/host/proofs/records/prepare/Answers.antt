@@ -5,23 +5,14 @@ use Rattle.host.proofs.records.prepare.Goals as goal
 -- The words are refused.
 pub returns-then-number-ne0 : goal.returns-then-number-ne0
 returns-then-number-ne0 c =
-    let required = c.requires in
-    let t = c.tell_count-number.ensures in
-    let told = c.latest_words-told.ensures.calls in
-    refused_prepared _ told t.number t.count (required) c.if-number-ne0.true
+    refused_prepared _ c.latest_words.ensures.calls c.tell_count-number.ensures.number c.tell_count-number.ensures.count c.requires c.if-number-ne0.true
 
 -- There are fewer places than records.
 pub returns-then-room-records : goal.returns-then-room-records
 returns-then-room-records c =
-    let words_told = c.latest_words-told in
-    let t = c.tell_count-number.ensures in
-    let told = words_told.ensures.calls in
-    short_prepared _ told t.number t.count c.if-number-ne0.false c.if-room-records.true
+    short_prepared _ c.latest_words.ensures.calls c.tell_count-number.ensures.number c.tell_count-number.ensures.count c.if-number-ne0.false c.if-room-records.true
 
 -- There are as many.
 pub returns : goal.returns
 returns c =
-    let words_told = c.latest_words-told in
-    let t = c.tell_count-number.ensures in
-    let told = words_told.ensures.calls in
-    done_prepared _ told t.number t.count c.if-number-ne0.false c.if-room-records.false
+    done_prepared _ c.latest_words.ensures.calls c.tell_count-number.ensures.number c.tell_count-number.ensures.count c.if-number-ne0.false c.if-room-records.false
