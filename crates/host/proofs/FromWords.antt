@@ -4,7 +4,7 @@ use mathlib.Core.List.{List, [], ◌∷◌, ◌++◌}
 use Prim.Native.Nat.{ℕ, zero, suc, ◌+◌, ◌-◌, ◌*◌, ◌/◌, ◌≤◌, ◌<◌}
 use native.Mathlib.Omega.{arith}
 use native.Mathlib.Numerals.{add-one}
-use lib.ListN.{length, get_or, set, take, drop, length-append, length-drop}
+use lib.ListN.{length, get_or, set, take, drop, length-append}
 use lib.Seq.{drop-cons, append_snoc, set_at, take-suc, take-length}
 use Rattle.laws.specs.Records.{flat}
 use Rattle.laws.specs.Fills.{too_short}
@@ -31,12 +31,6 @@ records_length words zero = refl
 records_length words (suc n) =
     let rest : length (records_in words n) ≡ n = records_length words n in
     omega (arith, length-append (records_in words n) (record_at words n ∷ []), rest)
-
--- The place is as long as it was.
-pub filled-length : (words : List ℕ) (n : ℕ) (place : List Record) → n ≤ length place → length (filled words n place) ≡ length place
-filled-length words n place l =
-    let front : length (records_in words n) ≡ n = records_length words n in
-    omega (arith, length-append (records_in words n) (drop n place), length-drop n place, front)
 
 -- At first nothing is put.
 pub none_filled : (words : List ℕ) (place : List Record) → filled words 0 place ≡ place
