@@ -1,10 +1,10 @@
 -- A call on the words within the capacities, which are lent in parts, leaves the words past them.
 use mathlib.Core.Path.{◌≡◌, sym, ap, ◌∙◌}
 use mathlib.Core.List.{List}
-use Prim.Native.Nat.{ℕ, ◌+◌, ◌*◌, ◌≤◌, ◌<◌}
+use Prim.Native.Nat.{ℕ, ◌+◌, ◌*◌, ◌≤◌}
 use native.Mathlib.Omega.{arith}
 use lib.ListN.{length, take, drop}
-use lib.Seq.{length_front, length-take-le}
+use lib.Seq.{length_front}
 use Rattle.bits.specs.Width.{row_words}
 use Rattle.item.specs.Item.{item_words}
 use Rattle.binary_heap.specs.Entry.{entry_words}
@@ -86,19 +86,3 @@ module _ (w : Words) (e : Ends) (m : Measures w e) where
   -- The same of words alone.
   pub put_back_place : (f : Words → Words) (v : Words) → v ≡ f (first w e) → put_back w e v ≡ behind (f (within w)) (beyond w)
   put_back_place f v came = ap (put_back w e) came ∙ ap (λ (x : Ends). put_back w x (f (first w x))) measured
-
-  -- They are there, where there is room for a set.
-  pub cut_items : length (take e.items w.items) ≡ e.items
-  cut_items = length-take-le e.items w.items (omega (arith, m.items))
-
-  pub cut_starts : 0 < set_room w → length (take e.starts w.starts) ≡ e.starts
-  cut_starts some = length-take-le e.starts w.starts (omega (arith, m.starts))
-
-  pub cut_rows : length (take e.rows w.rows) ≡ e.rows
-  cut_rows = length-take-le e.rows w.rows (omega (arith, m.rows))
-
-  pub cut_queue : length (take e.queue w.queue) ≡ e.queue
-  cut_queue = length-take-le e.queue w.queue (omega (arith, m.queue))
-
-  pub cut_store : length (take e.store w.store) ≡ e.store
-  cut_store = length-take-le e.store w.store (omega (arith, m.store))

@@ -7,7 +7,7 @@ use native.Mathlib.Omega.{arith}
 use lib.ListN.{length, get_or, take, drop, length-drop, take-append-drop}
 use lib.Seq.{length-take-le, get_or-take, drop-append-le, take-append-le}
 use lib.Dec.{eqb, ltb}
-use borrow.Author.Tests.{lt-ltb, le-ltb, ltb-true}
+use borrow.Author.Tests.{le-ltb, ltb-true}
 use Rattle.item.specs.Item.{item_words, rule_at, handle_at}
 use Rattle.grammar.specs.Rules.{Rule}
 use Rattle.parse.specs.declared.State.{State}
@@ -25,17 +25,7 @@ cut-part l m n k long inside =
     ∙ ap (take k) (drop-append-le n (take m l) (drop m l) (omega (arith, length-take-le m l long)))
     ∙ take-append-le k (drop n (take m l)) (drop m l) (omega (arith, length-take-le m l long, length-drop n (take m l)))
 
--- Whether the last item of the latest set has rule 0, from the words that are read.
-module _ (s : State) (items starts : List ℕ) (start : ℕ) (read : start ≡ get_or starts s.set 0) where
-  pub wraps-some : (rule : ℕ) → start < s.items → rule ≡ rule_at items (s.items - 1) → eqb rule 0 ≡ last_wraps_in s items starts
-  wraps-some rule some is =
-      ap (λ (x : ℕ). eqb x 0) is
-      ∙ sym (ap (λ (b : Bool). b && eqb (rule_at items (s.items - 1)) 0) (lt-ltb (get_or starts s.set 0) s.items (omega (arith, read))))
-
-  pub wraps_none : s.items ≤ start → false ≡ last_wraps_in s items starts
-  wraps_none none = sym (ap (λ (b : Bool). b && eqb (rule_at items (s.items - 1)) 0) (le-ltb (get_or starts s.set 0) s.items (omega (arith, read))))
-
--- Where it has, there is an item.
+-- Where the last item of the latest set has rule 0, there is an item.
 pub wraps_item : (s : State) (items starts : List ℕ) → last_wraps_in s items starts ≡ true → 0 < s.items
 wraps_item s items starts wraps =
     omega (arith, ltb-true (get_or starts s.set 0) s.items (both_true (ltb (get_or starts s.set 0) s.items) (eqb (rule_at items (s.items - 1)) 0) wraps).0)
