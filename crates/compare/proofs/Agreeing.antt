@@ -1,17 +1,10 @@
 -- What is written never tells a parting, as the two engines agree.
-use mathlib.Core.Path.{◌≡◌, refl, sym, subst, ◌∙◌}
-use mathlib.Core.Bool.{Bool, true, false, not, ◌&&◌}
-use mathlib.Core.Logic.{◌↔◌}
-use mathlib.Core.List.{List, []}
-use Prim.Native.Nat.{ℕ}
-use lib.Dec.{eqb}
-use lib.ListN.{length}
+use Rattle.std.proofs.Common.{◌≡◌, refl, sym, subst, ◌∙◌, Bool, true, false, not, ◌&&◌, ◌↔◌, List, [], ℕ, eqb, length, Option, None}
 use Rattle.laws.specs.Decides.{Decides}
 use Rattle.laws.proofs.Decides.{true_false, false_true, says_no, says-eqb, decide_alike}
 use Rattle.demands.specs.Histories.{History}
 use Rattle.agreement.specs.Compared.{Read, Plain}
 use Rattle.agreement.proofs.Agreeing.{engines_agree}
-use Rattle.std.specs.Prelude.{Option, None}
 use Rattle.compare.specs.declared.beginnings.Engine.{Engine}
 use Rattle.compare.specs.Engines.{Follows, Reads, MainSays}
 use Rattle.compare.specs.Compares.{NoRoom, Compares}

@@ -1,16 +1,10 @@
 -- Beginning after beginning.
-use mathlib.Core.Path.{◌≡◌, refl, sym, subst}
-use mathlib.Core.Bool.{Bool, true, false, not, beq}
-use mathlib.Core.List.{List}
-use Prim.Native.Nat.{ℕ, suc, ◌+◌, ◌≤◌}
+use Rattle.std.proofs.Common.{◌≡◌, refl, sym, subst, Bool, true, false, not, List, ℕ, suc, ◌+◌, ◌≤◌, arith, length, take, ◌⊎◌, inl, inr, Some, None}
+use mathlib.Core.Bool.{beq}
 use native.Mathlib.Decide.{ℕ_discrete}
-use native.Mathlib.Omega.{arith}
-use lib.ListN.{length, take}
 use lib.Seq.{take-length}
 use Rattle.laws.proofs.Decides.{true_false, false_true}
 use Rattle.agreement.specs.Compared.{Plain}
-use mathlib.Core.Logic.{◌⊎◌, inl, inr}
-use Rattle.std.specs.Prelude.{Some, None}
 use Rattle.recognizer.specs.declared.Refusal.{Refusal}
 use Rattle.recognizer.specs.declared.Refusal.TheVariants.{ItemsFull, QueueFull, SetsFull, StoreFull}
 use Rattle.recognizer.specs.Answers.{refusal_number}

@@ -1,9 +1,6 @@
 -- The lines of the comparison, one behind the other.
-use mathlib.Core.Path.{◌≡◌, subst}
-use mathlib.Core.List.{List, []}
-use Prim.Native.Nat.{ℕ}
+use Rattle.std.proofs.Common.{◌≡◌, subst, List, [], ℕ, Option}
 use Rattle.programs.specs.Text.{Line, stopped_head}
-use Rattle.std.specs.Prelude.{Option}
 use Rattle.compare.specs.declared.beginnings.Engine.{Engine}
 use Rattle.compare.specs.Text.{compared_head, Parts, Lines}
 

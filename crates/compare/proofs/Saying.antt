@@ -1,19 +1,11 @@
 -- What the engines' calls answer, put together.
-use mathlib.Core.Path.{◌≡◌, refl, sym, subst}
-use mathlib.Core.Bool.{Bool}
-use mathlib.Core.List.{List}
-use Prim.Native.Nat.{ℕ, ◌≤◌, ◌<◌}
-use native.Mathlib.Nat.{mul-le-mul}
-use native.Mathlib.Omega.{arith}
-use lib.ListN.{length}
+use Rattle.std.proofs.Common.{◌≡◌, refl, sym, subst, Bool, List, ℕ, ◌≤◌, ◌<◌, mul-le-mul, arith, length, Result, Ok, Err, rules}
 use Rattle.laws.specs.Fills.{too_short}
 use Rattle.grammar.specs.Rules.{Grammar}
 use Rattle.grammar.specs.File.{grammar_of}
 use Rattle.parse.specs.declared.State.{State}
 use Rattle.parse.specs.Words.{Words, set_room}
-use Rattle.std.specs.Prelude.{Result, Ok, Err}
 use Rattle.std.specs.Result.{IsOk}
-use Rattle.std.proofs.Common.{rules}
 use Rattle.recognizer.specs.declared.Refusal.{Refusal}
 use Rattle.recognizer.specs.Answers.{outcome_of}
 use Rattle.recognizer.proofs.Answered.{number-some}

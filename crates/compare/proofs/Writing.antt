@@ -1,8 +1,5 @@
 -- What is written, put together from what the calls answer.
-use mathlib.Core.Path.{◌≡◌, refl, sym, ap, subst, ◌∙◌}
-use mathlib.Core.List.{List, []}
-use Prim.Native.Nat.{ℕ}
-use native.Mathlib.Omega.{arith}
+use Rattle.std.proofs.Common.{◌≡◌, refl, sym, ap, subst, ◌∙◌, List, [], ℕ, arith}
 use Rattle.grammar.specs.Answers.{Verdict}
 use Rattle.grammar.specs.Answers.{fault_number}
 use Rattle.grammar.specs.declared.Fault.{Fault}

@@ -1,10 +1,5 @@
 -- What the driver's lines tell of sentences, over the rules alone.
-use mathlib.Core.Path.{◌≡◌, subst}
-use mathlib.Core.Bool.{true}
-use mathlib.Core.Logic.{◌↔◌}
-use mathlib.Core.List.{List, []}
-use Prim.Native.Nat.{ℕ, ◌+◌, ◌*◌}
-use lib.ListN.{length, take}
+use Rattle.std.proofs.Common.{◌≡◌, subst, true, ◌↔◌, List, [], ℕ, ◌+◌, ◌*◌, length, take}
 use Rattle.grammar.specs.Sentences.{Sentence}
 use Rattle.grammar.specs.File.{grammar_of}
 use Rattle.parse.specs.declared.State.{State}

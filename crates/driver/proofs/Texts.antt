@@ -1,8 +1,5 @@
 -- The driver's lines, one behind the other.
-use mathlib.Core.Path.{◌≡◌, subst}
-use mathlib.Core.Bool.{Bool}
-use mathlib.Core.List.{List, [], ◌++◌}
-use Prim.Native.Nat.{ℕ}
+use Rattle.std.proofs.Common.{◌≡◌, subst, Bool, List, [], ◌++◌, ℕ}
 use Rattle.programs.specs.Text.{Line, stopped_head}
 use Rattle.driver.specs.Text.{Report, read_head, set_head, finished_line}
 use Rattle.driver.specs.Text.Report.{lines}

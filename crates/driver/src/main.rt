@@ -20,7 +20,7 @@ use tokens::read_tokens;
 // The sets that are lent.
 const SETS: usize = 256;
 
-// The words of so many sets; items, queue and store at their largest.
+// The words of so many sets; items, queue and store at their largest. Crate compare has more sets: one place for both would be no plainer.
 const ITEMS: usize = item::ITEM_WORDS * parse::room::ITEMS;
 
 const STARTS: usize = SETS + 1;

@@ -23,9 +23,10 @@ fn put_finished(out: &mut [u8], at: usize, yes: bool) -> usize
     ensures text { take result out.new ≡ take at out.old ++ finished_line yes }
 {
     if yes {
-        return put(out, at, &YES);
+        put(out, at, &YES)
+    } else {
+        put(out, at, &NO)
     }
-    put(out, at, &NO)
 }
 
 // The four lines on a parse; answers how long they are.

@@ -1,7 +1,5 @@
 -- Two answers of count and of tree agree in the host's words.
-use mathlib.Core.Path.{◌≡◌, sym, ap, ◌∙◌}
-use mathlib.Core.List.{List}
-use Prim.Native.Nat.{ℕ}
+use Rattle.std.proofs.Common.{◌≡◌, sym, ap, ◌∙◌, List, ℕ}
 use Rattle.trees.proofs.Agree.{counts_agree, tells_agree}
 use Rattle.host.specs.Trees.{number_in, values_in, trees_or, place_or, count_in, CountsIn, TellsIn}
 

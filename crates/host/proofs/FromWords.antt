@@ -1,11 +1,6 @@
 -- The plain words of the latest set are its records, and records are put into a place one after the other.
-use mathlib.Core.Path.{◌≡◌, refl, sym, ap, ap₂, subst, ◌∙◌}
-use mathlib.Core.List.{List, [], ◌∷◌, ◌++◌}
-use Prim.Native.Nat.{ℕ, zero, suc, ◌+◌, ◌-◌, ◌*◌, ◌/◌, ◌≤◌, ◌<◌}
-use native.Mathlib.Omega.{arith}
-use native.Mathlib.Numerals.{add-one}
-use lib.ListN.{length, get_or, set, take, drop, length-append}
-use lib.Seq.{drop-cons, append_snoc, set_at, take-suc, take-length}
+use Rattle.std.proofs.Common.{◌≡◌, refl, sym, ap, ap₂, subst, ◌∙◌, List, [], ◌∷◌, ◌++◌, ℕ, zero, suc, ◌+◌, ◌-◌, ◌*◌, ◌/◌, ◌≤◌, ◌<◌, arith, add-one, length, get_or, set, take, drop, length-append, drop-cons, take-suc}
+use lib.Seq.{append_snoc, set_at, take-length}
 use Rattle.laws.specs.Records.{flat}
 use Rattle.laws.specs.Fills.{too_short}
 use Rattle.laws.specs.Fills.Fills.{refused, short, done}

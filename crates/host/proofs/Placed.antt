@@ -1,9 +1,5 @@
 -- The part that the set report tells, by the place of its first word and the number of its words.
-use mathlib.Core.Path.{◌≡◌, refl, sym, subst}
-use mathlib.Core.List.{List}
-use Prim.Native.Nat.{ℕ, ◌-◌, ◌*◌, ◌≤◌}
-use native.Mathlib.Omega.{arith}
-use lib.ListN.{length, drop, length-take, length-drop}
+use Rattle.std.proofs.Common.{◌≡◌, refl, sym, subst, List, ℕ, ◌-◌, ◌*◌, ◌≤◌, arith, length, drop, length-take, length-drop}
 use Rattle.item.specs.Item.{item_words}
 use Rattle.grammar.specs.Rules.{Grammar}
 use Rattle.parse.specs.declared.State.{State}

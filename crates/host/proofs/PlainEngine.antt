@@ -1,9 +1,6 @@
 -- The plain engine's answer in the host's words.
-use mathlib.Core.Path.{◌≡◌, sym, ◌∙◌}
-use mathlib.Core.List.{List}
-use Prim.Native.Nat.{ℕ, ◌≤◌}
+use Rattle.std.proofs.Common.{◌≡◌, sym, ◌∙◌, List, ℕ, ◌≤◌, arith}
 use native.Mathlib.Decide.{ℕ_discrete}
-use native.Mathlib.Omega.{arith}
 use Rattle.plain.proofs.Telling.{tables_agree}
 use Rattle.host.specs.PlainEngine.{PlainIn}
 

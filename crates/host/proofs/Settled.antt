@@ -1,8 +1,6 @@
 -- Two results that meet a report's statement agree, in the host's words too. For the other calls the laws beneath say so.
-use mathlib.Core.Path.{◌≡◌, refl, sym}
+use Rattle.std.proofs.Common.{◌≡◌, refl, sym, List, ℕ}
 use mathlib.Core.Bool.{false≢true}
-use mathlib.Core.List.{List}
-use Prim.Native.Nat.{ℕ}
 use Rattle.parse.specs.declared.State.{State}
 use Rattle.parse.specs.Words.{Words}
 use Rattle.demands.proofs.Agree.{call_number, not_formed, finishes_agree}

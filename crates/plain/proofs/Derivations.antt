@@ -1,10 +1,6 @@
 -- Derivations by their last rule. Where A ::= B alone, every rule of B has a higher number: so rules that fall miss nothing.
-use mathlib.Core.Path.{◌≡◌, refl, sym, subst, ◌∙◌}
-use mathlib.Core.Logic.{◌⊎◌, inl, inr}
-use mathlib.Core.List.{List, [], ◌∷◌, ◌++◌}
-use Prim.Native.Nat.{ℕ, ◌+◌, ◌≤◌, ◌<◌}
+use Rattle.std.proofs.Common.{◌≡◌, refl, sym, subst, ◌∙◌, ◌⊎◌, inl, inr, List, [], ◌∷◌, ◌++◌, ℕ, ◌+◌, ◌≤◌, ◌<◌, arith}
 use native.Mathlib.Decide.{ℕ_discrete}
-use native.Mathlib.Omega.{arith}
 use Rattle.grammar.specs.Rules.{Grammar, none, rule_count, rule_at}
 use Rattle.grammar.specs.Accepted.{Accepted}
 use Rattle.grammar.specs.Sentences.{Derives}

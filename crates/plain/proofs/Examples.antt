@@ -1,9 +1,7 @@
 -- The numbers of the table's layout.
-use mathlib.Core.Path.{◌≡◌, refl, ap}
-use Prim.Native.Nat.{ℕ, ◌+◌, ◌-◌, ◌*◌, ◌/◌, ◌≤◌}
-use native.Mathlib.Nat.{mul-sub, mul-one, le-mul_of_pos_right}
+use Rattle.std.proofs.Common.{◌≡◌, refl, ap, ℕ, ◌+◌, ◌-◌, ◌*◌, ◌/◌, ◌≤◌, mul-one, le-mul_of_pos_right, arith}
+use native.Mathlib.Nat.{mul-sub}
 use native.Mathlib.Decide.{dec_lt}
-use native.Mathlib.Omega.{arith}
 use Rattle.plain.specs.Table.{Stretch, stretches_up_to, place, needed}
 use Rattle.plain.proofs.Standing.{twice}
 

@@ -1,10 +1,5 @@
 -- A rule fires, by what the table holds, exactly when its right side derives the stretch.
-use mathlib.Core.Path.{◌≡◌, sym, subst, ◌∙◌}
-use mathlib.Core.List.{List}
-use mathlib.Core.Bool.{Bool, true, false}
-use Prim.Native.Nat.{ℕ, ◌+◌, ◌-◌, ◌*◌, ◌≤◌, ◌<◌}
-use native.Mathlib.Omega.{arith}
-use lib.ListN.{length}
+use Rattle.std.proofs.Common.{◌≡◌, sym, subst, ◌∙◌, List, Bool, true, false, ℕ, ◌+◌, ◌-◌, ◌*◌, ◌≤◌, ◌<◌, arith, length}
 use Rattle.laws.specs.Bits.{word_bits, adding, row_of, with_row}
 use Rattle.laws.specs.Decides.{Decides}
 use Rattle.grammar.specs.Rules.{rule_count, rule_at}

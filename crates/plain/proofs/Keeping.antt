@@ -1,8 +1,5 @@
 -- What stays as it was: the length, and the words behind the table.
-use mathlib.Core.Path.{refl, ◌∙◌}
-use mathlib.Core.List.{List}
-use Prim.Native.Nat.{ℕ}
-use native.Mathlib.Omega.{arith}
+use Rattle.std.proofs.Common.{refl, ◌∙◌, List, ℕ, arith}
 use Rattle.plain.specs.Table.{needed}
 use Rattle.plain.specs.inner.Filling.{Room, Cleared, Kept}
 

@@ -1,9 +1,5 @@
 -- Length after length.
-use mathlib.Core.Path.{◌≡◌, refl, ap, subst, ◌∙◌}
-use mathlib.Core.List.{List}
-use Prim.Native.Nat.{ℕ, ◌+◌, ◌-◌, ◌*◌, ◌≤◌, ◌<◌}
-use native.Mathlib.Omega.{arith}
-use lib.ListN.{length}
+use Rattle.std.proofs.Common.{◌≡◌, refl, ap, subst, ◌∙◌, List, ℕ, ◌+◌, ◌-◌, ◌*◌, ◌≤◌, ◌<◌, arith, length}
 use Rattle.laws.specs.Bits.{word_bits}
 use Rattle.grammar.specs.Rules.{Grammar}
 use Rattle.plain.specs.Table.{row_words, stretches_up_to, place, needed}

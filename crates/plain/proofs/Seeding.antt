@@ -1,13 +1,6 @@
 -- The table cleared, and then each token in the row of its own stretch.
-use mathlib.Core.Path.{◌≡◌, sym, ap, subst, ◌∙◌}
-use mathlib.Core.Logic.{⊎_elim}
-use mathlib.Core.List.{List, [], ◌∷◌}
-use Prim.Native.Nat.{ℕ, ◌+◌, ◌-◌, ◌*◌, ◌^◌, ◌≤◌, ◌<◌}
+use Rattle.std.proofs.Common.{◌≡◌, sym, ap, subst, ◌∙◌, ⊎_elim, List, [], ◌∷◌, ℕ, ◌+◌, ◌-◌, ◌*◌, ◌^◌, ◌≤◌, ◌<◌, arith, length, get_or, take, drop, length-take, length-drop, drop-cons, get_or-take, get_or-drop, pow_pos}
 use native.Mathlib.Decide.{ℕ_discrete, dec_lt}
-use native.Mathlib.Omega.{arith}
-use lib.ListN.{length, get_or, take, drop, length-take, length-drop}
-use lib.Seq.{drop-cons, get_or-take, get_or-drop}
-use lib.Pow.{pow_pos}
 use Rattle.laws.specs.Bits.{word_bits, Holds, adding, row_of, with_row}
 use Rattle.laws.proofs.Bits.{zeros_hold}
 use Rattle.laws.proofs.Rows.{row_words_lem}

@@ -1,8 +1,5 @@
 -- The search for a cut.
-use mathlib.Core.Path.{◌≡◌}
-use mathlib.Core.List.{List}
-use Prim.Native.Nat.{ℕ, ◌+◌, ◌-◌, ◌*◌, ◌≤◌, ◌<◌}
-use native.Mathlib.Omega.{arith}
+use Rattle.std.proofs.Common.{◌≡◌, List, ℕ, ◌+◌, ◌-◌, ◌*◌, ◌≤◌, ◌<◌, arith}
 use Rattle.laws.specs.Bits.{word_bits}
 use Rattle.plain.specs.Table.{row_words, Stretch, stretches_up_to, place}
 use Rattle.plain.specs.inner.Filling.{Held, Room, BitThere}

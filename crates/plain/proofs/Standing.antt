@@ -1,11 +1,6 @@
 -- Where the rows of stretches stand.
-use mathlib.Core.Path.{◌≡◌, ap, ◌∙◌}
-use mathlib.Core.List.{List}
-use Prim.Native.Nat.{ℕ, zero, suc, ◌+◌, ◌-◌, ◌*◌, ◌/◌, ◌≤◌, ◌<◌}
-use native.Mathlib.Nat.{zero-mul, suc-mul, mul-suc, mul-add, mul-one, mul_left_comm, mul-le-mul}
+use Rattle.std.proofs.Common.{◌≡◌, ap, ◌∙◌, List, ℕ, zero, suc, ◌+◌, ◌-◌, ◌*◌, ◌/◌, ◌≤◌, ◌<◌, zero-mul, suc-mul, mul-suc, mul-add, mul-one, mul_left_comm, mul-le-mul, arith, length}
 use native.Mathlib.Decide.{dec_lt}
-use native.Mathlib.Omega.{arith}
-use lib.ListN.{length}
 use Rattle.plain.specs.Table.{max_tokens, row_words, Stretch, stretches_up_to, place}
 use Rattle.plain.specs.inner.Filling.{Room}
 

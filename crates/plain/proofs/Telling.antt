@@ -1,14 +1,8 @@
 -- From a filled table to what the call tells.
-use mathlib.Core.Path.{◌≡◌, refl, sym, ap, subst, ◌∙◌}
-use mathlib.Core.Bool.{Bool, true, false}
-use mathlib.Core.Logic.{◌↔◌}
-use mathlib.Core.List.{List, [], ◌++◌}
-use Prim.Native.Nat.{ℕ, ◌+◌, ◌-◌, ◌*◌, ◌/◌, ◌%◌, ◌^◌, ◌≤◌, ◌<◌}
+use Rattle.std.proofs.Common.{◌≡◌, refl, sym, ap, subst, ◌∙◌, Bool, true, false, ◌↔◌, List, [], ◌++◌, ℕ, ◌+◌, ◌-◌, ◌*◌, ◌/◌, ◌%◌, ◌^◌, ◌≤◌, ◌<◌, arith, length, get_or, take, drop, take-append-drop, length-drop, ext_get_or, length-take-le, get_or-take, get_or-drop, pow_pos}
 use native.Mathlib.Decide.{ℕ_discrete, dec_lt}
-use native.Mathlib.Omega.{arith}
-use lib.ListN.{length, get_or, take, drop, take-append-drop, length-drop, get_or-eq_default}
-use lib.Seq.{ext_get_or, length-take-le, take-length, get_or-take, get_or-drop}
-use lib.Pow.{pow_pos}
+use lib.ListN.{get_or-eq_default}
+use lib.Seq.{take-length}
 use Rattle.laws.specs.Bits.{word_bits, Holds, holds, row_of}
 use Rattle.laws.specs.Decides.{Decides}
 use Rattle.laws.specs.Fills.{too_short}

@@ -1,10 +1,5 @@
 -- Bytes as tokens: how many there are, those of two stretches, and the words that hold them.
-use mathlib.Core.Path.{◌≡◌, refl, sym, ap, subst, ◌∙◌}
-use mathlib.Core.List.{List, [], ◌∷◌, ◌++◌, append-nil, append_assoc}
-use Prim.Native.Nat.{ℕ, suc, ◌+◌, ◌-◌, ◌*◌, ◌≤◌, ◌<◌, min}
-use native.Mathlib.Omega.{arith}
-use lib.ListN.{length, take, set, get_or, length-set, length-append}
-use lib.Seq.{take-suc-set, length-take-le}
+use Rattle.std.proofs.Common.{◌≡◌, refl, sym, ap, subst, ◌∙◌, List, [], ◌∷◌, ◌++◌, append-nil, append_assoc, ℕ, suc, ◌+◌, ◌-◌, ◌*◌, ◌≤◌, ◌<◌, min, arith, length, take, set, get_or, length-set, length-append, take-suc-set, length-take-le}
 use Rattle.std.specs.Int.{div_ceil}
 use Rattle.programs.specs.Tokens.{foreign, tokens_of}
 

@@ -1,15 +1,9 @@
 -- A header that passes the tests.
-use mathlib.Core.Path.{◌≡◌, refl, sym, ap, subst, ◌∙◌}
-use mathlib.Core.List.{List, ◌++◌}
-use Prim.Native.Nat.{ℕ, ◌+◌, ◌*◌, ◌≤◌, ◌<◌}
-use native.Mathlib.Omega.{arith}
+use Rattle.std.proofs.Common.{◌≡◌, refl, sym, ap, subst, ◌∙◌, List, ◌++◌, ℕ, ◌+◌, ◌*◌, ◌≤◌, ◌<◌, arith, length, take, get_or, length-append, length-take-le, get_or-take, take-take, take_at, Result, Ok}
 use native.Mathlib.Decide.{ℕ_discrete, dec_lt}
-use lib.ListN.{length, take, get_or, length-append}
-use lib.Seq.{length-take-le, get_or-take, take-take, take_at}
 use Rattle.io.specs.Counts.{IsPrefixLen}
 use Rattle.grammar.specs.Accepted.{max_rules}
 use Rattle.grammar.specs.File.{header_bytes, rule_bytes, u16_at, version_of, length_of, rule_count_of}
-use Rattle.std.specs.Prelude.{Result, Ok}
 use Rattle.grammar.specs.declared.Fault.{Fault}
 use Rattle.programs.specs.Header.{longest_file, Wrong, Says, Judged, ReadTo}
 use Rattle.programs.specs.Header.Wrong.{short, version, told_length}

@@ -7,6 +7,6 @@ pub returns-then-yes-clause-text : goal.returns-then-yes-clause-text
 unfolding finished_line
 returns-then-yes-clause-text c = search rules
 
-pub returns-clause-text : goal.returns-clause-text
+pub returns-else-yes-clause-text : goal.returns-else-yes-clause-text
 unfolding finished_line
-returns-clause-text c = search rules
+returns-else-yes-clause-text c = search rules

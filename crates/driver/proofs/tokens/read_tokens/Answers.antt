@@ -1,5 +1,4 @@
-use Rattle.std.proofs.Common.{arith, rules, sym, ◌∙◌}
-use borrow.Author.Tests.{ltb-true, ltb-false}
+use Rattle.std.proofs.Common.{arith, rules, sym, ◌∙◌, ltb-true, ltb-false}
 use Rattle.driver.proofs.Reading.{reading_start, reading_full, refused_by, last_by, all_read, is_refused, not_refused}
 use Rattle.driver.proofs.tokens.read_tokens.Goals as goal
 use Rattle.driver.proofs.tokens.read_tokens.Goals.{then-is_some-via-then-is_some, then-is_some-via-else-is_some+then-is_last}

@@ -1,5 +1,5 @@
 -- `plain::fill::fill` meets its contract. The invariant: the lengths passed are settled.
-use lib.ListN.{length}
+use Rattle.std.proofs.Common.{length}
 use Rattle.plain.specs.Table.{stretches_up_to}
 use Rattle.grammar.specs.inner.Decoded.{decoded}
 use Rattle.plain.specs.inner.Filling.{Filling, Kept}

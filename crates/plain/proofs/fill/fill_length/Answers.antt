@@ -1,4 +1,4 @@
-use native.Mathlib.Omega.{arith}
+use Rattle.std.proofs.Common.{arith}
 use Rattle.plain.proofs.Lengths.{filling_at, length-ends}
 use Rattle.plain.proofs.fill.fill_length.Goals as goal
 

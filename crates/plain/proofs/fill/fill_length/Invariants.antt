@@ -1,5 +1,5 @@
 -- `plain::fill::fill_length` meets its contract. The invariant: the stretches passed are settled.
-use lib.ListN.{length}
+use Rattle.std.proofs.Common.{length}
 use Rattle.plain.specs.Table.{place}
 use Rattle.grammar.specs.inner.Decoded.{decoded}
 use Rattle.plain.specs.inner.Filling.{Filling, Kept}

@@ -1,5 +1,5 @@
 -- `plain::fill::seed` meets its contract. The invariant: the tokens passed stand in their rows, and nothing else does.
-use lib.ListN.{length}
+use Rattle.std.proofs.Common.{length}
 use Rattle.plain.specs.inner.Filling.{Seeded, Kept}
 use Rattle.plain.proofs.fill.seed.Given as goal
 

@@ -1,6 +1,5 @@
 -- `plain::places::place` meets its contract.
-use Prim.Native.Nat.{◌-◌}
-use native.Mathlib.Omega.{arith}
+use Rattle.std.proofs.Common.{◌-◌, arith}
 use Rattle.plain.proofs.Standing.{up_to_small}
 use Rattle.plain.proofs.places.place.Goals as goal
 

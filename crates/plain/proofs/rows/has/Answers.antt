@@ -1,8 +1,5 @@
 -- `plain::rows::has` meets its contract. The word read is the row's own word of that number.
-use mathlib.Core.Path.{sym, ap}
-use Prim.Native.Nat.{ℕ, ◌/◌, ◌%◌}
-use native.Mathlib.Omega.{arith}
-use lib.Dec.{eqb}
+use Rattle.std.proofs.Common.{sym, ap, ℕ, ◌/◌, ◌%◌, arith, eqb}
 use Rattle.laws.specs.Bits.{bit}
 use Rattle.laws.proofs.Rows.{row_word}
 use Rattle.plain.specs.Table.{row_words}
