@@ -20,8 +20,8 @@ pub fn right_marked(rules: &Rules, marks: &Marks, r: usize) -> bool
 
 // Whether all symbols from `from` up to `to` are marked.
 pub fn all_marked(marks: &Marks, from: usize, to: usize) -> bool
-    requires { (from ≤ to) × (to ≤ max_symbols) }
+    requires { to ≤ max_symbols }
     ensures { Decides result (AllMarked marks.now from to) }
 {
-    marks[from..to].iter().all(|mark| *mark)
+    to <= from || marks[from..to].iter().all(|mark| *mark)
 }

@@ -20,8 +20,8 @@ pub fn mark_within(marks: &mut [bool], from: usize, to: usize)
 
 // Whether all symbols from `from` up to `to` are marked.
 pub fn all_within(marks: &Marks, from: usize, to: usize) -> bool
-    requires { (from ≤ to) × (to ≤ most_symbols) }
+    requires { to ≤ most_symbols }
     ensures { Decides result (AllWithin marks.now from to) }
 {
-    !marks[from..to].contains(&false)
+    to <= from || !marks[from..to].contains(&false)
 }
