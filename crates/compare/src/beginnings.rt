@@ -17,8 +17,7 @@ pub enum Engine {
     Plain,
 }
 
-// On how many beginnings they agreed; the main engine's refusal, where there is one; and where they part, on the beginning behind those, the engine
-// that says yes.
+// On how many beginnings they agreed; the main engine's refusal, if any; and where they part, on the beginning behind those, which says yes.
 #[derive(Clone, Copy)]
 pub struct Compared {
     pub agreed: usize,

@@ -38,8 +38,8 @@ pub fn fill(words: &[u32], n: usize, records: &mut [Record])
     }
 }
 
-// All of a report of records but the filling: the plain words, and the count, for a place of `room` records. Answers how many to fill, or the number
-// of a refusal.
+// All of a report of records but the filling: the plain words, and the count, for a place of `room` records. Answers how many to fill, or
+// the number of a refusal.
 pub fn prepare(
     file: &[u8],
     state: State,

@@ -12,7 +12,7 @@ use std::io::Read;
 // The longest file that its header lets through.
 pub const LONGEST: usize = HEADER + RULE * RULES;
 
-// A header: the version, the length told, and then the number of rules. Answers the length of the whole file, or the refusal by the header alone.
+// A header: the version, the length told, and then the number of rules. Answers the length of the whole file, or a refusal by these alone.
 pub fn told(bytes: &[u8]) -> Result<usize, Fault>
     ensures { Says bytes.now result }
 {
