@@ -37,6 +37,7 @@ impl Pass<'_> {
     pub fn store(&mut self, item: Item) -> Result<(), Full>
         ensures kept { Kept self.old self.new }
         ensures pass { after result self.new ≡ store item.origin item.rule item.handle (pass_in self.old) }
+        ensures queue { self.new.queue.now ≡ self.old.queue.now }
     {
         if self.stored >= self.items.len() / item::ITEM_WORDS {
             return Err(Full::Items);
@@ -73,6 +74,7 @@ impl Pass<'_> {
     pub fn append(&mut self, node: Node) -> Result<(), Full>
         ensures kept { Kept self.old self.new }
         ensures pass { after result self.new ≡ append node (pass_in self.old) }
+        ensures queue { self.new.queue.now ≡ self.old.queue.now }
     {
         match node::write(self.store, self.used, node) {
             Ok(behind) => {

@@ -76,6 +76,7 @@ impl Pass<'_> {
         ensures kept { Kept self.old self.new }
         ensures pass { after result self.new ≡ complete_binary (its_rules self.old) self.old.rows.now
             pair.set pair.symbol pair.link r (pass_in self.old) }
+        ensures queue { self.new.queue.now ≡ self.old.queue.now }
     {
         if self.rules.second(r) == NONE || !self.waits(pair, r) {
             return Ok(());
@@ -90,6 +91,7 @@ impl Pass<'_> {
         ensures kept { Kept self.old self.new }
         ensures pass { after result self.new ≡ complete_binary_predictions (its_rules self.old) self.old.rows.now
             pair.set pair.symbol pair.link (pass_in self.old) }
+        ensures queue { self.new.queue.now ≡ self.old.queue.now }
     {
         let mut r = self.rules.head(pair.symbol);
         // The chain again: a walk for both would take its step as a closure that is lent the pass, which is no plainer.

@@ -18,6 +18,7 @@ loop-r-init c =
       walk_begins its.rules.now.words its.rules.now.count pair.symbol (complete_binary (its_rules its) its.rows.now pair.set pair.symbol pair.link)
           (λ r s there differs. binary-other its.rules.now.words its.rules.now.count its.rows.now pair.set pair.symbol pair.link r s there differs)
           _ (pass_in its) c.head-r.ensures,
+      refl,
     )
 
 pub returns-in_err-complete_binary-clause-pass : goal.returns-in_err-complete_binary-clause-pass
@@ -59,6 +60,7 @@ loop-r-preserved c =
       walk-next its.rules.now.words its.rules.now.count pair.symbol (complete_binary (its_rules its) its.rows.now pair.set pair.symbol pair.link)
           (λ r s there differs. binary-other its.rules.now.words its.rules.now.count its.rows.now pair.set pair.symbol pair.link r s there differs)
           looped.r _ (pass_in its) (pass_in looped.self) _ begins first looped.invariant.3 step,
+      c.in_ok-complete_binary.ensures.queue ∙ looped.invariant.4,
     )
 
 pub returns-clause-pass : goal.returns-clause-pass

@@ -13,6 +13,7 @@ invariant-loop-r l =
     × (l.r ≤ its.rules.now.count)
     × (l.r < its.rules.now.count → first_in its.rules.now.words l.r ≡ l.pair.symbol)
     × (pass_in l.self ≡ over l.r (complete_binary (its_rules its) its.rows.now l.pair.set l.pair.symbol l.pair.link) (pass_in its))
+    × (l.self.queue.now ≡ its.queue.now)
 
 abbrev pub decreases-loop-r : goal.decreases-loop-r
 decreases-loop-r l = l.fn.self.rules.now.count - l.r
