@@ -55,12 +55,13 @@ impl Pass<'_> {
     {
         let capacity = self.queue.len() / ENTRY_WORDS;
         let queued = self.queued;
-        // A loan beside that of the queue.
+        // By itself, since `self.items` and `self.queue` are lent at once.
         let items = &mut *self.items;
         let entry = Entry {
             place: place as u32,
             right,
         };
+        // Not `.ok_or(Full::Queue)?`: its proof did not close.
         match binary_heap::push(items, self.queue, capacity, queued, entry) {
             None => Err(Full::Queue),
             Some(n) => {
@@ -76,6 +77,7 @@ impl Pass<'_> {
         ensures pass { after result self.new ≡ append node (pass_in self.old) }
         ensures queue { self.new.queue.now ≡ self.old.queue.now }
     {
+        // Not `.map_err(..)?`: its proof did not close.
         match node::write(self.store, self.used, node) {
             Ok(behind) => {
                 self.used = behind;

@@ -88,7 +88,7 @@ impl Pass<'_> {
     {
         let product = self.greatest_product();
         let queued = self.queued;
-        // A loan beside that of the queue.
+        // By itself, since `self.items` and `self.queue` are lent at once.
         let items = &mut *self.items;
         match binary_heap::pop(items, self.queue, queued) {
             None => before,
@@ -118,7 +118,8 @@ impl Pass<'_> {
     // Takes one sum off the queue, writes it, and completes its pair.
     fn complete_sum(&mut self) -> Result<(), Full>
         requires { Grounds (its_rules self.old) self.old.starts.now self.old.rows.now
-            × Pending (its_rules self.old) self.old.starts.now (pass_in self.old) × UnitsFit (pass_in self.old) × (0 < self.old.queued) × Chained self.old.rules.now.words self.old.rules.now.count }
+            × Pending (its_rules self.old) self.old.starts.now (pass_in self.old)
+            × UnitsFit (pass_in self.old) × (0 < self.old.queued) × Chained self.old.rules.now.words self.old.rules.now.count }
         ensures kept { Kept self.old self.new }
         ensures pass { after result self.new ≡ complete_sum (its_rules self.old) self.old.starts.now self.old.rows.now (pass_in self.old) }
     {
@@ -140,7 +141,8 @@ impl Pass<'_> {
     // Completes sum after sum, until the queue is empty or something is refused.
     pub fn complete_all_sums_entirely(&mut self) -> Result<(), Full>
         requires { Grounds (its_rules self.old) self.old.starts.now self.old.rows.now
-            × Pending (its_rules self.old) self.old.starts.now (pass_in self.old) × UnitsFit (pass_in self.old) × Chained self.old.rules.now.words self.old.rules.now.count }
+            × Pending (its_rules self.old) self.old.starts.now (pass_in self.old)
+            × UnitsFit (pass_in self.old) × Chained self.old.rules.now.words self.old.rules.now.count }
         ensures kept { Kept self.old self.new }
         ensures pass { after result self.new
             ≡ complete_all_sums (its_rules self.old) self.old.starts.now self.old.rows.now (pass_in self.old) }
