@@ -1,5 +1,5 @@
 // Sums and products of weights: the lowest fault comes first, and numbers above 64 bits are many.
-ghost use Rattle.std.specs.Prelude.{◌≡◌, ◌≢◌, ◌+◌, ◌*◌};
+ghost use Rattle.std.specs.Prelude.{◌≡◌, ◌≢◌};
 ghost use Rattle.trees.specs.declared.Weight.TheVariants.{Number};
 ghost use Rattle.trees.specs.inner.Weights as W;
 ghost use Rattle.trees.specs.inner.Walks as S;
@@ -17,22 +17,12 @@ fn lower(u: u16, b: Weight) -> Weight
     }
 }
 
-#[tactic(auto, unfolding(crate::specs::inner::Weights::limited))]
-fn sum(n: u64, m: u64) -> Weight
-    ensures { result ≡ W.limited (n + m) }
+// So many trees, or too many where 64 bits hold no such number.
+fn limited(trees: Option<u64>) -> Weight
+    ensures { result ≡ W.of_checked trees }
 {
-    match n.checked_add(m) {
-        Some(trees) => Weight::Number(trees),
-        None => Weight::Many,
-    }
-}
-
-#[tactic(auto, unfolding(crate::specs::inner::Weights::limited))]
-fn product(n: u64, m: u64) -> Weight
-    ensures { result ≡ W.limited (n * m) }
-{
-    match n.checked_mul(m) {
-        Some(trees) => Weight::Number(trees),
+    match trees {
+        Some(n) => Weight::Number(n),
         None => Weight::Many,
     }
 }
@@ -51,27 +41,27 @@ fn often(n: u64) -> Weight
 
 impl Weight {
     // Trees of the one and then of the other.
-    #[tactic(auto, unfolding(crate::specs::inner::Weights::plus))]
+    #[tactic(auto, unfolding(crate::specs::inner::Weights::plus, crate::specs::inner::Weights::limited))]
     pub fn plus(self, other: Weight) -> Weight
         ensures { result ≡ W.plus self other }
     {
         match (self, other) {
             (Weight::Fault(u), _) => lower(u, other),
             (_, Weight::Fault(_)) => other,
-            (Weight::Number(n), Weight::Number(m)) => sum(n, m),
+            (Weight::Number(n), Weight::Number(m)) => limited(n.checked_add(m)),
             _ => Weight::Many,
         }
     }
 
     // Each of the one with each of the other.
-    #[tactic(auto, unfolding(crate::specs::inner::Weights::times))]
+    #[tactic(auto, unfolding(crate::specs::inner::Weights::times, crate::specs::inner::Weights::limited))]
     pub fn times(self, other: Weight) -> Weight
         ensures { result ≡ W.times self other }
     {
         match (self, other) {
             (Weight::Fault(u), _) => lower(u, other),
             (_, Weight::Fault(_)) => other,
-            (Weight::Number(n), Weight::Number(m)) => product(n, m),
+            (Weight::Number(n), Weight::Number(m)) => limited(n.checked_mul(m)),
             (Weight::Number(n), Weight::Many) => often(n),
             (Weight::Many, Weight::Number(m)) => often(m),
             (Weight::Many, Weight::Many) => Weight::Many,

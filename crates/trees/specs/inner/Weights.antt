@@ -14,6 +14,11 @@ use Rattle.trees.specs.declared.Weight.TheVariants.{Fault, Number, Many}
 unfoldable pub limited : ℕ → Weight
 limited n = pick (ltb n tree_limit) (Number n) Many
 
+-- The same of a number of 64 bits, or of none where there are too many.
+abbrev pub of_checked : Option ℕ → Weight
+of_checked (Some n) = Number n
+of_checked None = Many
+
 -- The lower of a fault and what else is faulty.
 unfoldable pub lower : ℕ → Weight → Weight
 lower u (Fault v) = pick (ltb u v) (Fault u) (Fault v)
