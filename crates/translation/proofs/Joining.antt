@@ -123,10 +123,10 @@ module _ (new : ℕ → ℕ) (empty : ℕ → Bool) (a : ℕ) (held : List ℕ) 
         j.rest.onward r after (subst (Lists now r after) (sym (joined-last new empty a held head e fresh i last ∙ ap₂ (λ (z : ℕ) (s : Bool). pair a head z e s) (sym ey) (sym et))) p)
 
 -- Some of the written rules are to come.
-module _ (keep empty : ℕ → Bool) (all : List WrittenRule) (from : ℕ) where
+module _ (keep empty : ℕ → Bool) (all : List WrittenRule) (from : ℕ) (before : List Rule) where
   pub record Parting (now : List Rule) (rest : List WrittenRule) (fresh : ℕ) : Type 0 where
     pub low : fresh + all_new keep rest ≤ 512
-    pub listed : Onward [] (splits keep empty all from) now (splits keep empty rest fresh)
+    pub listed : Onward before (splits keep empty all from) now (splits keep empty rest fresh)
 
   module _ {now : List Rule} {rest more : List WrittenRule} {r : WrittenRule} {fresh : ℕ} (p : Parting now rest fresh) (e : rest ≡ r ∷ more) {held : List ℕ} (el : held ≡ places keep r.right) where
     new-here : all_new keep rest ≡ length held - 2 + all_new keep more
@@ -150,17 +150,12 @@ module _ (keep empty : ℕ → Bool) (all : List WrittenRule) (from : ℕ) where
     })
 
     -- The list is too long.
-    pub parting_stops : {T : Type 0} {f : Full} {after : List Rule} {a : ℕ} → a ≡ number keep r.left → Lists {T = T} {E = Full} now (Err f) after (split (number keep) empty a held fresh)
-        → max_rules ≤ length (listing [] (splits keep empty all from))
-    parting_stops {f = f} {after} {a} ea q =
-        let whole : Lists {T = Unit {0}} {E = Full} [] (Err f) after (splits keep empty all from) =
-        onward_stops _ (split (number keep) empty a held fresh) (splits keep empty more (fresh + (length held - 2))) (splits-here ea) p.listed q in
-        whole.full
+    pub parting_stops : {T : Type 0} {f g : Full} {after : List Rule} {a : ℕ} → a ≡ number keep r.left → Lists {T = T} {E = Full} now (Err f) after (split (number keep) empty a held fresh)
+        → Lists {T = Unit {0}} {E = Full} before (Err g) after (splits keep empty all from)
+    parting_stops {a = a} ea q =
+        onward_stops _ (split (number keep) empty a held fresh) (splits keep empty more (fresh + (length held - 2))) (splits-here ea) p.listed q
 
-  -- The end: the list is that of all rules.
-  pub parting-ends : {now : List Rule} {rest : List WrittenRule} {fresh : ℕ} → Parting now rest fresh → rest ≡ [] → now ≡ listing [] (splits keep empty all from)
+  -- The end: the list has all rules.
+  pub parting-ends : {now : List Rule} {rest : List WrittenRule} {fresh : ℕ} → Parting now rest fresh → rest ≡ [] → Lists {T = Unit {0}} {E = Full} before (Ok tt) now (splits keep empty all from)
   unfolding splits
-  parting-ends {now} {rest} {fresh} p e =
-      let whole : Lists {T = Unit {0}} {E = Full} [] (Ok tt) now (splits keep empty all from) =
-      p.listed.onward (Ok tt) now (lists-nothing now _ (ap (λ (l : List WrittenRule). splits keep empty l fresh) e)) in
-      whole.listed
+  parting-ends {now} {rest} {fresh} p e = p.listed.onward (Ok tt) now (lists-nothing now _ (ap (λ (l : List WrittenRule). splits keep empty l fresh) e))

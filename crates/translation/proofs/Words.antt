@@ -1,5 +1,5 @@
 -- Rules in words: searched, and one more stored behind the others.
-use Rattle.std.proofs.Common.{◌≡◌, refl, sym, ap, ◌∙◌, Bool, true, false, ◌||◌, List, [], ◌∷◌, ◌++◌, ℕ, zero, suc, ◌+◌, ◌-◌, ◌≤◌, ◌<◌, arith, length, length-append, Result, Ok, Err, IfOk, IfErr}
+use Rattle.std.proofs.Common.{◌≡◌, refl, sym, ap, subst, ◌∙◌, Bool, true, false, ◌||◌, List, [], ◌∷◌, ◌++◌, ℕ, zero, suc, ◌+◌, ◌-◌, ◌≤◌, ◌<◌, arith, length, length-append, Result, Ok, Err, IfOk, IfErr}
 use Rattle.laws.proofs.Decides.{true_false, false_true}
 use Rattle.grammar.specs.Rules.{Rule}
 use Rattle.grammar.specs.Accepted.{max_rules}
@@ -100,3 +100,7 @@ pub lists-given : {T E : Type 0} {r : Result T E} (before after : List Rule) (ye
 unfolding given
 lists-given before after true l e p = p
 lists-given before after false l e p = absurd (false_true e)
+
+-- What is listed behind no rule.
+pub lists_from : {T E : Type 0} {r : Result T E} {none before after more : List Rule} → before ≡ none → Lists before r after more → Lists none r after more
+lists_from {r = r} {after = after} {more = more} e p = subst (λ (l : List Rule). Lists l r after more) e p

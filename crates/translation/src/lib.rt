@@ -25,11 +25,11 @@ mod write;
 use crate::circular::circular;
 use crate::conditions::{all_fruitful, all_reachable};
 use crate::grow::{empties, staying};
-use crate::list::Full;
+use crate::list::{Full, RuleList};
 use crate::marks::MOST;
 use crate::places::{count_new, number};
 use crate::rules::Written;
-use crate::split::{Tests, list};
+use crate::split::Tests;
 use crate::write::write;
 use grammar::file::{HEADER, RULE};
 use grammar::limits::SYMBOLS;
@@ -96,7 +96,8 @@ fn translate_sound(
     if SYMBOLS < wrapper + 2 {
         return Err(Refusal::NoRoom);
     }
-    let list = list(written, tests, first)?;
+    let mut list = RuleList::new();
+    split::list(written, tests, first, &mut list)?;
     let length = HEADER + RULE * (list.rules.count + 1);
     if file.len() < length {
         return Err(Refusal::NoRoom);

@@ -1,6 +1,5 @@
 // The rules that the written rules are split into, listed.
-ghost use Rattle.std.specs.Prelude.{◌≡◌, [], ◌+◌, ◌≤◌, ◌<◌, IfOk, IfErr, length as length_of};
-ghost use Rattle.grammar.specs.Accepted.{max_rules};
+ghost use Rattle.std.specs.Prelude.{◌+◌, ◌≤◌, ◌<◌, length as length_of};
 ghost use Rattle.grammar.specs.inner.Decoded.{rules_of as listed};
 ghost use Rattle.written.specs.Form as form;
 ghost use Rattle.written.specs.Split as spec;
@@ -75,22 +74,24 @@ fn split(
     }
 }
 
-// The list of rules, where new symbols are numbered from `from` on.
-pub fn list(written: &Written<'_>, tests: &Tests<'_>, from: usize) -> Result<RuleList, Full>
+// Lists the rules of the written rules, where new symbols are numbered from `from` on. The list is lent: 17 KB of a call's stack, once.
+pub fn list(
+    written: &Written<'_>,
+    tests: &Tests<'_>,
+    from: usize,
+    list: &mut RuleList,
+) -> Result<(), Full>
     requires { from + translation.all_new (marked tests.now.keep.now) (form.written_of written.now).rules ≤ 512 }
-    ensures listed { IfOk result (λ list. listed list.rules
-        ≡ translation.listing [] (translation.splits (marked tests.now.keep.now) (marked tests.now.empty.now) (form.written_of written.now).rules from)) }
-    ensures full { IfErr result (λ _. max_rules ≤ length_of
-        (translation.listing [] (translation.splits (marked tests.now.keep.now) (marked tests.now.empty.now) (form.written_of written.now).rules from))) }
+    ensures { Lists (listed list.old.rules) result (listed list.new.rules)
+        (translation.splits (marked tests.now.keep.now) (marked tests.now.empty.now) (form.written_of written.now).rules from) }
 {
-    let mut list = RuleList::new();
     let mut room = [0; LONGEST];
     let mut fresh = from;
     for rule in written.rules() {
         let held = places(&rule, tests.keep, &mut room);
         let a = number(tests.keep, rule.left() as usize);
-        split(&mut list, tests, a, held, fresh)?;
+        split(list, tests, a, held, fresh)?;
         fresh += held.len().saturating_sub(2);
     }
-    Ok(list)
+    Ok(())
 }

@@ -7,4 +7,4 @@ use Rattle.translation.proofs.split.list.Given as goal
 
 abbrev pub invariant-loop-rule : goal.invariant-loop-rule
 invariant-loop-rule l =
-    Parting (marked l.tests.keep.now) (marked l.tests.empty.now) (written_of l.written).rules l.from (rules_of l.list.rules) l.rule-iterator l.fresh
+    Parting (marked l.tests.keep.now) (marked l.tests.empty.now) (written_of l.written).rules l.from (rules_of l.initial.list.rules) (rules_of l.list.rules) l.rule-iterator l.fresh
