@@ -2,10 +2,9 @@
 use Rattle.std.proofs.Common.{◌≡◌, refl, sym, ap, ap₂, subst, ◌∙◌, Bool, ◌&&◌, List, [], ◌∷◌, ◌++◌, ℕ, suc, ◌+◌, ◌-◌, ◌≤◌, ◌<◌, add-one, arith, length, get_or, drop, drop-cons, Result, Ok, Err}
 use lib.Seq.{drop-length}
 use Rattle.grammar.specs.Rules.{Rule, none}
-use Rattle.grammar.specs.Accepted.{max_rules}
 use Rattle.written.specs.Written.{WrittenRule}
 use Rattle.written.specs.Split.{rule, pair, joined, split}
-use Rattle.written.specs.Translation.{number, places, new_symbols, all_new, splits, listing}
+use Rattle.written.specs.Translation.{number, places, new_symbols, all_new, splits}
 use Rattle.translation.specs.declared.list.Full.{Full}
 use Rattle.translation.specs.inner.Lists.{Lists}
 use Rattle.translation.proofs.Words.{lists_on, lists-stops, lists-nothing}
