@@ -19,15 +19,6 @@ const LABEL: usize = 4096;
 
 const FILE: usize = 65536;
 
-// Fills the first `n` bytes of `buf`; fewer where the input ends.
-fn read_part<R: Read>(from: &mut R, buf: &mut [u8], n: usize) -> usize {
-    if n <= buf.len() {
-        read_full(from, &mut buf[..n])
-    } else {
-        0
-    }
-}
-
 fn digit(file: &[u8]) -> u8 {
     match check(file) {
         Ok(()) => b'0',
@@ -36,23 +27,12 @@ fn digit(file: &[u8]) -> u8 {
     }
 }
 
-// The answer to the first `n` bytes of `buf`.
-fn answer(buf: &[u8], n: usize) -> u8 {
-    if n <= buf.len() {
-        digit(&buf[..n])
-    } else {
-        b'?'
-    }
-}
-
 // The label, where there is one, then the answer.
-fn print(rt: &impl Print, label: &[u8], n: usize, number: u8) -> io::Result<()> {
-    if n == 0 {
+fn print(rt: &impl Print, label: &[u8], number: u8) -> io::Result<()> {
+    if label.is_empty() {
         return rt.write_all(&[number]);
     }
-    if n <= label.len() {
-        rt.write_all(&label[..n])?;
-    }
+    rt.write_all(label)?;
     rt.write_all(&[b' ', number, b'\n'])
 }
 
@@ -85,15 +65,7 @@ fn show(rt: &impl Print, file: &[u8]) -> io::Result<()> {
     print_rows(rt, &made, grammar.symbols)
 }
 
-// The table of the first `n` bytes of `buf`.
-fn show_part(rt: &impl Print, buf: &[u8], n: usize) -> io::Result<()> {
-    if n <= buf.len() {
-        return show(rt, &buf[..n]);
-    }
-    Ok(())
-}
-
-// One record; whether there was one.
+// One record; whether there was one. Where the input ends in it, its other bytes are 0.
 fn replay<R: Read>(rt: &impl Print, from: &mut R) -> io::Result<bool> {
     let mut head = [0u8; 3];
     if read_full(from, &mut head) < 3 {
@@ -101,13 +73,15 @@ fn replay<R: Read>(rt: &impl Print, from: &mut R) -> io::Result<bool> {
     }
     let named = usize::from(head[0]);
     let long = usize::from(u16::from_be_bytes([head[1], head[2]]));
-    let mut label = [0u8; LABEL];
-    let mut file = [0u8; FILE];
-    read_part(from, &mut label, named);
-    read_part(from, &mut file, long);
-    print(rt, &label, named, answer(&file, long))?;
+    let mut labels = [0u8; LABEL];
+    let label = &mut labels[..named];
+    read_full(from, label);
+    let mut files = [0u8; FILE];
+    let file = &mut files[..long];
+    read_full(from, file);
+    print(rt, label, digit(file))?;
     if named > 0 {
-        show_part(rt, &file, long)?;
+        show(rt, file)?;
     }
     Ok(true)
 }
