@@ -4,7 +4,8 @@ use mathlib.Core.List.{List, [], ◌∷◌, ◌++◌}
 use Prim.Native.Nat.{ℕ, zero, suc, ◌+◌, ◌-◌, ◌≤◌, ◌<◌}
 use native.Mathlib.Decide.{dec_lt, ℕ_discrete}
 use native.Mathlib.Omega.{arith}
-use lib.ListN.{length, get_or, set, take, replicate, length-append, length-take, length-replicate, length-set, get_or-append, get_or-eq_default}
+use lib.ListN.{length, get_or, set, take, drop, replicate, length-drop, length-append, length-take, length-replicate, length-set, get_or-append, get_or-eq_default}
+use Rattle.std.proofs.lemmas.List.{get_or-drop, get_or-append_right}
 use lib.Seq.{ext_get_or, length-take-le, get_or-take, get_or-append-add, get_or-set_same, get_or-set_other}
 use Rattle.node.specs.Reading.{filler}
 use Rattle.parse.specs.inner.Parts.{Clear, Filled}
@@ -42,7 +43,7 @@ module _ {A : Type 0} (d : A) where
   front-other : (n : ℕ) (words : List A) (i : ℕ) → n ≤ i → get_or (take n words) i d ≡ d
   front-other n words i l = get_or-eq_default (take n words) d {n = i} (omega (arith, length-take n words))
 
-  ends_topped : (words : List A) (n : ℕ) → n ≤ length words → ((i : ℕ) → n ≤ i → get_or words i d ≡ d) → words ≡ topped d (length words) (take n words)
+  pub ends_topped : (words : List A) (n : ℕ) → n ≤ length words → ((i : ℕ) → n ≤ i → get_or words i d ≡ d) → words ≡ topped d (length words) (take n words)
   ends_topped words n l ends =
       topped_ext (length words) (take n words) words (omega (arith, length-take-le n words l)) refl
       (λ i m. elim (dec_lt i n) [ yes b ↦ sym (get_or-take n words i d b) | no b ↦ ends i (omega arith) ∙ sym (front-other n words i (omega arith)) ])
@@ -64,6 +65,37 @@ module _ {A : Type 0} (d : A) where
           get_or-set_other (topped d size words) (length words) i x d n ∙ topped_word size words i
           ∙ get_or-eq_default words d {n = i} (omega arith)
           ∙ sym (get_or-eq_default (words ++ (x ∷ [])) d {n = i} (omega (arith, length-append words (x ∷ []))))
+
+  -- The words from `from` up to `to` are `d` now, and those behind were.
+  pub topping : (w ys : List A) (from to : ℕ) → from ≤ to → to ≤ length w → ((j : ℕ) → to ≤ j → get_or w j d ≡ d)
+      → ys ≡ replicate (length (take (to - from) (drop from w))) d
+      → take from w ++ (ys ++ drop (to - from) (drop from w)) ≡ topped d (length w) (take from w)
+  topping w ys from to l m ends filled =
+      topped_ext (length w) (take from w) (take from w ++ (ys ++ rest)) (omega (arith, front))
+      (omega (arith, length-append (take from w) (ys ++ rest), length-append ys rest, front, long, length-drop (to - from) (drop from w), length-drop from w))
+      (λ j b. elim (dec_lt j from) [
+        | yes a ↦ get_or-append (take from w) (ys ++ rest) d j (omega (arith, front))
+        | no a ↦ get_or-append_right (take from w) (ys ++ rest) from j d front (omega arith) ∙ behind (j - from) ∙ sym (front-other from w j (omega arith))
+      ])
+    where
+      rest : List A
+      rest = drop (to - from) (drop from w)
+
+      front : length (take from w) ≡ from
+      front = length-take-le from w (omega arith)
+
+      long : length ys ≡ to - from
+      long = ap length filled ∙ length-replicate {A = A} (length (take (to - from) (drop from w))) d ∙ length-take-le (to - from) (drop from w) (omega (arith, length-drop from w))
+
+      behind : (i : ℕ) → get_or (ys ++ rest) i d ≡ d
+      behind i = elim (dec_lt i (length ys)) [
+        | yes a ↦ get_or-append ys rest d i a ∙ ap (λ (z : List A). get_or z i d) filled ∙ each_same (length (take (to - from) (drop from w))) i
+        | no a ↦
+            get_or-append_right ys rest (to - from) i d long (omega (arith, long))
+            ∙ get_or-drop (to - from) (drop from w) (i - (to - from)) d
+            ∙ get_or-drop from w ((to - from) + (i - (to - from))) d
+            ∙ ends (from + ((to - from) + (i - (to - from)))) (omega (arith, long))
+      ]
 
 -- They have the size asked for.
 pub padded-length : (size : ℕ) (words : List ℕ) → length words ≤ size → length (padded size words) ≡ size
@@ -118,39 +150,3 @@ padded_zeros size words n l =
   where
     n_is : n ≡ length words + n - length words
     n_is = omega arith
-
--- A loop that stores the word `d` from `from` on, one word after the other.
-module _ {A : Type 0} (d : A) (w : List A) (from to : ℕ) where
-  pub record Topping (i : ℕ) (words : List A) : Type 0 where
-    pub above : from ≤ i
-    pub long : length words ≡ length w
-    pub before : (j : ℕ) → j < from → get_or words j d ≡ get_or w j d
-    pub stored : (j : ℕ) → from ≤ j → j < i → get_or words j d ≡ d
-    pub behind : (j : ℕ) → i ≤ j → get_or words j d ≡ get_or w j d
-
-  pub topping_start : Topping from w
-  topping_start = record { above = omega arith; long = refl; before = λ j l. refl; stored = λ j l m. absurd (omega arith); behind = λ j l. refl }
-
-  pub topping_next : (i : ℕ) (words : List A) → Topping i words → i < length w → Topping (i + 1) (set words i d)
-  topping_next i words s l = record {
-    above = omega (arith, s.above);
-    long = length-set words i d ∙ s.long;
-    before = λ j m. get_or-set_other words i j d d (λ e. omega (arith, s.above)) ∙ s.before j m;
-    stored = λ j a b. elim (ℕ_discrete j i) [
-      | yes e ↦ ap (λ (k : ℕ). get_or (set words i d) k d) e ∙ get_or-set_same words i d d (omega (arith, s.long))
-      | no n ↦ get_or-set_other words i j d d n ∙ s.stored j a (omega arith)
-    ];
-    behind = λ j m. get_or-set_other words i j d d (λ e. omega arith) ∙ s.behind j (omega arith);
-  }
-
-  pub topping_ends : (i : ℕ) (words : List A) → Topping i words → to ≤ i → from ≤ length w → ((j : ℕ) → to ≤ j → get_or w j d ≡ d)
-      → words ≡ topped d (length w) (take from w)
-  topping_ends i words s l m ends =
-      topped_ext d (length w) (take from w) words (omega (arith, length-take-le from w m)) s.long
-      (λ j b. elim (dec_lt j from) [
-        | yes a ↦ s.before j a ∙ sym (get_or-take from w j d a)
-        | no a ↦ elim (dec_lt j i) [
-          | yes c ↦ s.stored j (omega arith) c ∙ sym (front-other d from w j (omega arith))
-          | no c ↦ s.behind j (omega arith) ∙ ends j (omega arith) ∙ sym (front-other d from w j (omega arith))
-        ]
-      ])

@@ -23,6 +23,11 @@ pub trait Word: Copy + PartialEq {
     ghost same: { (a b : Self) → Self.eq a b ≡ true → a ≡ b };
 
     ghost equal: { (a : Self) → Self.eq a a ≡ true };
+
+    // A clone never fails, and is the same.
+    ghost infallible: { (a : Self) → Self.is_infallible a };
+
+    ghost copied: { (a b : Self) → Self.is_clone a b → b ≡ a };
 }
 
 impl Word for u16 {
@@ -33,6 +38,10 @@ impl Word for u16 {
     ghost same = { Prim.search rules };
 
     ghost equal = { Prim.search rules };
+
+    ghost infallible = { Prim.search rules };
+
+    ghost copied = { Prim.search rules };
 }
 
 impl Word for u32 {
@@ -43,6 +52,10 @@ impl Word for u32 {
     ghost same = { Prim.search rules };
 
     ghost equal = { Prim.search rules };
+
+    ghost infallible = { Prim.search rules };
+
+    ghost copied = { Prim.search rules };
 }
 
 impl Word for u64 {
@@ -53,6 +66,10 @@ impl Word for u64 {
     ghost same = { Prim.search rules };
 
     ghost equal = { Prim.search rules };
+
+    ghost infallible = { Prim.search rules };
+
+    ghost copied = { Prim.search rules };
 }
 
 // Whether every word of the block at `from` is spare.
@@ -91,8 +108,7 @@ pub fn clear<W: Word>(words: &mut [W], from: usize, to: usize)
     requires { (from ≤ length words.old) × (to ≤ length words.old) × Spare W.SPARE words.old to }
     ensures { words.new ≡ topped W.SPARE (length words.old) (take from words.old) }
 {
-    // No fill of a slice: `from` may stand behind `to`, and then nothing is cleared.
-    for i in from..to {
-        words[i] = W::SPARE;
+    if from < to {
+        words[from..to].fill(W::SPARE);
     }
 }

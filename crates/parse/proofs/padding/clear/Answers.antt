@@ -1,22 +1,15 @@
-use mathlib.Core.Path.{sym, subst}
-use Prim.Native.Nat.{◌+◌}
-use native.Mathlib.Omega.{arith}
-use lib.ListN.{set}
-use Rattle.parse.proofs.Padded.{Topping, topping_start, topping_next, topping_ends}
+-- `padding::clear` meets its contract. Where `from` is behind `to`, the words from there on are spare already.
+use Rattle.std.proofs.Common.{ap, ◌∙◌, arith, ◌-◌, length, take, drop, replicate}
+use Rattle.parse.proofs.Padded.{ends_topped, topping}
 use Rattle.parse.proofs.padding.clear.Goals as goal
 
-pub loop-i-init : goal.loop-i-init
-loop-i-init g c = topping_start _ _ _ _
+pub fill-requires : goal.fill-requires
+fill-requires g c = g.met.W.Word.infallible _
 
-pub bounds-words-i : goal.bounds-words-i
-bounds-words-i g c = omega (arith, c.loop-i.invariant.long, c.requires.1)
+pub returns-then-from-to : goal.returns-then-from-to
+returns-then-from-to g c =
+    topping g.W.Word.SPARE _ _ _ _ (omega (arith, c.if-from-to.true)) c.requires.1 c.requires.2.each
+    (c.fill.ensures.after (g.met.W.Word.copied _) ∙ ap (replicate (length (take (c.args.to - c.args.from) (drop c.args.from c.args.words.now)))) c.SPARE.ensures)
 
-pub loop-i-preserved : goal.loop-i-preserved
-loop-i-preserved g c =
-    let given = c.args in
-    let looped = c.loop-i in
-    subst (λ w. Topping g.W.Word.SPARE given.words.now given.from given.to (looped.i + 1) (set looped.words looped.i w)) (sym c.SPARE.ensures)
-    (topping_next _ _ _ _ _ _ looped.invariant (omega (arith, c.requires.1)))
-
-pub returns : goal.returns
-returns g c = topping_ends _ _ _ _ _ _ c.loop-i.invariant c.loop-i-test.false c.requires.0 c.requires.2.each
+pub returns-else-from-to : goal.returns-else-from-to
+returns-else-from-to g c = ends_topped _ _ _ c.requires.0 (λ i l. c.requires.2.each i (omega (arith, c.if-from-to.false)))
