@@ -21,16 +21,10 @@ use prediction::Table;
 fn is_position(kinds: &[u16], tokens: usize) -> bool
     ensures { result ≡ is_position tokens kinds.now }
 {
-    let many = kinds.len();
-    if many == 0 {
+    let Some(&last) = kinds.last() else {
         return false;
-    }
-    for i in 1..many {
-        if kinds[i] <= kinds[i - 1] {
-            return false;
-        }
-    }
-    (kinds[many - 1] as usize) < tokens
+    };
+    kinds.is_sorted_by(|t, u| t < u) && usize::from(last) < tokens
 }
 
 // Whether some kind is predicted at set `e`.
@@ -38,12 +32,9 @@ fn any_predicted(rows: &[u64], e: usize, kinds: &[u16]) -> bool
     requires { HasRow rows.now e × KindsFit kinds.now }
     ensures { result ≡ any_predicted rows.now e kinds.now }
 {
-    for i in 0..kinds.len() {
-        if bits::has_at(rows, e, kinds[i] as usize) {
-            return true;
-        }
-    }
-    false
+    kinds
+        .iter()
+        .any(|&kind| bits::has_at(rows, e, usize::from(kind)))
 }
 
 // How many items and used units there are behind the pass of a position.

@@ -1,20 +1,22 @@
-use mathlib.Core.Path.{sym, ◌∙◌}
-use Rattle.recognizer.proofs.Looking.{passing-first, passing_off, passing_on, passing-end}
+-- `recognizer::step::any_predicted` meets its contract.
+use Rattle.std.proofs.Common.{◌∙◌, ◌<◌, rules, tests, of_calls, arith}
+use Rattle.std.proofs.lemmas.Grind.{get_or_default_zero}
+use Rattle.std.proofs.lemmas.Iterator.{YieldsList-from_slice}
+use Rattle.std.proofs.lemmas.Iterator.Adapters.{serves_from_places}
+use Rattle.std.proofs.lemmas.Iterator.Search.{any_from_yields_List}
+use Rattle.completion.specs.Complete.{predicted}
+use Rattle.recognizer.proofs.Looking.{any_listed}
 use Rattle.recognizer.proofs.step.any_predicted.Goals as goal
 
-pub loop-i-init : goal.loop-i-init
-loop-i-init c = passing-first
-
-pub has_at-requires : goal.has_at-requires
-has_at-requires c =
-    let required = c.requires in
-    (required.0.row, required.1.each _ c.loop-i-test.true)
-
-pub returns-then-has_at : goal.returns-then-has_at
-returns-then-has_at c = passing_off c.loop-i.invariant c.loop-i-test.true (sym c.has_at.ensures ∙ c.if-has_at.true)
-
-pub loop-i-preserved : goal.loop-i-preserved
-loop-i-preserved c = passing_on c.loop-i.invariant c.loop-i-test.true (sym c.has_at.ensures ∙ c.if-has_at.false)
+pub any-requires-clause-callable : goal.any-requires-clause-callable
+any-requires-clause-callable c =
+    let row = c.requires.0.row in
+    serves_from_places (YieldsList-from_slice c.args.kinds.now cc) (λ x q k. search (rules, of_calls))
+    (λ x k low is.
+    let fits : x.now < 512 = omega (arith, is, get_or_default_zero c.args.kinds.now k x.now low, c.requires.1.each k low) in
+    search (rules, of_calls, arith))
 
 pub returns : goal.returns
-returns c = passing-end c.loop-i.invariant c.loop-i-test.false
+returns c =
+    any_from_yields_List (predicted c.args.rows.now c.args.e) _ _ _ c.any.ensures.ran (YieldsList-from_slice c.args.kinds.now cc) (λ x b q k. search (rules, tests))
+    ∙ any_listed c.args.rows.now c.args.e c.args.kinds.now

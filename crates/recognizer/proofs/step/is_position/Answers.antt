@@ -1,17 +1,19 @@
-use Rattle.recognizer.proofs.Looking.{no_kind, rising_first, rising_off, rising_on, rising_end}
+-- `recognizer::step::is_position` meets its contract.
+use Rattle.std.proofs.Common.{ℕ, rules, of_calls, sym, ap, ◌∙◌}
+use Rattle.std.proofs.lemmas.Fn.{always_returns_same}
+use lib.Dec.{ltb}
+use Rattle.recognizer.proofs.Looking.{no_kind, falls_somewhere, rises_all}
 use Rattle.recognizer.proofs.step.is_position.Goals as goal
 
-pub returns-then-many-eq0 : goal.returns-then-many-eq0
-returns-then-many-eq0 c = no_kind _ _ c.if-many-eq0.true
+pub returns-in_default : goal.returns-in_default
+returns-in_default c = no_kind c.args.tokens c.args.kinds.now (rw c.in_default.is at c.last.ensures.item.3)
 
-pub loop-i-init : goal.loop-i-init
-loop-i-init c = rising_first c.if-many-eq0.false
+pub returns-then-is_sorted_by : goal.returns-then-is_sorted_by
+returns-then-is_sorted_by c =
+    let told = rw c.if-is_sorted_by.true at c.is_sorted_by.ensures.cases ltb (always_returns_same _ _ _ (λ a r f k. search (rules, of_calls))) in
+    ap (λ (x : ℕ). ltb x c.args.tokens) c.from.ensures ∙ rises_all c.args.tokens c.in-Some.field-0.now c.args.kinds.now (sym (rw c.in-Some.is at c.last.ensures.value)) told
 
-pub returns-then-kinds-i : goal.returns-then-kinds-i
-returns-then-kinds-i c = rising_off c.loop-i.invariant c.loop-i-test.true c.if-kinds-i.true
-
-pub loop-i-preserved : goal.loop-i-preserved
-loop-i-preserved c = rising_on c.loop-i.invariant c.loop-i-test.true c.if-kinds-i.false
-
-pub returns : goal.returns
-returns c = rising_end c.loop-i.invariant c.loop-i-test.false
+pub returns-else-is_sorted_by : goal.returns-else-is_sorted_by
+returns-else-is_sorted_by c =
+    let told = rw c.if-is_sorted_by.false at c.is_sorted_by.ensures.cases ltb (always_returns_same _ _ _ (λ a r f k. search (rules, of_calls))) in
+    c.if-is_sorted_by.false ∙ falls_somewhere c.args.tokens c.args.kinds.now told.0 told.1 told.2
