@@ -1,20 +1,17 @@
-// Standard input is a written grammar. Standard output is its grammar file, or nothing where it is refused; a line on standard error says which.
+// Standard input is a written grammar. Standard output is its grammar file, or nothing where it is refused; a line on standard error says
+// which.
 #![tactic(auto)]
 
 ghost use Rattle.std.specs.Prelude.{◌≡◌};
 ghost use Rattle.io.specs.Counts.{IsPrefixLen};
 ghost use Rattle.translate.specs.Lines.{line_of, file_of, Answered};
 
-use grammar::file::{HEADER, RULE};
-use grammar::limits::RULES;
+use programs::header::LONGEST;
 use programs::reading::read_full;
 use translation::{Refusal, Translated, form};
 
 // One byte more than a written grammar can have, so that a longer input is seen to be none.
 const INPUT: usize = form::HEADER + 65535 * (form::HEAD + 2 * form::LONGEST) + 1;
-
-// The longest file.
-const LONGEST: usize = HEADER + RULE * RULES;
 
 // What is written: so many bytes of the file, and the line on standard error.
 #[derive(Clone, Copy)]
@@ -23,7 +20,7 @@ struct Said {
     line: &'static [u8],
 }
 
-// The line on an answer.
+// The line on an answer. Whole lines, and not `Refusal::number` in digits: `line` is a slice that no buffer holds.
 fn line_on(told: Result<Translated, Refusal>) -> &'static [u8]
     ensures { result.now ≡ line_of told }
 {
