@@ -1,7 +1,7 @@
 -- Bytes put one behind the other: what is left to put gives what is wanted.
 use Rattle.std.proofs.Common.{◌≡◌, refl, sym, ap, ap₂, subst, ◌∙◌, List, [], ◌∷◌, ◌++◌, append_assoc, ℕ, zero, suc, ◌+◌, ◌*◌, ◌/◌, ◌%◌, ◌≤◌, ◌<◌, arith, length, set, get_or, take, drop, length-append}
-use Rattle.std.specs.Int.{w16, to_be_bytes}
-use Rattle.std.proofs.lemmas.Nat.{be_bytes_2}
+use Rattle.std.specs.Int.{w16, w32, to_be_bytes}
+use Rattle.std.proofs.lemmas.Nat.{be_bytes_2, be_bytes_4}
 use lib.Seq.{sets, sets-eq, length-sets, drop-nil}
 use Rattle.laws.specs.Records.{flat}
 use Rattle.laws.proofs.Records.{flat-length}
@@ -75,20 +75,34 @@ drop-drop k zero l = let e : k ≡ 0 + k = omega arith in ap (λ (j : ℕ). drop
 drop-drop k (suc at) [] = drop-nil k ∙ sym (drop-nil (suc at + k))
 drop-drop k (suc at) (x ∷ l) = let e : suc (at + k) ≡ suc at + k = omega arith in drop-drop k at l ∙ ap (λ (j : ℕ). drop j (x ∷ l)) e
 
-u16-two : (n : ℕ) → length (u16_bytes n) ≡ 2
-unfolding u16_bytes
-u16-two n = refl
+-- And in four.
+u32-be : (n : ℕ) → n < 4294967296 → to_be_bytes w32 n ≡ u32_bytes n
+unfolding u32_bytes u16_bytes
+u32-be n h = be_bytes_4 (n / 65536 / 256 ∷ n / 65536 % 256 ∷ n % 65536 / 256 ∷ n % 65536 % 256 ∷ []) n refl low (omega arith)
+  where
+    low : (i : ℕ) → get_or (n / 65536 / 256 ∷ n / 65536 % 256 ∷ n % 65536 / 256 ∷ n % 65536 % 256 ∷ []) i 0 < 256
+    low zero = omega arith
+    low (suc zero) = omega arith
+    low (suc (suc zero)) = omega arith
+    low (suc (suc (suc zero))) = omega arith
+    low (suc (suc (suc (suc i)))) = omega arith
+
+-- Bytes copied into a part.
+copied : (l bytes : List ℕ) (at : ℕ) {mid : List ℕ} → at + length bytes ≤ length l → mid ≡ bytes → {k : ℕ} → k ≡ length bytes
+    → take at l ++ (mid ++ drop k (drop at l)) ≡ sets l at bytes
+copied l bytes at {mid} h e {k} ek =
+    ap₂ (λ (m : List ℕ) (j : ℕ). take at l ++ (m ++ drop j (drop at l))) e ek
+    ∙ ap (λ (b : List ℕ). take at l ++ (bytes ++ b)) (drop-drop (length bytes) at l)
+    ∙ sym (append_assoc (take at l) bytes (drop (at + length bytes) l))
+    ∙ sym (sets-eq bytes l at h)
 
 pub u16_stored : (l : List ℕ) (at n : ℕ) {mid : List ℕ} → at + 2 ≤ length l → n < 65536 → mid ≡ to_be_bytes w16 n → {k : ℕ} → k ≡ 2 → take at l ++ (mid ++ drop k (drop at l)) ≡ sets l at (u16_bytes n)
-u16_stored l at n {mid} h low e {k} ek =
-    ap₂ (λ (m : List ℕ) (j : ℕ). take at l ++ (m ++ drop j (drop at l))) (e ∙ u16-be n low) ek
-    ∙ ap (λ (b : List ℕ). take at l ++ (u16_bytes n ++ b)) (drop-drop 2 at l)
-    ∙ ap (λ (j : ℕ). take at l ++ (u16_bytes n ++ drop j l)) two
-    ∙ sym (append_assoc (take at l) (u16_bytes n) (drop (at + length (u16_bytes n)) l))
-    ∙ sym (sets-eq (u16_bytes n) l at (let w = two in omega arith))
-  where
-    two : at + 2 ≡ at + length (u16_bytes n)
-    two = ap (λ (k : ℕ). at + k) (sym (u16-two n))
+unfolding u16_bytes
+u16_stored l at n h low e ek = copied l (u16_bytes n) at h (e ∙ u16-be n low) ek
+
+pub u32_stored : (l : List ℕ) (at n : ℕ) {mid : List ℕ} → at + 4 ≤ length l → n < 4294967296 → mid ≡ to_be_bytes w32 n → {k : ℕ} → k ≡ 4 → take at l ++ (mid ++ drop k (drop at l)) ≡ sets l at (u32_bytes n)
+unfolding u32_bytes u16_bytes
+u32_stored l at n h low e ek = copied l (u32_bytes n) at h (e ∙ u32-be n low) ek
 
 -- Two of them, one behind the other, and bytes behind these.
 two_stored : (l : List ℕ) (at n : ℕ) (b : List ℕ) (to : ℕ) → to ≡ at + 2 → sets (sets l at (u16_bytes n)) to b ≡ sets l at (u16_bytes n ++ b)
@@ -111,22 +125,19 @@ unfolding bytes_of_rule u16_bytes
 puts_rule l after at a b c e = record { stored = e; behind = refl }
 
 -- The header.
-pub header-stored : (l none one two three four five : List ℕ) (long n t r : ℕ) → none ≡ set l 0 1 → one ≡ sets none 1 (u16_bytes (long / 65536)) → two ≡ sets one 3 (u16_bytes (long % 65536))
-    → three ≡ sets two 5 (u16_bytes n) → four ≡ sets three 7 (u16_bytes t) → five ≡ sets four 9 (u16_bytes r)
+pub header-stored : (l none one three four five : List ℕ) (long n t r : ℕ) → none ≡ set l 0 1 → one ≡ sets none 1 (u32_bytes long)
+    → three ≡ sets one 5 (u16_bytes n) → four ≡ sets three 7 (u16_bytes t) → five ≡ sets four 9 (u16_bytes r)
     → five ≡ sets l 0 (1 ∷ (u32_bytes long ++ (u16_bytes n ++ (u16_bytes t ++ u16_bytes r))))
-unfolding u32_bytes
-header-stored l none one two three four five long n t r o p q s u v =
+unfolding u32_bytes u16_bytes
+header-stored l none one three four five long n t r o p s u v =
     v
     ∙ ap (λ (x : List ℕ). sets x 9 (u16_bytes r)) u
     ∙ two_stored three 7 t (u16_bytes r) 9 refl
     ∙ ap (λ (x : List ℕ). sets x 7 (u16_bytes t ++ u16_bytes r)) s
-    ∙ two_stored two 5 n (u16_bytes t ++ u16_bytes r) 7 refl
-    ∙ ap (λ (x : List ℕ). sets x 5 (u16_bytes n ++ (u16_bytes t ++ u16_bytes r))) q
-    ∙ two_stored one 3 (long % 65536) (u16_bytes n ++ (u16_bytes t ++ u16_bytes r)) 5 refl
-    ∙ ap (λ (x : List ℕ). sets x 3 (u16_bytes (long % 65536) ++ (u16_bytes n ++ (u16_bytes t ++ u16_bytes r)))) p
-    ∙ ap (λ (x : List ℕ). sets (sets x 1 (u16_bytes (long / 65536))) 3 (u16_bytes (long % 65536) ++ (u16_bytes n ++ (u16_bytes t ++ u16_bytes r)))) o
-    ∙ two_stored (set l 0 1) 1 (long / 65536) (u16_bytes (long % 65536) ++ (u16_bytes n ++ (u16_bytes t ++ u16_bytes r))) 3 refl
-    ∙ ap (sets (set l 0 1) 1) (sym (append_assoc (u16_bytes (long / 65536)) (u16_bytes (long % 65536)) (u16_bytes n ++ (u16_bytes t ++ u16_bytes r))))
+    ∙ two_stored one 5 n (u16_bytes t ++ u16_bytes r) 7 refl
+    ∙ ap (λ (x : List ℕ). sets x 5 (u16_bytes n ++ (u16_bytes t ++ u16_bytes r))) p
+    ∙ sets-append none 1 (u32_bytes long) (u16_bytes n ++ (u16_bytes t ++ u16_bytes r))
+    ∙ ap (λ (x : List ℕ). sets x 1 (u32_bytes long ++ (u16_bytes n ++ (u16_bytes t ++ u16_bytes r)))) o
 
 -- The whole file: header, rule 0, and the rules behind it.
 pub file-stored : (l one two three : List ℕ) (symbols tokens count a b c : ℕ) (rules : List Rule) → length rules ≡ count

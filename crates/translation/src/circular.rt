@@ -66,17 +66,23 @@ fn drop_others(held: &mut Marks, led: &Marks) -> bool
     some
 }
 
+// Drops the held symbols that no held one leads to. Whether there was one.
+fn drop_once(written: &Written<'_>, empty: &Marks, held: &mut Marks, led: &mut Marks) -> bool
+    ensures walked { led.new
+        ≡ walk (circles.leads (marked empty.now) (marked held.old)) (replicate most_symbols false) (written_of written.now).rules }
+    ensures low { Each LowRule (written_of written.now).rules }
+    ensures dropped { circles.Dropped held.old led.new held.new result }
+{
+    led_by(written, empty, held, led);
+    drop_others(held, led)
+}
+
 // Of the symbols held, all at first, those are kept to which one held leads. Of those left when none can be dropped one leads to itself.
 pub fn circular(written: &Written<'_>, empty: &Marks, held: &mut Marks, led: &mut Marks) -> bool
     requires { MarksAre (MayBeEmpty (written_of written.now)) empty.now }
     ensures { Decides result (Circular (written_of written.now)) }
 {
     *held = [true; MOST];
-    loop {
-        led_by(written, empty, held, led);
-        if !drop_others(held, led) {
-            break;
-        }
-    }
+    while drop_once(written, empty, held, led) {}
     held.contains(&true)
 }

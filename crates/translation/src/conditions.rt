@@ -5,7 +5,7 @@ ghost use Rattle.translation.specs.inner.Marks.{most_symbols};
 ghost use Rattle.translation.specs.Conditions.{SaysFruitful, SaysReachable};
 
 use crate::grow::fruitful;
-use crate::marks::{MOST, Marks, all_within};
+use crate::marks::{MOST, Marks};
 use crate::reach::reachable;
 use crate::rules::Written;
 
@@ -18,7 +18,7 @@ pub fn all_fruitful(written: &Written<'_>, marks: &mut Marks) -> bool
         return false;
     }
     fruitful(written, marks);
-    all_within(marks, written.tokens(), all)
+    !marks[written.tokens()..all].contains(&false)
 }
 
 // Whether every nonterminal is reachable, where two bytes can name them all.
@@ -27,5 +27,5 @@ pub fn all_reachable(written: &Written<'_>, marks: &mut Marks) -> bool
     ensures { SaysReachable written.now result }
 {
     reachable(written, marks);
-    all_within(marks, written.tokens(), written.end())
+    !marks[written.tokens()..written.end()].contains(&false)
 }

@@ -1,7 +1,8 @@
 // The written form, version 2: its header, its rules in place, and whether bytes are of that form.
 ghost use Rattle.std.specs.Prelude.{◌≡◌, ◌+◌, ◌*◌, ◌≤◌, ◌<◌, length as length_of};
 ghost use Rattle.laws.specs.Decides.{Decides};
-ghost use Rattle.written.specs.Form.{written_header, rule_head, tokens_in, end_in, count_in, start_in, left_at, length_at, behind, RuleStands, RulesStand, Formed};
+ghost use Rattle.written.specs.Form.{written_header, rule_head, tokens_in, end_in, count_in, start_in, left_at, length_at, behind};
+ghost use Rattle.written.specs.Form.{RuleStands, RulesStand, Formed};
 ghost use Rattle.translation.specs.inner.Symbols.{AllBelow};
 
 use crate::rules::Symbols;
@@ -9,6 +10,7 @@ use grammar::file::u16_at;
 
 // The version.
 pub const VERSION: u8 = 2;
+
 // The bytes before the rules, and those of a rule before its symbols.
 pub const HEADER: usize = 9;
 

@@ -87,7 +87,8 @@ fn translate_sound(
     file: &mut [u8],
 ) -> Result<Translated, Refusal>
     requires { (end_in written.now ≤ most_symbols) × Sound (written_of written.now)
-        × MarksAre (Stays (written_of written.now)) tests.now.keep.now × MarksAre (MayBeEmpty (written_of written.now)) tests.now.empty.now }
+        × MarksAre (Stays (written_of written.now)) tests.now.keep.now
+        × MarksAre (MayBeEmpty (written_of written.now)) tests.now.empty.now }
     ensures answers { Translates written.now file.old (answer_of result) file.new }
     ensures promised { Keeps (written_of written.now) (answer_of result) file.new }
 {
@@ -116,7 +117,8 @@ fn translate_sound(
     })
 }
 
-// Translates a written grammar. Marks of 64 KiB each are used again for one question after the other: three of them are all that the stack holds. The file stands in the first bytes of `file`, and those behind it stay as they were. A refusal leaves all of them.
+// Translates a written grammar. Marks of 64 KiB each are used again for one question after the other: three of them are all that the
+// stack holds. The file stands in the first bytes of `file`, and those behind it stay as they were. A refusal leaves all of them.
 pub fn translate(written: &[u8], file: &mut [u8]) -> Result<Translated, Refusal>
     ensures answers { Translates written.now file.old (answer_of result) file.new }
     ensures promised { Keeps (written_of written.now) (answer_of result) file.new }

@@ -21,7 +21,8 @@ pub struct RuleList {
 #[derive(Clone, Copy, PartialEq, Eq, Debug)]
 pub struct Full;
 
-// Whether rule `r` is a ::= b c.
+// Whether rule `r` is a ::= b c. A rule goes as three numbers: callers would write `Rule { left: a, first: b, second: NONE }` for
+// `a, b, NONE`, and `Rules`, where the words stand one by one, would take it apart again.
 fn is_rule(rules: &Rules, r: usize, a: usize, b: usize, c: usize) -> bool
     requires { r < max_rules }
     ensures { result ≡ equal (rule_in rules.now.words r) (spec.rule a b c) }
@@ -66,7 +67,7 @@ impl RuleList {
         Ok(())
     }
 
-    // The same where `yes` says so.
+    // The same where `yes` says so. No `if` at the callers: `given` in the specs is this step too, and its two cases are proved once.
     fn add_if(&mut self, yes: bool, a: usize, b: usize, c: usize) -> Result<(), Full>
         requires { (a < 65536) × (b < 65536) × (c < 65536) }
         ensures { Lists (listed self.old.rules) result (listed self.new.rules) (spec.given yes (spec.rule a b c ∷ [])) }

@@ -1,7 +1,6 @@
 // Marks, one for each symbol that two bytes can name.
 ghost use Rattle.std.specs.Prelude.{◌≤◌, length as length_of};
-ghost use Rattle.laws.specs.Decides.{Decides};
-ghost use Rattle.translation.specs.inner.Marks.{most_symbols, OnlyWithin, AllWithin};
+ghost use Rattle.translation.specs.inner.Marks.{OnlyWithin};
 
 // As many symbols as two bytes can name.
 pub const MOST: usize = 65536;
@@ -16,12 +15,4 @@ pub fn mark_within(marks: &mut [bool], from: usize, to: usize)
 {
     marks.fill(false);
     marks[from..to].fill(true);
-}
-
-// Whether all symbols from `from` up to `to` are marked.
-pub fn all_within(marks: &Marks, from: usize, to: usize) -> bool
-    requires { to ≤ most_symbols }
-    ensures { Decides result (AllWithin marks.now from to) }
-{
-    to <= from || !marks[from..to].contains(&false)
 }

@@ -9,7 +9,7 @@ ghost use Rattle.translation.specs.inner.Marks.{most_symbols, MarksAre, turn, wa
 use crate::marks::{MOST, Marks};
 use crate::rules::{Written, WrittenRule};
 
-// Marks the symbols on the right. Whether one was not marked yet, or `before` said so.
+// Marks the symbols on the right. Whether one was not marked yet, or `before` said so, as the specs' `marking` begins with what was marked.
 fn mark_all(rule: &WrittenRule<'_>, marks: &mut Marks, before: bool) -> bool
     ensures { turn marks.new result ≡ marking (turn marks.old before) rule.now.right }
 {

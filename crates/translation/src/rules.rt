@@ -5,7 +5,8 @@ ghost use Rattle.std.specs.Iterator.{YieldsFirst, YieldsFirstBy, item_count};
 ghost use Rattle.written.specs.Written.{WrittenRule as SpecRule};
 ghost use Rattle.written.specs.Lists.{Each};
 ghost use Rattle.translation.specs.inner.Symbols.{Narrow, LowRule};
-ghost use Rattle.written.specs.Form.{Formed, RuleStands, RulesStand, written_of, tokens_in, end_in, start_in, symbols_at, rule_at, rules_at, longest};
+ghost use Rattle.written.specs.Form.{Formed, RuleStands, RulesStand, written_of, tokens_in, end_in, start_in, longest};
+ghost use Rattle.written.specs.Form.{symbols_at, rule_at, rules_at};
 
 use crate::form;
 use crate::form::{HEAD, HEADER};

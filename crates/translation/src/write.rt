@@ -26,7 +26,15 @@ fn put_u16(file: &mut [u8], at: usize, n: usize)
     file[at..at + 2].copy_from_slice(&(n as u16).to_be_bytes());
 }
 
-// A rule in six.
+// One in four.
+fn put_u32(file: &mut [u8], at: usize, n: usize)
+    requires { (at + 4 ≤ length_of file.old) × (n < 4294967296) }
+    ensures { file.new ≡ sets file.old at (u32_bytes n) }
+{
+    file[at..at + 4].copy_from_slice(&(n as u32).to_be_bytes());
+}
+
+// A rule in six. Three numbers, as in list.rt.
 fn put_rule(file: &mut [u8], at: usize, a: usize, b: usize, c: usize)
     requires { (at + rule_bytes ≤ length_of file.old) × (a < 65536) × (b < 65536) × (c < 65536) }
     ensures { file.new ≡ sets file.old at (bytes_of_rule (spec.rule a b c)) }
@@ -36,9 +44,11 @@ fn put_rule(file: &mut [u8], at: usize, a: usize, b: usize, c: usize)
     put_u16(file, at + 4, c);
 }
 
-// The rules of one left side, in the order of the list. The place behind them.
+// The rules of one left side, in the order of the list. The place behind them is the answer: a struct of the lent bytes and a place would
+// serve this function and the next alone.
 fn put_rules_of(file: &mut [u8], at: usize, rules: &Rules, a: usize) -> usize
-    requires { (rules.now.count ≤ max_rules) × (at + length_of (flat bytes_of_rule (rules_of (listed rules.now) a)) ≤ length_of file.old) }
+    requires { (rules.now.count ≤ max_rules)
+        × (at + length_of (flat bytes_of_rule (rules_of (listed rules.now) a)) ≤ length_of file.old) }
     ensures { Puts file.old at (flat bytes_of_rule (rules_of (listed rules.now) a)) file.new result }
 {
     let mut here = at;
@@ -78,7 +88,9 @@ fn put_level(
 // The rules of the left sides from `from` up to `to`, level after level.
 fn put_levels(file: &mut [u8], at: usize, rules: &Rules, from: usize, to: usize)
     requires { (rules.now.count ≤ max_rules) × (from ≤ to) × (to ≤ max_symbols)
-        × (at + length_of (flat bytes_of_rule (blocks (listed rules.now) (ordered (to - from) (listed rules.now) (up_from from (to - from))))) ≤ length_of file.old) }
+        × (at + length_of
+        (flat bytes_of_rule (blocks (listed rules.now) (ordered (to - from) (listed rules.now) (up_from from (to - from)))))
+        ≤ length_of file.old) }
     ensures { file.new ≡ sets file.old at
         (flat bytes_of_rule (blocks (listed rules.now) (ordered (to - from) (listed rules.now) (up_from from (to - from))))) }
 {
@@ -106,10 +118,8 @@ fn put_header(file: &mut [u8], symbols: usize, tokens: usize, count: usize)
     ensures { file.new ≡ sets file.old 0
         (1 ∷ (u32_bytes (header_bytes + rule_bytes * count) ++ (u16_bytes symbols ++ (u16_bytes tokens ++ u16_bytes count)))) }
 {
-    let length = HEADER + RULE * count;
     put_version(file);
-    put_u16(file, 1, length / 65536);
-    put_u16(file, 3, length % 65536);
+    put_u32(file, 1, HEADER + RULE * count);
     put_u16(file, 5, symbols);
     put_u16(file, 7, tokens);
     put_u16(file, 9, count);
@@ -119,7 +129,8 @@ fn put_header(file: &mut [u8], symbols: usize, tokens: usize, count: usize)
 pub fn write(file: &mut [u8], rules: &Rules, tokens: usize, start: usize, wrapper: usize)
     requires { (rules.now.count < max_rules) × (tokens ≤ wrapper) × (wrapper + 2 ≤ max_symbols) × (start < 65536)
         × (header_bytes + rule_bytes * (rules.now.count + 1) ≤ length_of file.old)
-        × (length_of (blocks (listed rules.now) (ordered (wrapper - tokens) (listed rules.now) (up_from tokens (wrapper - tokens)))) ≡ rules.now.count) }
+        × (length_of (blocks (listed rules.now) (ordered (wrapper - tokens) (listed rules.now) (up_from tokens (wrapper - tokens))))
+        ≡ rules.now.count) }
     ensures { file.new ≡ sets file.old 0 (bytes_of (record {
       symbols = wrapper + 2;
       tokens = tokens;

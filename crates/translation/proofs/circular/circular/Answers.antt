@@ -7,10 +7,10 @@ loop-init c = λ low. holding_begins _ low
 
 pub loop-preserved : goal.loop-preserved
 loop-preserved c =
-    λ low. holding_on _ low _ c.requires.right c.loop.held c.led_by.new.led _ _ c.led_by.ensures.walked c.drop_others.ensures (c.loop.invariant low)
+    λ low. holding_on _ low _ c.requires.right c.loop.held _ _ _ c.drop_once.ensures.walked c.drop_once.ensures.dropped (c.loop.invariant low)
 
 pub returns : goal.returns
 returns c =
-    let low = c.led_by.ensures.low in
-    decides_circular _ low _ c.requires.right c.loop.held c.led_by.new.led _ _ _ c.led_by.ensures.walked c.drop_others.ensures
-    (c.if-not-drop_others.true) (c.loop.invariant low) (some-decided _ _ c.contains.ensures.cases)
+    let low = c.drop_once.ensures.low in
+    decides_circular _ low _ c.requires.right c.loop.held _ _ _ _ c.drop_once.ensures.walked c.drop_once.ensures.dropped
+    c.loop-test.false (c.loop.invariant low) (some-decided _ _ c.contains.ensures.cases)
