@@ -14,12 +14,28 @@ pub const WORD: usize = 64;
 // A row.
 pub type Row = [u64; WIDTH];
 
+// Whether bit `i` is set in words of 64 bits.
+pub fn bit(words: &[u64], i: usize) -> bool
+    requires { i < word_bits * length words.now }
+    ensures { result ≡ holds words.now i }
+{
+    (words[i / WORD] >> (i % WORD)) % 2 == 1
+}
+
+// Sets bit `i` in words of 64 bits.
+pub fn set_bit(words: &mut [u64], i: usize)
+    requires { i < word_bits * length words.old }
+    ensures { words.new ≡ adding words.old i }
+{
+    words[i / WORD] |= 1 << (i % WORD);
+}
+
 // Whether `symbol` is in a row.
 pub fn has(row: &Row, symbol: usize) -> bool
     requires { symbol < word_bits * row_words }
     ensures { result ≡ holds row.now symbol }
 {
-    has_at(row, 0, symbol)
+    bit(row, symbol)
 }
 
 // Whether `symbol` is in row `k` of words that hold rows one behind the other.
@@ -27,7 +43,7 @@ pub fn has_at(rows: &[u64], k: usize, symbol: usize) -> bool
     requires { (row_words * k + row_words ≤ length rows.now) × (symbol < word_bits * row_words) }
     ensures { result ≡ holds (row_of row_words rows.now k) symbol }
 {
-    (rows[WIDTH * k + symbol / WORD] >> (symbol % WORD)) % 2 == 1
+    bit(&rows[WIDTH * k..WIDTH * k + WIDTH], symbol)
 }
 
 // The row with `symbol` added.
@@ -36,7 +52,7 @@ pub fn add(row: Row, symbol: usize) -> Row
     ensures { result ≡ adding row symbol }
 {
     let mut to = row;
-    to[symbol / WORD] |= 1 << (symbol % WORD);
+    set_bit(&mut to, symbol);
     to
 }
 

@@ -9,7 +9,6 @@ ghost use Rattle.parse.specs.inner.Parts.{head_words, Unmarked, HeadsMarked, Han
 
 use crate::padding::FILLER;
 use crate::room::UNITS;
-use bits::WORD;
 
 // The words of the marks.
 pub const HEAD_WORDS: usize = 512;
@@ -22,7 +21,7 @@ fn mark(heads: &mut Heads, h: usize)
     requires { (length heads.old ≡ head_words) × (h < usable_units) }
     ensures { heads.new ≡ adding heads.old h }
 {
-    heads[h / WORD] |= 1 << (h % WORD);
+    bits::set_bit(heads, h);
 }
 
 // Whether `h` is a marked head.
@@ -30,7 +29,7 @@ fn is_marked(heads: &Heads, h: usize) -> bool
     requires { length heads.now ≡ head_words }
     ensures { result ≡ holds heads.now h }
 {
-    h < UNITS && (heads[h / WORD] >> (h % WORD)) % 2 == 1
+    h < UNITS && bits::bit(heads, h)
 }
 
 // Whether reading units from 0 comes to their end. Marks the heads that it meets, up to the end or the first 12.
