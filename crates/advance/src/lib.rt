@@ -23,7 +23,8 @@ pub mod prune;
 pub mod sort;
 pub mod unary;
 
-// The places from one up to and without another, `from` and `to`, are two numbers throughout: a `Range` is no `Copy`, and each step would clone it.
+// The places from one up to and without another, `from` and `to`, are two numbers throughout: a `Range` is no `Copy`, and each step would
+// clone it.
 
 // Steps 5 and 6: the items at the places from the state's items up to and without `to` become the latest set, behind the sets that are kept.
 fn next_set(

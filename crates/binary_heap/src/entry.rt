@@ -7,7 +7,8 @@ ghost use Rattle.binary_heap.specs.Sift.{entry_at};
 // The words that an entry takes.
 pub const ENTRY_WORDS: usize = 2;
 
-// An entry: the place of an item, and the handle of the node of the symbol behind its dot.
+// An entry: the place of an item, and the handle of the node of the symbol behind its dot. No Option for a handle that is none: an
+// entry is two words, and all ones stand for none in the second.
 #[derive(Clone, Copy, PartialEq, Eq)]
 pub struct Entry {
     pub place: u32,

@@ -36,6 +36,7 @@ pub fn all_productive(grammar: &Grammar) -> bool
 {
     let rules = &grammar.rules;
     let mut marks = mark_tokens(grammar.tokens);
+    // Rounds until one marks nothing: no count.
     loop {
         let mut marked = false;
         for r in 0..rules.count {

@@ -28,6 +28,7 @@ pub fn all_reachable(grammar: &Grammar) -> bool
     let rules = &grammar.rules;
     let mut marks = [false; SYMBOLS];
     marks[rules.first(0)] = true;
+    // Rounds until one marks nothing: no count.
     loop {
         let mut marked = false;
         for r in 0..rules.count {

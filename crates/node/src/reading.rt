@@ -76,6 +76,7 @@ pub fn walk_units(s: &[u16], p: usize) -> Walked
 {
     let mut count: usize = 0;
     let mut at = p;
+    // No count: each turn passes a whole node.
     loop {
         match read_units(s, at) {
             Ok(Some((_, behind))) => {

@@ -1,5 +1,5 @@
-// Words that are spare from a place on: whether they are, and making them so. Items, starts and the queue are words of 32 bits, rows of 64, and
-// the store is units of 16.
+// Words that are spare from a place on: whether they are, and making them so. Items, starts and the queue are words of 32 bits, rows of 64,
+// and the store is units of 16.
 ghost use Rattle.std.specs.Prelude.{◌≡◌, ℕ, true, ◌+◌, ◌≤◌, length, take};
 ghost use Rattle.std.proofs.Common.{rules};
 ghost use Rattle.laws.specs.Decides.{Decides};

@@ -78,7 +78,8 @@ fn close(seed: Table, from: usize, n: usize) -> Table
     table
 }
 
-// The prediction table of a grammar whose symbols are below `n`, whatever its number of tokens.
+// The prediction table of a grammar whose symbols are below `n`, whatever its number of tokens: so the rules and `n`, and no Grammar, which
+// has one number of tokens.
 pub fn table(rules: &Rules, n: usize) -> Table
     requires { (rules.now.count ≤ max_rules) × Within rules.now.words n rules.now.count }
     ensures { (t : ℕ) → Predicts (grammar_in rules.now.words n t rules.now.count) row_words result }

@@ -47,8 +47,8 @@ pub struct Step {
     pub behind: usize,
 }
 
-// What stands below a position: its lowest fault, or the number of its trees, or too many of them. No Result: `count` alone refuses too many,
-// `tree` tells the k-th of them all the same.
+// What stands below a position: its lowest fault, or the number of its trees, or too many of them. No Result: `count` alone refuses too
+// many, `tree` tells the k-th of them all the same.
 #[derive(Clone, Copy, PartialEq, Eq, Debug)]
 pub enum Weight {
     Fault(u16),
