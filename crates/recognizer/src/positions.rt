@@ -4,6 +4,7 @@ ghost use Rattle.earley.specs.Positions as earley;
 ghost use Rattle.recognizer.specs.inner.Reading.{Nexts, tokens_left, counted_left};
 
 // Positions that are read one by one.
+// No `Iterator`: the clauses of a run need `left`, the kinds themselves, and an iterator's ghost members have no such list.
 pub trait Positions<'a> {
     // The kinds of each that is left.
     ghost left: { Self → earley.Positions };

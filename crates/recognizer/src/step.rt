@@ -45,6 +45,7 @@ struct Reached {
 }
 
 // Steps 2 and 3: completes the latest set and each kind that is predicted, and then sum after sum.
+// Slices by themselves: so the type says that starts and rows are only read.
 fn complete_position(
     grammar: &Grammar,
     state: State,
@@ -108,7 +109,8 @@ fn give_up(items: &mut [u32], queue: &mut [u32], store: &mut [u16], stored: usiz
     unwrite(store, used);
 }
 
-// A position: steps 1 to 6, or the refusal that they meet, which leaves state and words as they were. Slices by themselves, as they are cut.
+// A position: steps 1 to 6, or the refusal that they meet, which leaves state and words as they were.
+// Slices by themselves: the borrow checker has no rule for starts and rows of a lent struct that are read while its items are lent.
 pub fn step(
     grammar: &Grammar,
     table: &Table,
@@ -141,14 +143,14 @@ pub fn step(
             return Err(Refusal::from(full));
         }
     };
-    let used = State {
+    let written = State {
         used: reached.used,
         ..state
     };
     let advanced = advance::advance(
         &grammar.rules,
         table,
-        used,
+        written,
         items,
         starts,
         rows,

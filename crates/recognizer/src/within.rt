@@ -76,6 +76,7 @@ pub fn well_formed(grammar: &Grammar, state: State, view: &View<'_>) -> bool
 }
 
 // The steps of a position in the words within the capacities. The words past them stay.
+// No struct of `grammar` and `table`: `well_formed` and `complete_position` have no table, and each call holds both as values of its own.
 pub fn step_within(
     grammar: &Grammar,
     table: &Table,
@@ -160,6 +161,7 @@ pub fn run_within<'a, P: Positions<'a> + Drop>(
 {
     let mut now = state;
     let mut taken = 0;
+    // No count: each turn takes the next position.
     while let Some(kinds) = positions.next() {
         match step_within(grammar, table, now, words, kinds) {
             Ok(next) => now = next,
@@ -179,6 +181,7 @@ pub fn run_within<'a, P: Positions<'a> + Drop>(
 }
 
 // Clears words, fills the store, and puts a row into row 0.
+// Slices by themselves: put as they are cut into a struct, of each only the length is known behind the loan, and the proof did not close.
 fn clear_all(
     row: &Row,
     items: &mut [u32],

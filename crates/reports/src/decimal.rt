@@ -1,4 +1,4 @@
-// Numbers in decimal.
+// Numbers in decimal. By hand: `io::decimal` is of u64 into 20 bytes of its own, and the library stands on no `io`.
 ghost use Rattle.std.specs.Prelude.{◌≡◌, ◌+◌, ◌≤◌, ◌<◌, length};
 ghost use Rattle.reports.specs.Decimal.{digit, decimal};
 ghost use Rattle.reports.specs.inner.Lines.{most_digits, PutAt};

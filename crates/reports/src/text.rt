@@ -58,6 +58,7 @@ fn line_length(rules: &Rules, items: &[u32], p: usize) -> usize
 }
 
 // How long the lines of the items at the places from `from` up to and without `to` are.
+// No struct of `rules`, `items`, `from` and `to`, here, below and in words.rt: the loop of each would only take it apart.
 fn text_length(rules: &Rules, items: &[u32], from: usize, to: usize) -> usize
     requires { Listable rules.now.count items.now from to }
     ensures { result ≡ length (lines_of rules.now.words rules.now.count items.now from to) }
@@ -69,7 +70,8 @@ fn text_length(rules: &Rules, items: &[u32], from: usize, to: usize) -> usize
     total
 }
 
-// Copies bytes to `at`; answers the place behind them.
+// Copies bytes to `at`; answers the place behind them. Crate programs has this too: the library stands on nothing of the programs.
+// The place behind is the answer here and below: a struct of a lent slice and a place, for two values, is no plainer.
 fn put(out: &mut [u8], at: usize, bytes: &[u8]) -> usize
     requires { at + length bytes.now ≤ length out.old }
     ensures { PutAt out.old at bytes.now result out.new }
