@@ -1,5 +1,5 @@
 -- The plain words of the latest set are its records, and records are put into a place one after the other.
-use Rattle.std.proofs.Common.{◌≡◌, refl, sym, ap, ap₂, subst, ◌∙◌, List, [], ◌∷◌, ◌++◌, ℕ, zero, suc, ◌+◌, ◌-◌, ◌*◌, ◌/◌, ◌≤◌, ◌<◌, arith, add-one, length, get_or, set, take, drop, length-append, drop-cons, take-suc}
+use Rattle.std.proofs.Common.{◌≡◌, refl, sym, ap, ap₂, subst, ◌∙◌, List, [], ◌∷◌, ◌++◌, ℕ, zero, suc, ◌+◌, ◌-◌, ◌*◌, ◌/◌, ◌≤◌, ◌<◌, arith, add-one, length, get_or, set, take, drop, length-append, drop-cons, take-suc, Err}
 use lib.Seq.{append_snoc, set_at, take-length}
 use Rattle.laws.specs.Records.{flat}
 use Rattle.laws.specs.Fills.{too_short}
@@ -13,7 +13,11 @@ use Rattle.parse.proofs.Capacities.{items-room}
 use Rattle.advance.proofs.Placed.{no_item, items-count}
 use Rattle.demands.specs.Calls.{Formed}
 use Rattle.demands.proofs.Singles.{call_some}
+use Rattle.recognizer.proofs.Answered.{number-some}
 use Rattle.reports.specs.declared.Record.{Record}
+use Rattle.reports.specs.declared.Unfilled.{Unfilled}
+use Rattle.reports.specs.declared.Unfilled.TheVariants.{TooShort, Refused}
+use Rattle.reports.specs.Answers.{filled_number, filled_count}
 use Rattle.reports.specs.Lists.{Lists, latest_items, five_words, latest_words, record_of, records_of, latest_records}
 use Rattle.reports.specs.Lists.Reported.{formed}
 use Rattle.host.specs.inner.Records.{record_words, set_words, record_at, records_in, filled, Prepared}
@@ -125,9 +129,14 @@ module _ {file : List ℕ} {s : State} {w : Words} {g : Grammar} (f : Formed fil
       (subst (λ (k : ℕ). Lists file s w latest_records place 0 k (latest_records g s (within w) ++ drop k place)) a_fifth
       (done (formed f) (omega (arith, a_fifth))))
 
+-- A report that is not written has a number.
+unwritten : (why : Unfilled) → filled_number (Err why) ≡ 0 → ⊥
+unwritten (TooShort needed) z = absurd (omega (arith, z))
+unwritten (Refused why) z = number-some why z
+
 module _ {file : List ℕ} {s : State} {w : Words} (room : ℕ) where
   by_refused : {place : List ℕ} {number count : ℕ} {words : List ℕ} → Lists file s w latest_words place number count words
-      → length place ≡ set_words → (number ≡ 0 → ⊥) → Prepared file s w room number 0 (count / record_words) words
+      → length place ≡ set_words → (number ≡ 0 → ⊥) → Prepared file s w room number 0 count words
   unfolding records_in
   by_refused (refused f) long n = record { enough = omega arith; within = omega arith; tells = λ records e. refused f }
   by_refused (short (formed f) l) long n = absurd (omega (arith, few_words f))
@@ -154,21 +163,18 @@ module _ {file : List ℕ} {s : State} {w : Words} (room : ℕ) where
     tells = λ records e. done_tells f (drop (length (words_told f)) place) records (omega arith);
   }
 
-  module _ {place : List ℕ} {n m number count : ℕ} {words : List ℕ} (told : Lists file s w latest_words place n m words) (is_number : number ≡ n)
-      (is-count : count ≡ m) where
-    as_told : Lists file s w latest_words place number count words
-    as_told =
-        subst (λ (k : ℕ). Lists file s w latest_words place k count words) (sym is_number)
-        (subst (λ (k : ℕ). Lists file s w latest_words place n k words) (sym is-count) told)
+  -- The words are refused: nothing is to be filled.
+  pub refused_prepared : {place : List ℕ} {words : List ℕ} (why : Unfilled)
+      → Lists file s w latest_words place (filled_number (Err why)) (filled_count (Err why)) words → length place ≡ set_words
+      → Prepared file s w room (filled_number (Err why)) 0 (filled_count (Err why)) words
+  refused_prepared why told long = by_refused told long (unwritten why)
 
-    -- The words are refused: nothing is to be filled.
-    pub refused_prepared : length place ≡ set_words → (number ≡ 0 → ⊥) → Prepared file s w room number 0 (count / record_words) words
-    refused_prepared = by_refused as_told
+  -- The words are told, and there are fewer places than records.
+  pub short_prepared : {place : List ℕ} {words : List ℕ} {n : ℕ} → Lists file s w latest_words place 0 n words → room < n / record_words
+      → Prepared file s w room too_short 0 (n / record_words) words
+  short_prepared told few = by_short told refl few
 
-    -- The words are told, and there are fewer places than records.
-    pub short_prepared : number ≡ 0 → room < count / record_words → Prepared file s w room too_short 0 (count / record_words) words
-    short_prepared = by_short as_told
-
-    -- The words are told, and there are as many places.
-    pub done_prepared : number ≡ 0 → count / record_words ≤ room → Prepared file s w room 0 (count / record_words) (count / record_words) words
-    done_prepared = by_done as_told
+  -- The words are told, and there are as many places.
+  pub done_prepared : {place : List ℕ} {words : List ℕ} {n : ℕ} → Lists file s w latest_words place 0 n words → n / record_words ≤ room
+      → Prepared file s w room 0 (n / record_words) (n / record_words) words
+  done_prepared told enough = by_done told refl enough

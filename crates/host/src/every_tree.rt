@@ -6,7 +6,7 @@ ghost use Rattle.host.specs.Trees.{number_in, values_in, trees_or, place_or, cou
 use crate::parse_words::TOO_SHORT;
 use trees::{Uncounted, Untold};
 
-// The numbers of the refusals.
+// The numbers of the refusals, as the C interface has them.
 const NO_NODE: u32 = 12;
 
 const TOO_MANY_TREES: u32 = 23;

@@ -1,6 +1,7 @@
 // The calls for hosts in C and Rust: numbers and slices, answers by document 01's numbers. A slice is a pointer and a length. The state
 // of a parse is three words of the host, the set number, the item count and the number of used units. include/brinesaddle.h describes each
-// call for a host. The words of a parse are five slices and three numbers in each call, as the C interface has them.
+// call for a host. The words of a parse are five slices and three numbers in each call, as the C interface has them. Calls of one shape stay
+// apart: each is a name of the C interface.
 #![tactic(auto)]
 
 ghost use Rattle.std.specs.Prelude.{◌≡◌, [], ◌∷◌, take};
@@ -402,20 +403,17 @@ pub fn brinesaddle_latest_records(
         store,
     };
     let mut words = [0; SET_WORDS];
-    match prepare(
+    let prepared = prepare(
         file,
         state(set, held, used),
         &view,
         records.len(),
         &mut words,
-        count,
-    ) {
-        Ok(n) => {
-            fill(&words, n, records);
-            0
-        }
-        Err(number) => number,
+    );
+    if let Ok(n) = prepared {
+        fill(&words, n, records);
     }
+    tell_count(prepared, count)
 }
 
 // Writes a node at p. The node is five numbers: its kind, and its values.

@@ -84,7 +84,7 @@ pub fn tell_run(
     ran.stopped.map_or(0, |why| why.number())
 }
 
-// The handle where there is none.
+// The handle where there is none, as the C interface has it.
 const NO_HANDLE: u32 = 0xFFFF_FFFF;
 
 // Puts what finished says into the host's words, and answers its number.
@@ -112,7 +112,7 @@ pub fn tell_whether(whether: Result<Option<u32>, Refusal>, yes: &mut u32, handle
     }
 }
 
-// The number of a place that is too short.
+// The number of a place that is too short, as the C interface has it.
 pub const TOO_SHORT: u32 = 13;
 
 // Puts the count of a report into the host's word, and answers its number.

@@ -6,7 +6,7 @@ ghost use Rattle.host.specs.PlainEngine.{yes_or, PlainIn};
 use crate::parse_words::TOO_SHORT;
 use plain::{Refusal, Told};
 
-// The number of a refusal.
+// The number of a refusal, as the C interface has it.
 fn refusal_number(why: Refusal) -> u32
     ensures { result ≡ refusal_number why }
 {

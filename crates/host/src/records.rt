@@ -1,11 +1,11 @@
 // The latest set as records, out of its plain words.
 ghost use Rattle.std.specs.Prelude.{◌≡◌, ◌+◌, ◌*◌, ◌≤◌, length};
 ghost use Rattle.parse.specs.Words.{seen};
-ghost use Rattle.host.specs.inner.Records.{record_words, set_words, record_at, filled, refused_by, left_of, Fillable, Prepared};
+ghost use Rattle.reports.specs.Answers.{filled_number, filled_count};
+ghost use Rattle.host.specs.inner.Records.{record_words, set_words, record_at, filled, left_of, Fillable, Prepared};
 
-use crate::parse_words::{TOO_SHORT, tell_count};
 use parse::{State, View};
-use reports::Record;
+use reports::{Record, Unfilled};
 
 // The words of a record.
 pub const RECORD_WORDS: usize = 5;
@@ -38,28 +38,21 @@ pub fn fill(words: &[u32], n: usize, records: &mut [Record])
     }
 }
 
-// All of a report of records but the filling: the plain words, and the count, for a place of `room` records. Answers how many to fill, or
-// the number of a refusal.
+// All of a report of records but the filling: the plain words, for a place of `room` records. Answers how many to fill.
 pub fn prepare(
     file: &[u8],
     state: State,
     view: &View<'_>,
     room: usize,
     words: &mut [u32],
-    count: &mut usize,
-) -> Result<usize, u32>
+) -> Result<usize, Unfilled>
     requires { length words.old ≡ set_words }
-    ensures { Prepared file.now state (seen view.now) room (refused_by result) (left_of result) count.new words.new }
+    ensures { Prepared file.now state (seen view.now) room (filled_number result) (left_of result)
+        (filled_count result) words.new }
 {
-    let mut told = 0;
-    let number = tell_count(reports::latest_words(file, state, view, words), &mut told);
-    let records = told / RECORD_WORDS;
-    *count = records;
-    if number != 0 {
-        return Err(number);
-    }
+    let records = reports::latest_words(file, state, view, words)? / RECORD_WORDS;
     if room < records {
-        return Err(TOO_SHORT);
+        return Err(Unfilled::TooShort(records));
     }
     Ok(records)
 }

@@ -3,6 +3,7 @@ use Rattle.std.specs.Prelude.{◌≡◌, List, [], ◌∷◌, ◌++◌, ℕ, zer
 use Rattle.parse.specs.declared.State.{State}
 use Rattle.parse.specs.Words.{Words, max_items}
 use Rattle.reports.specs.declared.Record.{Record}
+use Rattle.reports.specs.declared.Unfilled.{Unfilled}
 use Rattle.reports.specs.Lists.{Lists, latest_records}
 
 -- The words of a record, and of as many records as a set has at most.
@@ -32,14 +33,10 @@ records_in words (suc n) = records_in words n ++ (record_at words n ∷ [])
 abbrev pub filled : List ℕ → ℕ → List Record → List Record
 filled words n place = records_in words n ++ drop n place
 
--- What is left to do: the number to answer, and how many records to fill.
-abbrev pub refused_by : Result ℕ ℕ → ℕ
-refused_by (Ok n) = 0
-refused_by (Err number) = number
-
-abbrev pub left_of : Result ℕ ℕ → ℕ
+-- What is left to do: how many records to fill.
+abbrev pub left_of : Result ℕ Unfilled → ℕ
 left_of (Ok n) = n
-left_of (Err number) = 0
+left_of (Err why) = 0
 
 -- There are words for `n` records, and places.
 pub record Fillable (n : ℕ) (words : List ℕ) (place : List Record) : Type 0 where
