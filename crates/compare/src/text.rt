@@ -15,6 +15,9 @@ const DISAGREEMENT: [u8; 13] = *b"disagreement ";
 
 const TOKENS: [u8; 7] = *b"tokens ";
 
+// The number of too many tokens, as the C interface has it.
+const TOO_MANY: usize = 22;
+
 // The lines that have no number.
 const NONE: [u8; 18] = *b"disagreement none\n";
 
@@ -22,7 +25,8 @@ const MAIN_YES: [u8; 18] = *b"main yes\nplain no\n";
 
 const PLAIN_YES: [u8; 18] = *b"main no\nplain yes\n";
 
-// The lines on the engine that says yes where they part, on the beginning of so many tokens.
+// The lines on the engine that says yes where they part, on the beginning of so many tokens, at `at`; answers the place behind them, as
+// `programs::text::put` does.
 fn put_parting(out: &mut [u8], at: usize, tokens: usize, parting: Option<Engine>) -> usize
     requires { at + parting_room ≤ length out.old }
     ensures place { result ≤ at + parting_room }
@@ -56,5 +60,5 @@ pub fn too_many(out: &mut [u8]) -> usize
     ensures place { IsPrefixLen result out.new }
     ensures text { Line [] tokens_head 22 (take result out.new) }
 {
-    put_line(out, 0, &TOKENS, 22)
+    put_line(out, 0, &TOKENS, TOO_MANY)
 }

@@ -16,7 +16,7 @@ const YES: [u8; 13] = *b"finished yes\n";
 
 const NO: [u8; 12] = *b"finished no\n";
 
-// The line on a sentence.
+// The line on a sentence, at `at`; answers the place behind it, as `programs::text::put` does.
 fn put_finished(out: &mut [u8], at: usize, yes: bool) -> usize
     requires { at + 13 ≤ length out.old }
     ensures place { result ≤ at + 13 }

@@ -60,6 +60,7 @@ pub fn read_tokens<R: Read>(from: &mut R, file: &[u8], state: State, words: &mut
 {
     let mut now = state;
     let mut taken = 0;
+    // Backwards: what the loop keeps is told by how many parts are left.
     for _ in (0..PARTS).rev() {
         let ran = read_part(from, file, now, words);
         let more = ran.taken;

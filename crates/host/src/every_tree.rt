@@ -3,12 +3,11 @@ ghost use Rattle.std.specs.Prelude.{◌≡◌};
 ghost use Rattle.trees.specs.Answers.{counted, told};
 ghost use Rattle.host.specs.Trees.{number_in, values_in, trees_or, place_or, count_in, CountsIn, TellsIn};
 
+use crate::nodes::NO_NODE;
 use crate::parse_words::TOO_SHORT;
 use trees::{Uncounted, Untold};
 
 // The numbers of the refusals, as the C interface has them.
-const NO_NODE: u32 = 12;
-
 const TOO_MANY_TREES: u32 = 23;
 
 const NO_SUCH_TREE: u32 = 24;

@@ -28,7 +28,7 @@ pub mod plain_engine;
 mod records;
 mod translating;
 
-use crate::nodes::{node_of, numbers_of};
+use crate::nodes::{END, NO_NODE, NO_ROOM, UNFIT, node_of, numbers_of};
 use crate::parse_words::{state, tell, tell_count, tell_run, tell_whether, wide_token};
 use crate::records::{SET_WORDS, fill, prepare};
 use crate::translating::tell_translated;
@@ -434,7 +434,7 @@ pub fn brinesaddle_node_write(
 {
     let Some(n) = node_of(node) else {
         *place = p;
-        return 10;
+        return UNFIT;
     };
     match node::write(store, p, n) {
         Ok(q) => {
@@ -443,11 +443,11 @@ pub fn brinesaddle_node_write(
         }
         Err(Unwritten::Unfit(asked)) => {
             *place = asked;
-            10
+            UNFIT
         }
         Err(Unwritten::NoRoom(asked)) => {
             *place = asked;
-            11
+            NO_ROOM
         }
     }
 }
@@ -473,12 +473,12 @@ pub fn brinesaddle_node_read(
             0
         }
         Ok(None) => {
-            *node = [4, 0, 0, 0, 0];
+            *node = [END, 0, 0, 0, 0];
             0
         }
         Err(NoNode(unit)) => {
             *place = unit;
-            12
+            NO_NODE
         }
     }
 }
@@ -504,7 +504,7 @@ pub fn brinesaddle_node_walk(
         None => 0,
         Some(unit) => {
             *place = unit;
-            12
+            NO_NODE
         }
     }
 }

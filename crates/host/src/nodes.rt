@@ -4,7 +4,7 @@ ghost use Rattle.host.specs.Nodes.{told_by, factor_by, numbers_of};
 
 use node::Node;
 
-// The kinds of a node are numbers in the C interface. The end is 4.
+// The kinds of a node are numbers in the C interface.
 const SUM: u32 = 0;
 
 const PRODUCT: u32 = 1;
@@ -12,6 +12,16 @@ const PRODUCT: u32 = 1;
 const NULLING_LEAF: u32 = 2;
 
 const EVALUATED: u32 = 3;
+
+// What stands in the place of a kind where the store ends.
+pub const END: u32 = 4;
+
+// The numbers of the refusals, as the C interface has them.
+pub const UNFIT: u32 = 10;
+
+pub const NO_ROOM: u32 = 11;
+
+pub const NO_NODE: u32 = 12;
 
 // The node that five numbers tell; none where the first is no kind of a node.
 #[tactic(auto, unfolding(crate::specs::Nodes::told_by))]

@@ -25,7 +25,8 @@ fn splits(table: &[u64], n: usize, l: usize, i: usize, b: usize, c: usize) -> bo
     false
 }
 
-// Whether the right side of rule `r` derives the stretch, by what the table holds.
+// Whether the right side of rule `r` derives the stretch, by what the table holds. A stretch is three numbers by themselves: each cut makes
+// two others of the same `n`, so that a struct of the three would be made twice in each turn of `splits`.
 fn fires(rules: &Rules, r: usize, table: &[u64], n: usize, l: usize, i: usize) -> bool
     requires { Narrow rules.now.words r × Room n table.now × Stretch n l i }
     ensures { Decides result (Fires rules.now.words table.now n l i r) }

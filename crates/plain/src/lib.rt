@@ -28,6 +28,7 @@ pub enum Refusal {
     TooShort(usize),
 }
 
+// The main engine's refusal has this too: this engine shares nothing but `grammar` with it.
 impl From<Fault> for Refusal {
     ghost from_gives = { λ fault why. why ≡ of_fault fault };
 

@@ -11,7 +11,8 @@ const GRAMMAR: [u8; 8] = *b"grammar ";
 // Room for every text of a program: the heads, and three numbers of up to twenty digits with their line ends.
 pub const ROOM: usize = 128;
 
-// Copies bytes to `at`; answers the place behind them.
+// Copies bytes to `at`; answers the place behind them. (A struct of lent bytes and a place, for two values, would be no plainer.)
+// Crate reports has this too: it is of the library, which stands on no crate of the programs.
 pub fn put(out: &mut [u8], at: usize, bytes: &[u8]) -> usize
     requires { at + length bytes.now ≤ length out.old }
     ensures place { result ≡ at + length bytes.now }

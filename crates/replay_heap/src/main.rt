@@ -154,6 +154,7 @@ fn step(text: &[u8], items: &[u32], queue: &mut [u32], r: Replay) -> Replay
     ensures { Places items.now (entries_in queue.new) result.entries }
 {
     let operation = numbers::read(text, r.operation);
+    // 0 is a push in the recorded text.
     if operation.value != 0 {
         return pop(text, items, queue, r, operation.next);
     }
@@ -214,7 +215,7 @@ fn differs(entry: Entry, recorded: u64) -> bool {
     entry.right != factor(entry.place) || u64::from(entry.place) != recorded
 }
 
-// The low 32 bits.
+// The low 32 bits. `as` has to lose nothing, so the remainder is taken before it.
 fn low(value: u64) -> u32 {
     (value % 4_294_967_296) as u32
 }

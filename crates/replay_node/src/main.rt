@@ -37,6 +37,7 @@ enum Request {
     Show(u32),
 }
 
+// The halves of a position. `as` has to lose nothing, so the remainder and the quotient are taken before it.
 fn low(x: usize) -> u32 {
     (x % 0x1_0000_0000) as u32
 }
@@ -49,7 +50,8 @@ fn position(low: u32, high: u32) -> usize {
     high as usize * 0x1_0000_0000 + low as usize
 }
 
-// The node of a kind: its words, whether a right factor is present, and it.
+// The node of a kind: its words, whether a right factor is present, and it. Crate host has this and its converse too: a program that
+// replays shares nothing with it but `node`.
 fn node_of(kind: u32, first: u32, second: u32, present: u32, right: u32) -> Node {
     match kind {
         0 => Node::Sum {

@@ -8,7 +8,7 @@ pub const LINE: usize = 72;
 
 const DIGITS: [u8; 16] = *b"0123456789abcdef";
 
-// Of a byte that is no digit, 0.
+// Of a byte that is no digit, 0: by hand, since the library takes no such byte.
 fn digit(b: u8) -> u32 {
     match b {
         b'0'..=b'9' => (b - b'0') as u32,
@@ -28,7 +28,7 @@ pub fn words_of(line: &[u8; LINE]) -> [u32; WORDS] {
     words
 }
 
-// The line of words.
+// The line of words: by hand, so that it is one slice and one write.
 pub fn line_of(words: [u32; WORDS]) -> [u8; LINE] {
     let mut line = [b' '; LINE];
     for k in 0..WORDS {
