@@ -1,7 +1,7 @@
 // The calls for hosts in C and Rust: numbers and slices, answers by document 01's numbers. A slice is a pointer and a length. The state
 // of a parse is three words of the host, the set number, the item count and the number of used units. include/brinesaddle.h describes each
-// call for a host. The words of a parse are five slices and three numbers in each call, as the C interface has them. Calls of one shape stay
-// apart: each is a name of the C interface.
+// call for a host. The words of a parse are five slices and three numbers in each call, as the C interface has them. Calls of one shape
+// stay apart: each is a name of the C interface.
 #![tactic(auto)]
 
 ghost use Rattle.std.specs.Prelude.{◌≡◌, [], ◌∷◌, take};

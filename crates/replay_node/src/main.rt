@@ -166,8 +166,8 @@ fn tell(rt: &impl Print, words: [u32; WORDS]) -> io::Result<()> {
     rt.write_all(&line_of(words))
 }
 
-// Answers one request on the first `count` units, and how many units the store has from then on. Where these are more than there are, it has all
-// that there are from then on, and the request is passed over.
+// Answers one request on the first `count` units, and how many units the store has from then on. Where these are more than there are, it
+// has all that there are from then on, and the request is passed over.
 fn answer(rt: &impl Print, store: &mut [u16], count: usize, request: Request) -> io::Result<usize> {
     if store.len() < count {
         return Ok(store.len());
