@@ -73,7 +73,7 @@ fn complete_position(
         queued: 0,
         used: state.used,
     };
-    // No `?` while the pass is there: behind such an exit nothing would be known of the slices that it was lent.
+    // Neither `?` nor `map` here: they were tried, and behind such an exit nothing is known of the slices that the pass was lent.
     let completed = match pass.scan_all(kinds, state.set) {
         Ok(()) => pass.complete_all_sums_entirely(),
         Err(full) => Err(full),
