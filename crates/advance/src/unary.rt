@@ -13,6 +13,7 @@ use item::ITEM_WORDS;
 use parse::padding::clear;
 
 // The place behind the last of sorted items that has a second.
+// `from` and `to` are two numbers here too, as in sort.rt.
 fn binary_end(rules: &Rules, items: &[u32], from: usize, to: usize) -> usize
     requires { Stored rules.now.count items.now from to × NeverFalls (rules_of rules.now)
         (items_from items.now from (to - from)) }

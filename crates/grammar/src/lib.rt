@@ -66,6 +66,7 @@ fn accepted(grammar: &Grammar) -> bool
 }
 
 // The check of any bytes. The rules of an accepted file are left in `grammar`, linked, so that no call decodes its file again.
+// Lent, and no value of the answer: the clause `decoded` says of a refusal that the lent grammar stays as it was.
 pub fn read(file: &[u8], grammar: &mut Grammar) -> Result<(), Fault>
     ensures verdict { Verdict file.now (number_of result) }
     ensures decoded { Decodes file.now (number_of result) grammar.old grammar.new }

@@ -7,6 +7,7 @@ ghost use Rattle.grammar.specs.inner.Checking.{Same, EqualPair};
 use crate::rules::Rules;
 
 // Whether the rules `q` and `r` are equal.
+// By hand, word by word: `==` of the two rules' slices would need to say where in the words they lie, and be no plainer.
 fn same(rules: &Rules, q: usize, r: usize) -> bool
     requires { (q < max_rules) × (r < max_rules) }
     ensures { Decides result (Same rules.now.words q r) }

@@ -69,6 +69,7 @@ impl Rules {
     }
 
     // One rule more, behind the others.
+    // Three numbers and no struct: the words stand one by one, and both callers have the three by themselves.
     pub fn push(&mut self, left: usize, first: usize, second: usize)
         requires { (self.old.count < max_rules) × (length self.old.words ≡ all_words)
             × (left < 65536) × (first < 65536) × (second < 65536) }

@@ -70,6 +70,7 @@ fn unfit_factor(p: usize, factor: u32) -> bool
     p <= factor as usize
 }
 
+// A `match`, as the specs have it: `is_some_and` would put the same test into a closure, and be no plainer.
 #[tactic(auto, unfolding(crate::specs::Rows::unfit_right))]
 fn unfit_right(p: usize, right: Option<u32>) -> bool
     ensures { result ≡ U.unfit_right p right }
@@ -80,6 +81,7 @@ fn unfit_right(p: usize, right: Option<u32>) -> bool
     }
 }
 
+// The fields of a Product by themselves, here and below: an enum's variant is no type, so that no parameter can be a Product.
 #[tactic(auto, unfolding(crate::specs::Rows::unfit_product))]
 fn unfit_product(p: usize, action: u32, left: u32, right: Option<u32>) -> bool
     ensures { result ≡ U.unfit_product p action left right }
@@ -116,7 +118,7 @@ fn sum_row(count: u32, nonterminal: u32) -> Units
     Units::new(&[head, low(count), low(nonterminal), high(nonterminal)])
 }
 
-// Other Product: its right factor as it stands, NO_FACTOR for none.
+// Other Product: its right factor as it stands, NO_FACTOR for none. No Option: both callers have the word, and the specs take it.
 #[tactic(auto, unfolding(crate::specs::Rows::long_product))]
 fn long_product(action: u32, left: u32, right: u32) -> Units
     requires { action < U.action_limit }

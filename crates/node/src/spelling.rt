@@ -37,6 +37,7 @@ fn factor(q: usize, distance: usize) -> Option<u32>
     }
 }
 
+// A `match` by the specs' two cases, which `unfolding` names; `left?` inside the struct would hide that there may be no node.
 #[tactic(auto, unfolding(crate::specs::Reading::alone))]
 fn alone(action: u32, left: Option<u32>) -> Option<Node>
     ensures { result ≡ R.alone action left }

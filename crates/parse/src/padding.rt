@@ -7,7 +7,7 @@ ghost use Rattle.node.specs.Reading.{filler};
 ghost use Rattle.parse.specs.Words.{topped};
 ghost use Rattle.parse.specs.inner.Parts.{block_words, Spare, SpareBetween};
 
-// The unit that stands for none.
+// The unit that stands for none. Crate node has it too: the contracts hold both to the specs' one `filler`.
 pub const FILLER: u16 = 0xFFFF;
 
 // Spare words are looked at by blocks, without a way out of the middle of one, so that a processor can look at many words at a time.

@@ -13,6 +13,7 @@ pub const SETS: usize = 1024;
 
 pub const QUEUED: usize = 1024;
 
+// Crate node has this number too: the contracts hold both to the specs' one `usable_units`.
 pub const UNITS: usize = 32768;
 
 // I, the room for items.

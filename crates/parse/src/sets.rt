@@ -43,6 +43,7 @@ fn item_fits(rules: &Rules, items: &[u32], k: usize, p: usize) -> bool
 }
 
 // Whether the items at the places from `from` up to `to` may all be items of set `k`.
+// `from` and `to` are two numbers: a struct of the two would be made in `sets_fit` alone, and taken apart in `all_fit` and `rises`.
 fn all_fit(rules: &Rules, items: &[u32], k: usize, from: usize, to: usize) -> bool
     requires { (rules.now.count ≤ max_rules) × (item_words * to ≤ length items.now) }
     ensures { Decides result (AllFit (rules_of rules.now) items.now k from to) }

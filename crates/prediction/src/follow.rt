@@ -12,6 +12,7 @@ use grammar::limits::SYMBOLS;
 use grammar::rules::{NONE, Rules};
 
 // For each rule of two symbols, in the first one's row what the second begins with.
+// `n` bounds the symbols in what is asked, as in `table`, and stands by itself as there.
 fn beside(rules: &Rules, begins: &Table, n: usize) -> Table
     requires { (rules.now.count ≤ max_rules) × AllWithin rules.now.words n rules.now.count × Shape row_words begins.now }
     ensures { Tells row_words (Beside rules.now.words begins.now rules.now.count) result }

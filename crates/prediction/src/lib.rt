@@ -49,6 +49,7 @@ fn seed<F: Fn(usize) -> usize, T: Fn(usize) -> usize>(
 }
 
 // The lowest left side of a rule, or `n`. A symbol below it leads to itself alone, as every token does.
+// The rules and `n` by themselves, as in `table`.
 fn lowest_left(rules: &Rules, n: usize) -> usize
     requires { rules.now.count ≤ max_rules }
     ensures { NotAbove rules.now.words rules.now.count result }

@@ -56,6 +56,7 @@ impl Refusal {
     }
 }
 
+// Crate plain's refusal has this too: that engine shares nothing but `grammar` with this one.
 impl From<Fault> for Refusal {
     ghost from_gives = { λ fault why. why ≡ fault_refusal fault };
 

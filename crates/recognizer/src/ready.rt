@@ -8,6 +8,7 @@ use grammar::Grammar;
 use parse::{State, View};
 
 // Checks a file, and a state in the words within the capacities; leaves an accepted file's grammar in `grammar`.
+// `grammar` is lent as in `grammar::read`.
 pub fn ready(
     file: &[u8],
     state: State,

@@ -28,7 +28,7 @@ pub fn words_of(line: &[u8; LINE]) -> [u32; WORDS] {
     words
 }
 
-// The line of words: by hand, so that it is one slice and one write.
+// The line of words by hand: the digits go to fixed places of one slice, where `{:08x}` would print a word at a time.
 pub fn line_of(words: [u32; WORDS]) -> [u8; LINE] {
     let mut line = [b' '; LINE];
     for k in 0..WORDS {

@@ -23,7 +23,7 @@ fn ascii(value: usize) -> u8
     b'0' + value as u8
 }
 
-// Puts `n` at `at`: the tens, if there are any, and behind them the last digit. Answers the place behind it.
+// Puts `n` at `at`: the tens, if there are any, and behind them the last digit. Answers the place behind it, as `put` of text.rt does.
 pub fn put_decimal(out: &mut [u8], at: usize, n: usize) -> usize
     requires { at + length (decimal n) ≤ length out.old }
     ensures { PutAt out.old at (decimal n) result out.new }

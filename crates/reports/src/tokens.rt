@@ -13,6 +13,7 @@ fn count_held(rows: &[u64], e: usize, end: usize) -> usize
     ensures { result ≡ length (held_below (row_of row_words rows.now e) end) }
 {
     let mut count = 0;
+    // A loop like that of `write_held`, so that what is counted here is seen to be what is written there.
     for t in 0..end {
         if !bits::has_at(rows, e, t) {
             continue;

@@ -6,7 +6,7 @@ ghost use Rattle.trees.specs.inner.Heads.{head_of, head_at, step_of, step_at};
 use crate::{Head, Step};
 use node::{Node, read};
 
-// The unit that reading skips. No head is one.
+// The unit that reading skips. No head is one. Crate node has it too: the contracts hold both to the specs' one `filler`.
 const FILLER: u16 = 0xFFFF;
 
 // Whether a filler is at p.
@@ -34,6 +34,7 @@ pub fn head(store: &[u16], p: usize) -> Option<Head>
     if filler_at(store, p) {
         return None;
     }
+    // Three answers, three arms: behind the end and at a fault nothing stands.
     match read(store, p) {
         Ok(Some((node, behind))) => head_of(node, behind),
         Ok(None) => None,
@@ -63,6 +64,7 @@ fn step_of(node: Node, behind: usize) -> Option<Step>
 pub fn step(store: &[u16], p: usize) -> Option<Step>
     ensures { result ≡ step_at store.now p }
 {
+    // The same three.
     match read(store, p) {
         Ok(Some((node, behind))) => step_of(node, behind),
         Ok(None) => None,

@@ -10,7 +10,7 @@ ghost use Rattle.trees.specs.inner.Tables as T;
 use crate::reading::{head, step};
 use crate::{Head, Weight};
 
-// The usable units of a store.
+// The usable units of a store. Crate node has the number too: the specs have it once, as `usable_units`.
 pub const UNITS: usize = 32768;
 
 // What the table tells of a position: that neither Sum nor Evaluated is there, a fault, a number of trees, or too many of them.

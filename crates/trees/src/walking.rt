@@ -23,6 +23,7 @@ fn choice_in(table: &Table, s: usize, action: u32, left: u32, right: Option<u32>
 }
 
 // The Product of the k-th tree of the Sum at s, whose Products, so many, are read from `from` on.
+// No struct of `store` and `table`, here and in telling.rt: `head` and `step` take the one, `Table`'s methods the other.
 fn choose(store: &[u16], table: &Table, s: usize, k: u64, from: usize, count: u32) -> Choice
     requires { W.Choosing store.now table.now s k from count }
     ensures { W.Picks store.now table.now s k result }
@@ -31,6 +32,7 @@ fn choose(store: &[u16], table: &Table, s: usize, k: u64, from: usize, count: u3
     let mut rest = k;
     for turn in 0..count {
         let Some(product) = step(store, at) else {
+            // `Word(0)` here, behind the loop and in `chosen` is never the answer: `Choosing` and `Walks` say that there is a k-th tree.
             return Choice::Word(0);
         };
         let weight = table.product(s, product.left, product.right);
