@@ -3,9 +3,6 @@ use Rattle.std.proofs.Common.{ap, ◌∙◌, arith, ◌-◌, length, take, drop,
 use Rattle.parse.proofs.Padded.{ends_topped, topping}
 use Rattle.parse.proofs.padding.clear.Goals as goal
 
-pub fill-requires : goal.fill-requires
-fill-requires g c = g.met.W.Word.infallible _
-
 pub returns-then-from-to : goal.returns-then-from-to
 returns-then-from-to g c =
     topping g.W.Word.SPARE _ _ _ _ (omega (arith, c.if-from-to.true)) c.requires.1 c.requires.2.each

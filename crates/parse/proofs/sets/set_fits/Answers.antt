@@ -1,11 +1,8 @@
 -- `sets::set_fits` meets its contract: the items fit, and then rise.
 use Rattle.parse.specs.inner.Parts.{SetFits}
 use Rattle.parse.proofs.Fitting.{fit_among, among_more}
-use Rattle.laws.proofs.Decides.{known_no, decides_map}
+use Rattle.laws.proofs.Decides.{decides_map}
 use Rattle.parse.proofs.sets.set_fits.Goals as goal
-
-pub returns-else-all_fit : goal.returns-else-all_fit
-returns-else-all_fit c = known_no c.if-all_fit.false (λ (h : SetFits _ _ _ _ _). c.all_fit.ensures.if_no c.if-all_fit.false h.fit)
 
 pub rises-requires : goal.rises-requires
 rises-requires c =
