@@ -33,19 +33,6 @@ returns-then-not-last_wraps-clause-sentences c =
     let formed = readied_formed _ _ _ _ c.ready.ensures c.in_ok-ready.was in
     (finished_means (finishes_no _ c.args.state (seen c.args.view.now) formed _ c.last_wraps.ensures c.if-not-last_wraps.true)).1
 
-pub overflow_sub-last : goal.overflow_sub-last
-overflow_sub-last c =
-    let formed = readied_formed _ _ _ _ c.ready.ensures c.in_ok-ready.was in
-    let some_item = finishes_item _ c.args.state (seen c.args.view.now) formed _ c.last_wraps.ensures c.if-not-last_wraps.false in
-    omega (arith, some_item)
-
-pub handle-requires : goal.handle-requires
-handle-requires c =
-    let formed = readied_formed _ _ _ _ c.ready.ensures c.in_ok-ready.was in
-    let w = seen c.args.view.now in
-    let some_item = finishes_item _ c.args.state w formed _ c.last_wraps.ensures c.if-not-last_wraps.false in
-    omega (arith, some_item, (latest_there _ _ c.args.state w formed.well_formed).items_there)
-
 pub returns-clause-calls : goal.returns-clause-calls
 returns-clause-calls c =
     let formed = readied_formed _ _ _ _ c.ready.ensures c.in_ok-ready.was in

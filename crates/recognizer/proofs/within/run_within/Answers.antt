@@ -4,12 +4,6 @@ use lib.ListN.{length}
 use Rattle.recognizer.proofs.Turning.{kept_on, going_first, going_on, going_off, going_end}
 use Rattle.recognizer.proofs.within.run_within.Goals as goal
 
-pub loop-kinds-init : goal.loop-kinds-init
-loop-kinds-init g c = ((refl, refl, refl, refl, refl), record { counted = omega arith; going = going_first _ c.requires.0 })
-
-pub step_within-requires : goal.step_within-requires
-step_within-requires g c = (c.loop-kinds.invariant.1.going.steppable, c.requires.2)
-
 pub returns-in-Err-clause-runs : goal.returns-in-Err-clause-runs
 returns-in-Err-clause-runs g c = going_off c.loop-kinds.invariant.1.going c.in-Some.ensures c.step_within.ensures.steps c.in-Err.is
 

@@ -1,1 +1,0 @@
--- `recognizer::within::well_formed` meets its contract: what is told of the cut words is told of those within the capacities.
