@@ -1,10 +1,9 @@
 -- `recognizer::finished` meets its contract.
-use native.Mathlib.Omega.{arith}
 use Rattle.std.proofs.lemmas.Result.{err_from_is_err_and}
 use Rattle.parse.specs.Words.{seen}
 use Rattle.demands.specs.Calls.{Finishes}
 use Rattle.demands.proofs.Telling.{finished_means}
-use Rattle.recognizer.proofs.Readying.{readied_fault, readied_formed, finishes_no, finishes_item, finishes-yes}
+use Rattle.recognizer.proofs.Readying.{readied_fault, readied_formed, finishes_no, finishes-yes}
 use Rattle.recognizer.proofs.Cutting.{latest_there}
 use Rattle.recognizer.proofs.finished.Goals as goal
 

@@ -7,7 +7,7 @@ use Rattle.laws.specs.Fills.{Fills}
 use Rattle.parse.specs.Words.{seen}
 use Rattle.recognizer.proofs.Readying.{readied_fault, readied_formed}
 use Rattle.reports.specs.Lists.{held_below}
-use Rattle.reports.proofs.Latest.{row_listable, row_same}
+use Rattle.reports.proofs.Latest.{row_same}
 use Rattle.reports.proofs.Telling.{puts_list, expected_means}
 use Rattle.reports.proofs.expected.Goals as goal
 
@@ -20,9 +20,6 @@ pub returns-in_err-ready-clause-sentences : goal.returns-in_err-ready-clause-sen
 returns-in_err-ready-clause-sentences c =
     let p = err_from_is_err_and c.from_residual.result c.from_residual.ensures.1 in
     rw (p.1, p.2) (expected_means {place = c.args.tokens.now} (Fills.refused (readied_fault _ _ _ _ c.ready.ensures c.in_err-ready.was))).1
-
-pub list_tokens-requires : goal.list_tokens-requires
-list_tokens-requires c = row_listable c.args.state (seen c.args.view.now) (readied_formed _ _ _ _ c.ready.ensures c.in_ok-ready.was)
 
 pub returns-clause-calls : goal.returns-clause-calls
 returns-clause-calls c =

@@ -1,12 +1,11 @@
 -- `reports::latest_words` meets its contract.
 use mathlib.Core.Path.{refl}
-use native.Mathlib.Omega.{arith}
 use Rattle.std.proofs.lemmas.Result.{err_from_is_err_and}
 use Rattle.laws.specs.Fills.{Fills}
 use Rattle.parse.specs.Words.{seen}
 use Rattle.recognizer.proofs.Readying.{readied_fault, readied_for, readied_formed}
 use Rattle.reports.specs.Lists.{five_words}
-use Rattle.reports.proofs.Latest.{in_room, start-there, rules_listable}
+use Rattle.reports.proofs.Latest.{rules_listable}
 use Rattle.reports.proofs.Telling.{puts_items}
 use Rattle.reports.proofs.latest_words.Goals as goal
 
@@ -14,13 +13,6 @@ pub returns-in_err-ready : goal.returns-in_err-ready
 returns-in_err-ready c =
     let p = err_from_is_err_and c.from_residual.result c.from_residual.ensures.1 in
     record { calls = rw (p.1, p.2) (Fills.refused (readied_fault _ _ _ _ c.ready.ensures c.in_err-ready.was)) }
-
-pub offset_bounds-view-state : goal.offset_bounds-view-state
-offset_bounds-view-state c =
-    omega (arith, in_room _ _ c.args.state (seen c.args.view.now) (readied_formed _ _ _ _ c.ready.ensures c.in_ok-ready.was).well_formed)
-
-pub bounds-view-state : goal.bounds-view-state
-bounds-view-state c = start-there _ _ c.args.state (seen c.args.view.now) (readied_formed _ _ _ _ c.ready.ensures c.in_ok-ready.was).well_formed
 
 pub list_words-requires : goal.list_words-requires
 list_words-requires c = rules_listable c.args.state (seen c.args.view.now) (readied_for _ _ _ _ c.ready.ensures c.in_ok-ready.was) refl

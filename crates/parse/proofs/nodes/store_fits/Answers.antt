@@ -2,8 +2,7 @@
 use lib.ListN.{length-replicate}
 use Prim.Native.Nat.{ℕ}
 use Rattle.laws.proofs.Lists.{zeros_word}
-use Rattle.laws.proofs.Decides.{known_no, decides_map}
-use Rattle.parse.specs.inner.Parts.{head_words, StoreFits, HandlesMarked}
+use Rattle.parse.specs.inner.Parts.{head_words}
 use Rattle.parse.proofs.nodes.store_fits.Goals as goal
 
 pub mark_heads-requires : goal.mark_heads-requires

@@ -1,7 +1,7 @@
-use mathlib.Core.Path.{refl, ap}
+use mathlib.Core.Path.{ap}
 use native.Mathlib.Omega.{arith}
 use lib.ListN.{length}
-use Rattle.recognizer.proofs.Turning.{kept_on, going_first, going_on, going_off, going_end}
+use Rattle.recognizer.proofs.Turning.{kept_on, going_on, going_off, going_end}
 use Rattle.recognizer.proofs.within.run_within.Goals as goal
 
 pub returns-in-Err-clause-runs : goal.returns-in-Err-clause-runs

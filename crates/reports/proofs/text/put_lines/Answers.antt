@@ -1,8 +1,5 @@
-use Rattle.reports.proofs.Lines.{putting_start, putting_room, putting_next, putting_ends, listed_at}
+use Rattle.reports.proofs.Lines.{putting_room, putting_next, putting_ends, listed_at}
 use Rattle.reports.proofs.text.put_lines.Goals as goal
-
-pub loop-p-init : goal.loop-p-init
-loop-p-init c = putting_start _ _ _ _ _ _ c.requires.0.stored.runs
 
 pub put_line-at-requires : goal.put_line-at-requires
 put_line-at-requires c =
