@@ -35,7 +35,7 @@ pub struct Said {
 }
 
 // Whether a parse is finished, where `all` tells whether its tokens were all taken.
-fn is_sentence(file: &[u8], state: State, view: &View<'_>, all: bool) -> bool
+fn is_sentence(file: &[u8], state: State, view: &View<'_, '_>, all: bool) -> bool
     ensures { SaysAll file.now state (seen view.now) all result }
 {
     matches!(recognizer::finished(file, state, view), Ok(Some(_))) && all

@@ -32,7 +32,7 @@ const QUEUE: usize = binary_heap::entry::ENTRY_WORDS * parse::room::QUEUED;
 const STORE: usize = parse::room::UNITS;
 
 // Whether a parse is finished. A refused report says no.
-fn is_finished(file: &[u8], state: State, view: &View<'_>) -> bool
+fn is_finished(file: &[u8], state: State, view: &View<'_, '_>) -> bool
     ensures { SaysFinished file.now state (seen view.now) result }
 {
     matches!(recognizer::finished(file, state, view), Ok(Some(_)))

@@ -33,7 +33,7 @@ pub enum Fault {
 }
 
 // The rules, N, the number of symbols, and T, the number of ordinary tokens.
-#[derive(Drop)]
+#[derive(Clone, Copy)]
 pub struct Grammar {
     pub rules: Rules,
     pub symbols: usize,

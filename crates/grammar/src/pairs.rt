@@ -18,6 +18,8 @@ fn same(rules: &Rules, q: usize, r: usize) -> bool
 }
 
 // Whether two rules are equal: every pair is looked at, up to the first that is.
+// Not inlined: its inner loop is all that a check of many rules does, and by itself it is laid out as one (docs/DESIGN-PASS.md, "Loops by themselves").
+#[inline(never)]
 pub fn equal_pair(rules: &Rules) -> bool
     requires { rules.now.count ≤ max_rules }
     ensures { Decides result (EqualPair rules.now.words rules.now.count) }

@@ -15,7 +15,7 @@ pub const NONE: usize = 65535;
 // The words of the rules, and behind them those of their chains. And how many rules there are.
 // No invariant bounds `count`: `left`, `first`, `second`, `last` and parse's `precedes` ask nothing of it, and the type
 // may ask no more than they.
-#[derive(Drop)]
+#[derive(Clone, Copy)]
 pub struct Rules {
     pub words: [u16; WORDS],
     pub count: usize,

@@ -42,7 +42,7 @@ pub fn fill(words: &[u32], n: usize, records: &mut [Record])
 pub fn prepare(
     file: &[u8],
     state: State,
-    view: &View<'_>,
+    view: &View<'_, '_>,
     room: usize,
     words: &mut [u32],
 ) -> Result<usize, Unfilled>

@@ -1,8 +1,5 @@
 -- What it means that units stand at a position.
-use Rattle.std.proofs.Common.{ℕ, zero, suc, ◌+◌, ◌-◌, ◌*◌, ◌<◌, ◌≡◌, refl, sym, ap, ◌∙◌, Bool, true, false, ◌&&◌, List, [], ◌∷◌, add-zero, add_assoc, arith, length, get_or, take, drop, drop_of_length-le, length-drop, drop-cons, take_all, add-one, ltb, eqb, ltb-true, ltb-false, eqb-true, lt-ltb, eq-eqb, ne_eqb}
-use lib.Pointwise.{pointwise}
-use Rattle.node.specs.Choice.{both}
-use borrow.Author.Tests.{eqb-false}
+use Rattle.std.proofs.Common.{ℕ, zero, suc, ◌+◌, ◌*◌, ◌<◌, ◌≤◌, ◌≡◌, refl, sym, ap, ◌∙◌, Bool, true, false, List, [], ◌∷◌, add-zero, add_assoc, arith, length, get_or, ltb, eqb, ltb-true, eqb-true, lt-ltb, eq-eqb}
 use Rattle.node.specs.Reading.{holds, stand_all, stand, value_at}
 use Rattle.node.proofs.Choices.{Both, both_true}
 
@@ -31,41 +28,6 @@ unfolding stand_all
 first-stands s q u us e =
     let h : Both (holds s q u) (stand_all s (q + 1) us) = both_true _ _ e in
     record { first = held s q u h.first; others = h.second }
-
--- Units stand where the store from there on begins with them, as the library says it.
-pub begins : (s : List ℕ) (q : ℕ) (us : List ℕ) → pointwise eqb us (take (length us) (drop q s)) ≡ stand_all s q us
-unfolding stand_all holds
-begins s q [] = refl
-begins s q (u ∷ us) = on (ltb q (length s)) refl (begins s (q + 1) us)
-  where
-    joined : (a b c d : Bool) → a ≡ c → b ≡ d → (a && b) ≡ both c d
-    joined true b true d e f = f
-    joined true b false d e f = cc
-    joined false b true d e f = cc
-    joined false b false d e f = refl
-
-    same : (t : Bool) → eqb u (get_or s q 0) ≡ t → t ≡ eqb (get_or s q 0) u
-    same true e = sym (eq-eqb (get_or s q 0) u (sym (eqb-true u (get_or s q 0) e)))
-    same false e = sym (ne_eqb (get_or s q 0) u (λ h. eqb-false u (get_or s q 0) e (sym h)))
-
-    on : (t : Bool) → ltb q (length s) ≡ t → pointwise eqb us (take (length us) (drop (q + 1) s)) ≡ stand_all s (q + 1) us
-        → pointwise eqb (u ∷ us) (take (suc (length us)) (drop q s))
-        ≡ both (both (ltb q (length s)) (eqb (get_or s q 0) u)) (stand_all s (q + 1) us)
-    on true h rest =
-        rw (drop-cons s q 0 (ltb-true q (length s) h), h)
-        (joined _ _ _ _ (same (eqb u (get_or s q 0)) refl)
-        (ap (λ k. pointwise eqb us (take (length us) (drop k s))) (sym (add-one q)) ∙ rest))
-    on false h rest = rw (drop_of_length-le s (ltb-false q (length s) h), h) refl
-
--- The same of units of which there is one at least, over what is left of the store.
-pub stand_begins :
-    (s : List ℕ) (q : ℕ) (us : List ℕ) (r : Bool) → 0 < length us
-    → r ≡ pointwise eqb us (take (length us) (take (length s - q) (drop q s))) → stand s q us ≡ r
-unfolding stand
-stand_begins s q [] r some is = absurd (omega (arith, some))
-stand_begins s q (u ∷ us) r some is =
-    sym (is ∙ ap (λ l. pointwise eqb (u ∷ us) (take (length (u ∷ us)) l)) (take_all (length s - q) (drop q s) (omega (arith, length-drop q s)))
-    ∙ begins s q (u ∷ us))
 
 -- Units stand where each is where it should be.
 pub all-stand :
@@ -127,3 +89,25 @@ six_stand s q a b c d e f st =
     = λ k h. all_held s q (a ∷ b ∷ c ∷ d ∷ e ∷ f ∷ []) st k (omega (arith, h)) in
     value_held s (q + 4) e f (at 4 (omega arith)).there
     (ap (λ i. get_or s i 0) (add_assoc q 4 1) ∙ (at 5 (omega arith)).there)
+
+-- Units of which there is one at least stand where all of them do.
+stand-some : (s : List ℕ) (q : ℕ) (us : List ℕ) → 0 < length us → stand s q us ≡ stand_all s q us
+unfolding stand
+stand-some s q [] some = absurd (omega (arith, some))
+stand-some s q (u ∷ us) some = refl
+
+-- They stand where each is in its place and there is room for them ..
+pub stand-there :
+    (s : List ℕ) (q : ℕ) (us : List ℕ) → 0 < length us → q + length us ≤ length s
+    → ((k : ℕ) → k < length us → get_or s (q + k) 0 ≡ get_or us k 0) → stand s q us ≡ true
+stand-there s q us some room there =
+    stand-some s q us some ∙ all-stand s q us (λ k h. record { within = omega (arith, room, h); there = there k h })
+
+-- .. and do not where one is not.
+pub stand-not :
+    (s : List ℕ) (q : ℕ) (us : List ℕ) (k : ℕ) → k < length us → (Holds s (q + k) (get_or us k 0) → ⊥) → stand s q us ≡ false
+stand-not s q us k h not = on (stand s q us) refl
+  where
+    on : (t : Bool) → stand s q us ≡ t → t ≡ false
+    on true e = absurd (not (all_held s q us (sym (stand-some s q us (omega (arith, h))) ∙ e) k h))
+    on false e = refl

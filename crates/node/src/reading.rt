@@ -34,6 +34,23 @@ fn head_right(s: &[u16], q: usize, units: &[u16]) -> bool
     s[q] == units[0] && units.len() <= s.len() - q
 }
 
+// Whether units stand at q, one by one up to the first that is another: mostly there are one or two, where `starts_with` looks at their
+// number first.
+fn stands(s: &[u16], q: usize, units: &[u16]) -> bool
+    requires { (q < length s.now) × (0 < length units.now) }
+    ensures { result ≡ R.stand s.now q units.now }
+{
+    if s.len() - q < units.len() {
+        return false;
+    }
+    for (i, unit) in units.iter().enumerate() {
+        if s[q + i] != *unit {
+            return false;
+        }
+    }
+    true
+}
+
 // The node that stands at q: the one whose units, written there, are the units there. Otherwise the unit at which a fault is seen: the
 // head, unless it is right. Then the units are those of a leaf but for the second, which must be zero.
 fn read_here(s: &[u16], q: usize) -> Result<(Node, usize), NoNode>
@@ -47,7 +64,7 @@ fn read_here(s: &[u16], q: usize) -> Result<(Node, usize), NoNode>
         return Err(NoNode(q));
     };
     let units = row.as_slice();
-    if s[q..].starts_with(units) {
+    if stands(s, q, units) {
         return Ok((node, q + units.len()));
     }
     let second = q + 1;

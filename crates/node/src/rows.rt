@@ -212,7 +212,8 @@ fn row_of(p: usize, node: Node) -> Units
     }
 }
 
-// The units of a node at p; none where it is unfit there.
+// The units of a node at p; none where it is unfit there. Inlined: so that they are read where they are made, and not copied from there at once.
+#[inline(always)]
 pub fn units_of(p: usize, node: Node) -> Option<Units>
     ensures { result ≡ pick (U.unfit p node) None (Some (U.row_of p node)) }
 {

@@ -40,10 +40,10 @@ pub struct Words<'a> {
     pub store: &'a mut [u16],
 }
 
-// The same words, to be read alone.
+// The same words, to be read alone. The items have a life of their own, since `latest_set` hands out a part of them alone.
 #[derive(Clone, Copy)]
-pub struct View<'a> {
-    pub items: &'a [u32],
+pub struct View<'i, 'a> {
+    pub items: &'i [u32],
     pub starts: &'a [u32],
     pub rows: &'a [u64],
     pub queue: &'a [u32],
@@ -52,7 +52,7 @@ pub struct View<'a> {
 
 impl Words<'_> {
     // The words as they are now, to be read.
-    pub fn view(&self) -> View<'_>
+    pub fn view(&self) -> View<'_, '_>
         ensures { seen result ≡ words_in self.now }
     {
         View {
@@ -67,7 +67,7 @@ impl Words<'_> {
 
 // Whether a state and words are well formed for rules over `symbols` symbols. The words are those within the capacities;
 // whatever they and the state hold, no word past the capacities is read. The used units are read as nodes last.
-pub fn well_formed(rules: &Rules, symbols: usize, state: State, view: &View<'_>) -> bool
+pub fn well_formed(rules: &Rules, symbols: usize, state: State, view: &View<'_, '_>) -> bool
     requires { (rules.now.count ≤ max_rules)
         × ((length view.now.starts.now ≡ length view.now.rows.now / row_words + 1) × (length view.now.store.now ≤ usable_units)) }
     ensures { Decides result (WellFormed symbols (rules_of rules.now) state (seen view.now)) }

@@ -12,7 +12,7 @@ use bits::WIDTH;
 use item::ITEM_WORDS;
 
 // Whether they are.
-pub fn spare_clear(state: State, view: &View<'_>) -> bool
+pub fn spare_clear(state: State, view: &View<'_, '_>) -> bool
     requires { (item_words * state.items ≤ length view.now.items.now) × (row_words * (state.set + 1) ≤ length view.now.rows.now) }
     ensures { Decides result (SpareClear state (seen view.now)) }
 {

@@ -13,6 +13,8 @@ use grammar::Grammar;
 use grammar::rules::{NONE, Rules};
 
 // Whether some cut of the stretch leaves a first part that holds `b` and a rest that holds `c`.
+// Not inlined: the loop over the cuts is laid out by itself (docs/DESIGN-PASS.md, "Loops by themselves").
+#[inline(never)]
 fn splits(table: &[u64], n: usize, l: usize, i: usize, b: usize, c: usize) -> bool
     requires { Room n table.now × Stretch n l i × (b < word_bits * row_words) × (c < word_bits * row_words) }
     ensures { Decides result (Splits table.now n l i b c) }

@@ -186,7 +186,7 @@ fn run_over<'a, P: Positions<'a> + Drop>(
 }
 
 // Whether the positions so far spell a sentence: then the handle of the start symbol's node.
-pub fn finished(file: &[u8], state: State, view: &View<'_>) -> Result<Option<u32>, Refusal>
+pub fn finished(file: &[u8], state: State, view: &View<'_, '_>) -> Result<Option<u32>, Refusal>
     ensures calls { Finishes file.now state (seen view.now) (number_of result)
         (says_yes result) (says_handle result) }
     ensures sentences { FinishedTells file.now state (seen view.now) (number_of result)
@@ -202,7 +202,7 @@ pub fn finished(file: &[u8], state: State, view: &View<'_>) -> Result<Option<u32
 }
 
 // The part of the item words that holds the latest set.
-pub fn latest_set<'a>(file: &[u8], state: State, view: &View<'a>) -> Result<&'a [u32], Refusal>
+pub fn latest_set<'i>(file: &[u8], state: State, view: &View<'i, '_>) -> Result<&'i [u32], Refusal>
     ensures calls { Reports file.now state (seen view.now) (number_of result) (part_of result) }
 {
     let mut grammar = Grammar::new();

@@ -12,7 +12,7 @@ use parse::{State, View};
 pub fn ready(
     file: &[u8],
     state: State,
-    view: &View<'_>,
+    view: &View<'_, '_>,
     grammar: &mut Grammar,
 ) -> Result<(), Refusal>
     ensures { Readies file.now state (seen view.now) grammar.new result }

@@ -35,7 +35,7 @@ struct Ends {
     store: usize,
 }
 
-fn measure(view: &View<'_>) -> Ends
+fn measure(view: &View<'_, '_>) -> Ends
     ensures { Measures (seen view.now) result }
 {
     let sets = set_room(view.starts, view.rows);
@@ -49,7 +49,7 @@ fn measure(view: &View<'_>) -> Ends
 }
 
 // The words within the capacities, where there is room for a set.
-fn cut<'a>(view: &View<'a>) -> View<'a>
+fn cut<'i, 'a>(view: &View<'i, 'a>) -> View<'i, 'a>
     requires { 0 < set_room (seen view.now) }
     ensures { seen result ≡ within (seen view.now) }
 {
@@ -64,7 +64,7 @@ fn cut<'a>(view: &View<'a>) -> View<'a>
 }
 
 // Whether the state is well formed in the words within the capacities.
-pub fn well_formed(grammar: &Grammar, state: State, view: &View<'_>) -> bool
+pub fn well_formed(grammar: &Grammar, state: State, view: &View<'_, '_>) -> bool
     requires { grammar.now.rules.count ≤ max_rules }
     ensures { Decides result
         (WellFormed grammar.now.symbols (rules_of grammar.now.rules) state (within (seen view.now))) }

@@ -1,4 +1,5 @@
 // Words in hexadecimal in a line of text.
+ghost use Rattle.std.specs.Prelude.{◌<◌};
 
 // The words of a line.
 pub const WORDS: usize = 8;
@@ -9,7 +10,9 @@ pub const LINE: usize = 72;
 const DIGITS: [u8; 16] = *b"0123456789abcdef";
 
 // Of a byte that is no digit, 0: by hand, since the library takes no such byte.
-fn digit(b: u8) -> u32 {
+fn digit(b: u8) -> u32
+    ensures { result < 16 }
+{
     match b {
         b'0'..=b'9' => (b - b'0') as u32,
         b'a'..=b'f' => (b - b'a') as u32 + 10,

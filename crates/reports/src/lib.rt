@@ -51,7 +51,7 @@ pub struct Record {
 pub fn expected(
     file: &[u8],
     state: State,
-    view: &View<'_>,
+    view: &View<'_, '_>,
     tokens: &mut [u16],
 ) -> Result<usize, Unfilled>
     ensures calls { Lists file.now state (seen view.now) expected_tokens
@@ -68,7 +68,7 @@ pub fn expected(
 pub fn listing(
     file: &[u8],
     state: State,
-    view: &View<'_>,
+    view: &View<'_, '_>,
     text: &mut [u8],
 ) -> Result<usize, Unfilled>
     ensures calls { Lists file.now state (seen view.now) latest_text
@@ -85,7 +85,7 @@ pub fn listing(
 pub fn latest_words(
     file: &[u8],
     state: State,
-    view: &View<'_>,
+    view: &View<'_, '_>,
     words: &mut [u32],
 ) -> Result<usize, Unfilled>
     ensures calls { Lists file.now state (seen view.now) latest_words

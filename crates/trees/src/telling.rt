@@ -8,7 +8,7 @@ ghost use Rattle.trees.specs.inner.Tables.{Filled};
 ghost use Rattle.trees.specs.inner.Walks.{Walks};
 
 use crate::table::{Table, UNITS};
-use crate::walking::walk_sum;
+use crate::walking::{Walk, walk_sum};
 use crate::{Untold, Weight};
 
 // A number of words as it is told.
@@ -31,11 +31,12 @@ fn write(
 {
     let room = out.len();
     let limit = room.max(UNITS) + 1;
-    let words = walk_sum(store, table, handle, k, &mut out[..0], 0, limit);
+    let walk = Walk { store, table };
+    let words = walk_sum(&walk, handle, k, &mut out[..0], 0, limit);
     if room < words {
         return Err(Untold::TooShort(needed_words(words)));
     }
-    Ok(walk_sum(store, table, handle, k, out, 0, limit))
+    Ok(walk_sum(&walk, handle, k, out, 0, limit))
 }
 
 // By what the Sum at the handle weighs: its lowest fault; or no such tree, where k is none of so many; or the words.

@@ -23,7 +23,7 @@ fn choice_in(table: &Table, s: usize, action: u32, left: u32, right: Option<u32>
 }
 
 // The Product of the k-th tree of the Sum at s, whose Products, so many, are read from `from` on.
-// No struct of `store` and `table`, here and in telling.rt: `head` and `step` take the one, `Table`'s methods the other.
+// No struct of `store` and `table`, here and in telling.rt: `head` and `step` take the one, `Table`'s methods the other. The walks alone have one.
 fn choose(store: &[u16], table: &Table, s: usize, k: u64, from: usize, count: u32) -> Choice
     requires { W.Choosing store.now table.now s k from count }
     ensures { W.Picks store.now table.now s k result }
@@ -68,30 +68,36 @@ fn put(out: &mut [u32], at: usize, word: u32) -> usize
     at + 1
 }
 
+// What each level of a walk goes by: the store and its table. They stand once, so that a level's stack holds one word for them, not three.
+#[derive(Clone, Copy)]
+pub struct Walk<'a> {
+    pub store: &'a [u16],
+    pub table: &'a Table,
+}
+
 // The k-th tree under h. A Product's last factor is walked by the loop, so that chains of them take no stack.
 // A struct of `out`, `at` and `limit` is no plainer: the words are first counted over another place.
 #[cycle(walk_product_walk_sum)]
 pub fn walk_sum(
-    store: &[u16],
-    table: &Table,
+    walk: &Walk<'_>,
     h: usize,
     k: u64,
     out: &mut [u32],
     at: usize,
     limit: usize,
 ) -> usize
-    requires { W.Walks store.now table.now h k × W.Limited out.old at limit }
-    ensures { W.Walked store.now h k out.old at limit result out.new }
+    requires { W.Walks walk.now.store.now walk.now.table.now h k × W.Limited out.old at limit }
+    ensures { W.Walked walk.now.store.now h k out.old at limit result out.new }
 {
     let mut from = h;
     let mut number = k;
     let mut next = at;
     // Not by a count: a walk goes from a handle to a lower one.
     while next < limit {
-        match chosen(store, table, from, number) {
+        match chosen(walk.store, walk.table, from, number) {
             Choice::Word(symbol) => return put(out, next, symbol),
             Choice::Chosen(action, front, last, rest) => {
-                next = walk_product(store, table, action, front, out, next, limit);
+                next = walk_product(walk, action, front, out, next, limit);
                 from = last;
                 number = rest;
             }
@@ -103,20 +109,19 @@ pub fn walk_sum(
 // A Product's action, and what is in front of its last factor.
 #[cycle(walk_product_walk_sum)]
 fn walk_product(
-    store: &[u16],
-    table: &Table,
+    walk: &Walk<'_>,
     action: u32,
     front: Option<(usize, u64)>,
     out: &mut [u32],
     at: usize,
     limit: usize,
 ) -> usize
-    requires { W.FrontWalks store.now table.now front × ((at < limit) × (length out.old ≤ limit)) }
-    ensures { W.FrontWalked store.now action front out.old at limit result out.new }
+    requires { W.FrontWalks walk.now.store.now walk.now.table.now front × ((at < limit) × (length out.old ≤ limit)) }
+    ensures { W.FrontWalked walk.now.store.now action front out.old at limit result out.new }
 {
     let next = put(out, at, action);
     match front {
         None => next,
-        Some((h, k)) => walk_sum(store, table, h, k, out, next, limit),
+        Some((h, k)) => walk_sum(walk, h, k, out, next, limit),
     }
 }

@@ -11,7 +11,7 @@ abbrev pub decreases-walk_sum : goal.decreases-walk_sum
 decreases-walk_sum l = 2 * l.h + 1
 
 abbrev pub invariant-walk_sum-loop-next : goal.invariant-walk_sum-loop-next
-invariant-walk_sum-loop-next l = Walking l.store l.table l.h l.k l.initial.out l.at l.limit l.out l.from l.number l.next
+invariant-walk_sum-loop-next l = Walking l.walk.store.now l.walk.table.now l.h l.k l.initial.out l.at l.limit l.out l.from l.number l.next
 
 abbrev pub decreases-walk_sum-loop-next : goal.decreases-walk_sum-loop-next
 decreases-walk_sum-loop-next l = l.from
