@@ -68,12 +68,8 @@ rows_pruned e m rows l = rw (kept_rows, lt-ltb 1 (e - m) l) refl
 pub rows_all : (e m : ℕ) (rows : List ℕ) → e - m ≤ 1 → kept_rows e m rows ≡ take (row_words * (e + 1)) rows
 rows_all e m rows l = rw (kept_rows, le-ltb 1 (e - m) l) refl
 
--- The items of a stretch are copied down.
-module _ (w : List ℕ) (from to base : ℕ) (low : base ≤ from) (runs : from ≤ to) (there : item_words * to ≤ length w) where
-  -- How many words they are.
-  abbrev span : ℕ
-  span = item_words * to - item_words * from
-
+-- The items of a stretch are copied down, and they are so many words.
+module _ (w : List ℕ) (from to base : ℕ) (low : base ≤ from) (runs : from ≤ to) (there : item_words * to ≤ length w) {span : ℕ} (whole : span ≡ item_words * (to - from)) where
   abbrev moved : List Item
   moved = items_from w from (to - from)
 

@@ -194,7 +194,9 @@ fn leaf_row(short: u16, wide: u16, symbol: u32) -> Units
     Units::new(&[wide, 0, low(symbol), high(symbol)])
 }
 
-// The units of a node that is fit at p, by the first row that fits.
+// The units of a node that is fit at p, by the first row that fits. Inlined, as `units_of` is: a reader compares the units where they are
+// made. Copied, they would first be stored one by one and then be waited for.
+#[inline(always)]
 #[tactic(auto, unfolding(crate::specs::Rows::row_of))]
 fn row_of(p: usize, node: Node) -> Units
     requires { U.unfit p node ≡ false }
@@ -212,7 +214,7 @@ fn row_of(p: usize, node: Node) -> Units
     }
 }
 
-// The units of a node at p; none where it is unfit there. Inlined: so that they are read where they are made, and not copied from there at once.
+// The units of a node at p; none where it is unfit there.
 #[inline(always)]
 pub fn units_of(p: usize, node: Node) -> Option<Units>
     ensures { result ≡ pick (U.unfit p node) None (Some (U.row_of p node)) }
